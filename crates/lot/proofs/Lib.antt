@@ -1,0 +1,4 @@
+-- The laws of a lot.
+pub mod Extra
+pub mod Fills
+pub mod Inserts
