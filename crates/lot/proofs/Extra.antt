@@ -1,17 +1,18 @@
 -- Laws of lists that name nothing of a lot. Assumes nothing.
 use mathlib.Core.Path.{_≡_, refl, sym, ap, _∙_}
-use mathlib.Core.Bool.{Bool, true, false, cond}
+use mathlib.Core.Bool.{Bool, true, false, _||_, cond}
 use mathlib.Core.List.{List, [], _∷_, _++_}
 use Prim.Native.Nat.{ℕ, zero, suc, _+_, _-_, _<_, _≤_}
 use native.Mathlib.Numerals.{add-one}
 use native.Mathlib.Omega.{arith}
 use lib.ListN.{length, getD, take, drop, take-append-drop}
 use lib.Seq.{length-take-le, take-suc, drop-append-add, drop-drop}
-use Rattle.lists.specs.Ranges.{table}
-use Rattle.lists.specs.Filters.{firstAt}
+use Rattle.lists.specs.Ranges.{upFrom, range, table}
+use Rattle.lists.specs.Filters.{keep, any, firstAt}
+use Rattle.lists.specs.Numbers.{Below}
 use Rattle.lists.specs.Writes.{over}
 use Rattle.lists.proofs.Ranges.{length-table}
-use Rattle.lists.proofs.Writes.{Writing, getD-behind}
+use Rattle.lists.proofs.Writes.{Writing, getD-behind, drop-over}
 
 module _ {A : Type 0} where
   -- what stands in a list, whatever would stand past its end
@@ -36,6 +37,12 @@ module _ {A : Type 0} where
       ∙ drop-drop more (length mid) old
       ∙ ap (λ (k : ℕ). drop k old) (sym e))
 
+  -- a part written over the front, lent and put back as r
+  pub over-back : (mid old r : List A) {l : List A} {m : ℕ} → l ≡ over mid old → length mid ≡ m → length r ≡ m → r ++ drop m l ≡ over r old
+  unfolding over
+  over-back mid old r {l} {m} e long same =
+      ap (λ (t : List A). r ++ t) (ap (drop m) e ∙ drop-over mid old m long ∙ ap (λ (k : ℕ). drop k old) (sym same))
+
   -- the front of a list over the list
   pub over-take : (l : List A) (n : ℕ) → n ≤ length l → over (take n l) l ≡ l
   unfolding over
@@ -46,6 +53,25 @@ module _ {A : Type 0} where
   writing-here f old {l} {i} d w =
       ap (λ (t : List A). getD t i d) (w .held) ∙ getD-behind (table i f) old i d (omega (arith, length-table f i))
 
+  -- a search that ends before the end has found one
+  pub any-found : (p : A → Bool) (l : List A) → firstAt p l < length l → any p l ≡ true
+  unfolding firstAt any
+  any-found p [] h = absurd (omega arith)
+  any-found p (x ∷ l) h = one (p x) h (λ b. any-found p l b)
+    where
+      one : (b : Bool) → cond b 0 (suc (firstAt p l)) < suc (length l) → (firstAt p l < length l → any p l ≡ true) → (b || any p l) ≡ true
+      one true h f = refl
+      one false h f = f (omega arith)
+
+  pub any-missing : (p : A → Bool) (l : List A) → length l ≤ firstAt p l → any p l ≡ false
+  unfolding firstAt any
+  any-missing p [] h = refl
+  any-missing p (x ∷ l) h = one (p x) h (λ b. any-missing p l b)
+    where
+      one : (b : Bool) → suc (length l) ≤ cond b 0 (suc (firstAt p l)) → (length l ≤ firstAt p l → any p l ≡ false) → (b || any p l) ≡ false
+      one true h f = absurd (omega arith)
+      one false h f = f (omega arith)
+
   -- a search ends at the end
   pub first-within : (p : A → Bool) (l : List A) → firstAt p l ≤ length l
   unfolding firstAt
@@ -55,3 +81,26 @@ module _ {A : Type 0} where
       one : (b : Bool) → firstAt p l ≤ length l → cond b 0 (suc (firstAt p l)) ≤ suc (length l)
       one true h = omega arith
       one false h = omega arith
+
+-- ---- numbers below m
+
+below-cons : (m a : ℕ) (l : List ℕ) → a < m → Below m l → Below m (a ∷ l)
+below-cons m a l h b zero k = h
+below-cons m a l h b (suc x) k = b x (omega arith)
+
+below-upFrom : (p : ℕ → Bool) (m lo n : ℕ) → lo + n ≤ m → Below m (keep p (upFrom lo n))
+unfolding upFrom keep
+below-upFrom p m lo zero h = λ x b. absurd (omega arith)
+below-upFrom p m lo (suc n) h = one (p lo) (below-upFrom p m (suc lo) n (omega arith))
+  where
+    rest : List ℕ
+    rest = keep p (upFrom (suc lo) n)
+
+    one : (b : Bool) → Below m rest → Below m (cond b (lo ∷ rest) rest)
+    one true r = below-cons m lo rest (omega arith) r
+    one false r = r
+
+-- what is kept of a range is below its end
+pub keep-below : (p : ℕ → Bool) (m : ℕ) → Below m (keep p (range 0 m))
+unfolding range
+keep-below p m = below-upFrom p m 0 (m - 0) (omega arith)

@@ -40,6 +40,9 @@ module _ (old : List ℕ) where
     pub filled-front : take k new ≡ l
     filled-front = ap (take k) (f .held) ∙ take-over l old k (sym (f .many))
 
+    pub filled-part : k ≡ length (take k new)
+    filled-part = f .many ∙ sym (ap length filled-front)
+
 -- ---- a loop that keeps those of a range that pass a test
 
 module _ (p : ℕ → Bool) (old : List ℕ) {out out′ : List ℕ} {k k′ : ℕ} (i : ℕ) (f : Filled (keep p (range 0 i)) old out k) where

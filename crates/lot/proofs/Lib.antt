@@ -2,3 +2,4 @@
 pub mod Extra
 pub mod Fills
 pub mod Inserts
+pub mod Samples

@@ -3,5 +3,6 @@ pub mod Lot
 pub mod Filled
 pub mod Kept
 pub mod Strata
+pub mod Described
 pub mod Way
 pub mod Lines

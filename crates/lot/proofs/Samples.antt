@@ -1,0 +1,67 @@
+-- Kept samples and their groups: how many there are, and that each has its place. Assumes nothing.
+use mathlib.Core.Path.{_≡_, refl, sym, ap, ap₂, _∙_, subst}
+use mathlib.Core.Bool.{Bool}
+use mathlib.Core.List.{List, _++_, map}
+use Prim.Native.Nat.{ℕ, _+_, _-_, _<_, _≤_}
+use native.Mathlib.Omega.{arith}
+use lib.ListN.{length, getD, take, drop, length-map}
+use Rattle.lists.specs.Ranges.{range}
+use Rattle.lists.specs.Numbers.{position, upward, Below}
+use Rattle.lists.specs.Writes.{over}
+use Rattle.lists.proofs.Ranges.{length-range}
+use Rattle.lists.proofs.Filters.{length-keep, countIf-below}
+use Rattle.lists.proofs.Writes.{take-over}
+use Rattle.lot.specs.Lot.{none}
+use Rattle.lot.specs.Filled.{Filled}
+use Rattle.lot.specs.Kept.{twice, kept, gathered, keptLabels, names, groups}
+use Rattle.lot.proofs.Extra.{keep-below, over-back}
+use Rattle.lot.proofs.Fills.{filled-as}
+use Rattle.lot.proofs.Inserts.{length-upward}
+
+module _ (labels : List ℕ) where
+  -- kept samples are samples
+  pub kept-below : Below (length labels) (kept labels)
+  unfolding kept
+  kept-below = keep-below (λ i. twice labels (getD labels i none)) (length labels)
+
+  pub kept-few : length (kept labels) ≤ length labels
+  unfolding kept
+  kept-few =
+      let p : ℕ → Bool = λ i. twice labels (getD labels i none) in
+      omega (arith, length-keep p (range 0 (length labels)), countIf-below p (range 0 (length labels)), length-range 0 (length labels))
+
+  pub length-keptLabels : length (keptLabels labels) ≡ length (kept labels)
+  unfolding keptLabels gathered
+  length-keptLabels = length-map (kept labels) (λ i. getD labels i none)
+
+  pub length-groups : length (groups labels) ≡ length (kept labels)
+  unfolding groups
+  length-groups = length-map (keptLabels labels) (λ l. position l (names labels)) ∙ length-keptLabels
+
+  pub names-few : length (names labels) ≤ length labels
+  unfolding names
+  names-few = omega (arith, length-upward (keptLabels labels), length-keptLabels, kept-few)
+
+-- ---- labels of kept samples, gathered, give way to their groups
+
+module _ (labels ks gs gs′ : List ℕ) (are : ks ≡ kept labels) (gathers : gs′ ≡ over (gathered labels ks) gs) where
+  front-labels : take (length ks) gs′ ≡ keptLabels labels
+  unfolding keptLabels gathered
+  front-labels =
+      ap (take (length ks)) gathers
+      ∙ take-over (gathered labels ks) gs (length ks) (length-map ks (λ i. getD labels i none))
+      ∙ ap (gathered labels) are
+
+  pub front-few : length (take (length ks) gs′) ≤ length labels
+  front-few = omega (arith, ap length front-labels, length-keptLabels labels, kept-few labels)
+
+  pub named-groups : {ns ns′ : List ℕ} {g : ℕ} → Filled (upward (take (length ks) gs′)) ns ns′ g → Filled (names labels) ns ns′ g
+  unfolding names
+  named-groups f = filled-as _ (ap upward front-labels) f
+
+  pub numbered-groups : {r : List ℕ} → r ≡ map (λ l. position l (upward (take (length ks) gs′))) (take (length ks) gs′) → r ++ drop (length ks) gs′ ≡ over (groups labels) gs
+  unfolding names groups gathered
+  numbered-groups {r} e =
+      let whole : r ≡ groups labels = e ∙ ap (λ (ls : List ℕ). map (λ l. position l (upward ls)) ls) front-labels in
+      let many : length r ≡ length ks = ap length whole ∙ length-groups labels ∙ sym (ap length are) in
+      over-back (gathered labels ks) gs r gathers (length-map ks (λ i. getD labels i none)) many ∙ ap (λ (t : List ℕ). over t gs) whole
