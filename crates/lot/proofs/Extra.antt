@@ -5,6 +5,8 @@ use mathlib.Core.List.{List, [], _∷_, _++_}
 use Prim.Native.Nat.{ℕ, zero, suc, _+_, _-_, _<_, _≤_}
 use native.Mathlib.Numerals.{add-one}
 use native.Mathlib.Omega.{arith}
+use borrow.Author.Tests.{ltb-true, ltb-false}
+use lib.Dec.{ltb}
 use lib.ListN.{length, getD, take, drop, take-append-drop}
 use lib.Seq.{length-take-le, take-suc, drop-append-add, drop-drop}
 use Rattle.lists.specs.Ranges.{upFrom, range, table}
@@ -37,11 +39,14 @@ module _ {A : Type 0} where
       ∙ drop-drop more (length mid) old
       ∙ ap (λ (k : ℕ). drop k old) (sym e))
 
-  -- a part written over the front, lent and put back as r
-  pub over-back : (mid old r : List A) {l : List A} {m : ℕ} → l ≡ over mid old → length mid ≡ m → length r ≡ m → r ++ drop m l ≡ over r old
+  -- a part of the front, put back as r
+  pub over-part : (r l : List A) {m : ℕ} → length r ≡ m → r ++ drop m l ≡ over r l
   unfolding over
-  over-back mid old r {l} {m} e long same =
-      ap (λ (t : List A). r ++ t) (ap (drop m) e ∙ drop-over mid old m long ∙ ap (λ (k : ℕ). drop k old) (sym same))
+  over-part r l {m} same = ap (λ (k : ℕ). r ++ drop k l) (sym same)
+
+  -- the same of a part written before
+  pub over-back : (mid old r : List A) {l : List A} {m : ℕ} → l ≡ over mid old → length mid ≡ m → length r ≡ m → r ++ drop m l ≡ over r old
+  over-back mid old r {l} {m} e long same = ap (λ (t : List A). r ++ t) (ap (drop m) e ∙ drop-over mid old m long) ∙ over-part r old same
 
   -- the front of a list over the list
   pub over-take : (l : List A) (n : ℕ) → n ≤ length l → over (take n l) l ≡ l
@@ -71,6 +76,13 @@ module _ {A : Type 0} where
       one : (b : Bool) → suc (length l) ≤ cond b 0 (suc (firstAt p l)) → (length l ≤ firstAt p l → any p l ≡ false) → (b || any p l) ≡ false
       one true h f = absurd (omega arith)
       one false h f = f (omega arith)
+
+  pub any-first : (p : A → Bool) (l : List A) → any p l ≡ ltb (firstAt p l) (length l)
+  any-first p l = one (ltb (firstAt p l) (length l)) refl
+    where
+      one : (b : Bool) → ltb (firstAt p l) (length l) ≡ b → any p l ≡ b
+      one true e = any-found p l (ltb-true (firstAt p l) (length l) e)
+      one false e = any-missing p l (ltb-false (firstAt p l) (length l) e)
 
   -- a search ends at the end
   pub first-within : (p : A → Bool) (l : List A) → firstAt p l ≤ length l

@@ -5,13 +5,18 @@ use mathlib.Core.List.{List, [], _∷_, _++_}
 use Prim.Native.Nat.{ℕ, _+_, _<_, _≤_}
 use native.Mathlib.Omega.{arith}
 use lib.ListN.{length, take, drop, set, length-append, length-set}
+use lib.Seq.{length-take-le}
 use Rattle.lists.specs.Ranges.{range, table}
 use Rattle.lists.specs.Filters.{keep}
 use Rattle.lists.specs.Writes.{over}
 use Rattle.lists.proofs.Filters.{kept-last-yes, kept-last-no}
 use Rattle.lists.proofs.Writes.{over-none, over-next, length-over, take-over, table-none, table-next}
 use Rattle.lot.specs.Filled.{Filled}
-use Rattle.lot.proofs.Extra.{over-over}
+use Rattle.lot.proofs.Extra.{over-over, over-take}
+
+-- a list's own front
+pub filled-take : (l : List ℕ) (k : ℕ) → k ≤ length l → Filled (take k l) l l k
+filled-take l k h = record { held = sym (over-take l k h); many = sym (length-take-le k l h) }
 
 module _ (old : List ℕ) where
   pub filled-none : Filled [] old old 0

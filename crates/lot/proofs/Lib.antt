@@ -3,3 +3,6 @@ pub mod Extra
 pub mod Fills
 pub mod Inserts
 pub mod Samples
+pub mod Numbering
+pub mod Membership
+pub mod Informing

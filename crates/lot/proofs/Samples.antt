@@ -18,6 +18,18 @@ use Rattle.lot.proofs.Extra.{keep-below, over-back}
 use Rattle.lot.proofs.Fills.{filled-as}
 use Rattle.lot.proofs.Inserts.{length-upward}
 
+-- ---- what is gathered stands at the front
+
+pub front-gathered : (values ks out : List ℕ) {out′ : List ℕ} → out′ ≡ over (gathered values ks) out → take (length ks) out′ ≡ gathered values ks
+unfolding gathered
+front-gathered values ks out gathers = ap (take (length ks)) gathers ∙ take-over (gathered values ks) out (length ks) (length-map ks (λ i. getD values i none))
+
+pub length-gathered : (values ks : List ℕ) → length (gathered values ks) ≡ length ks
+unfolding gathered
+length-gathered values ks = length-map ks (λ i. getD values i none)
+
+-- ---- kept samples
+
 module _ (labels : List ℕ) where
   -- kept samples are samples
   pub kept-below : Below (length labels) (kept labels)
@@ -31,8 +43,8 @@ module _ (labels : List ℕ) where
       omega (arith, length-keep p (range 0 (length labels)), countIf-below p (range 0 (length labels)), length-range 0 (length labels))
 
   pub length-keptLabels : length (keptLabels labels) ≡ length (kept labels)
-  unfolding keptLabels gathered
-  length-keptLabels = length-map (kept labels) (λ i. getD labels i none)
+  unfolding keptLabels
+  length-keptLabels = length-gathered labels (kept labels)
 
   pub length-groups : length (groups labels) ≡ length (kept labels)
   unfolding groups
@@ -46,11 +58,8 @@ module _ (labels : List ℕ) where
 
 module _ (labels ks gs gs′ : List ℕ) (are : ks ≡ kept labels) (gathers : gs′ ≡ over (gathered labels ks) gs) where
   front-labels : take (length ks) gs′ ≡ keptLabels labels
-  unfolding keptLabels gathered
-  front-labels =
-      ap (take (length ks)) gathers
-      ∙ take-over (gathered labels ks) gs (length ks) (length-map ks (λ i. getD labels i none))
-      ∙ ap (gathered labels) are
+  unfolding keptLabels
+  front-labels = front-gathered labels ks gs gathers ∙ ap (gathered labels) are
 
   pub front-few : length (take (length ks) gs′) ≤ length labels
   front-few = omega (arith, ap length front-labels, length-keptLabels labels, kept-few labels)
@@ -60,8 +69,8 @@ module _ (labels ks gs gs′ : List ℕ) (are : ks ≡ kept labels) (gathers : g
   named-groups f = filled-as _ (ap upward front-labels) f
 
   pub numbered-groups : {r : List ℕ} → r ≡ map (λ l. position l (upward (take (length ks) gs′))) (take (length ks) gs′) → r ++ drop (length ks) gs′ ≡ over (groups labels) gs
-  unfolding names groups gathered
+  unfolding names groups
   numbered-groups {r} e =
       let whole : r ≡ groups labels = e ∙ ap (λ (ls : List ℕ). map (λ l. position l (upward ls)) ls) front-labels in
       let many : length r ≡ length ks = ap length whole ∙ length-groups labels ∙ sym (ap length are) in
-      over-back (gathered labels ks) gs r gathers (length-map ks (λ i. getD labels i none)) many ∙ ap (λ (t : List ℕ). over t gs) whole
+      over-back (gathered labels ks) gs r gathers (length-gathered labels ks) many ∙ ap (λ (t : List ℕ). over t gs) whole

@@ -1,0 +1,97 @@
+-- What is a member of a list: of a range, of those kept, and what a member does to a count or a test of the whole. Names nothing of a lot. Assumes nothing.
+use mathlib.Core.Path.{_≡_, refl, sym, ap, ap₂, _∙_}
+use mathlib.Core.Bool.{Bool, true, false, _||_, cond, true≢false}
+use mathlib.Core.Logic.{_⊎_, inl, inr, ⊎-elim}
+use mathlib.Core.List.{List, [], _∷_, map, List·Memᴰ as Member, List·Memᴰ·head as here, List·Memᴰ·tail as there, List·Memᴰ·cases-cons as cases-cons, List·Memᴰ·not-nil as not-nil}
+use Prim.Native.Nat.{ℕ, zero, suc, _+_, _-_, _<_, _≤_}
+use native.Mathlib.Nat.{sub-zero}
+use native.Mathlib.Omega.{arith}
+use native.Mathlib.Decide.{ℕ-discrete}
+use lib.ListN.{length, getD}
+use Rattle.lists.specs.Ranges.{upFrom, range}
+use Rattle.lists.specs.Filters.{keep, countIf, any}
+use Rattle.lists.specs.Numbers.{Below}
+
+-- ---- ranges
+
+pub member-upFrom : (lo n i : ℕ) → Member i (upFrom lo n) → (lo ≤ i) × (i < lo + n)
+unfolding upFrom
+member-upFrom lo zero i m = absurd (not-nil m)
+member-upFrom lo (suc n) i m = ⊎-elim (λ e. (omega arith, omega arith)) (λ t. let r = member-upFrom (suc lo) n i t in (omega (arith, r .0), omega (arith, r .1))) (cases-cons m)
+
+pub upFrom-member : (lo n i : ℕ) → lo ≤ i → i < lo + n → Member i (upFrom lo n)
+unfolding upFrom
+upFrom-member lo zero i h g = absurd (omega arith)
+upFrom-member lo (suc n) i h g = elim (ℕ-discrete i lo) [ yes e ↦ here e | no d ↦ there (upFrom-member (suc lo) n i (omega arith) (omega arith)) ]
+
+pub member-range : (n i : ℕ) → Member i (range 0 n) → i < n
+unfolding range
+member-range n i m = omega (arith, member-upFrom 0 (n - 0) i m .1)
+
+pub range-member : (n i : ℕ) → i < n → Member i (range 0 n)
+unfolding range
+range-member n i h = upFrom-member 0 (n - 0) i (omega arith) (omega arith)
+
+-- ---- entries
+
+pub member-getD : {A : Type 0} (xs : List A) (i : ℕ) (d : A) → i < length xs → Member (getD xs i d) xs
+member-getD [] i d h = absurd (omega arith)
+member-getD (x ∷ xs) zero d h = here refl
+member-getD (x ∷ xs) (suc i) d h = there (member-getD xs i d (omega arith))
+
+-- ---- tests
+
+module _ {A : Type 0} (p : A → Bool) where
+  keep-in : (b : Bool) (x y : A) (rest : List A) → (x ≡ y → b ≡ true) → (x ≡ y) ⊎ Member x rest → Member x (cond b (y ∷ rest) rest)
+  keep-in true x y rest h c = ⊎-elim (λ s. here s) (λ t. there t) c
+  keep-in false x y rest h c = ⊎-elim (λ s. absurd (true≢false (sym (h s)))) (λ t. t) c
+
+  keep-out : (b : Bool) (x y : A) (rest : List A) → Member x (cond b (y ∷ rest) rest) → ((x ≡ y) × (b ≡ true)) ⊎ Member x rest
+  keep-out true x y rest m = ⊎-elim (λ s. inl (s, refl)) (λ t. inr t) (cases-cons m)
+  keep-out false x y rest m = inr m
+
+  -- what is kept are the members that pass
+  pub member-keep : (xs : List A) (x : A) → Member x xs → p x ≡ true → Member x (keep p xs)
+  unfolding keep
+  member-keep [] x m e = absurd (not-nil m)
+  member-keep (y ∷ ys) x m e = keep-in (p y) x y (keep p ys) (λ s. ap p (sym s) ∙ e) (⊎-elim (λ s. inl s) (λ t. inr (member-keep ys x t e)) (cases-cons m))
+
+  pub keep-member : (xs : List A) (x : A) → Member x (keep p xs) → (p x ≡ true) × Member x xs
+  unfolding keep
+  keep-member [] x m = absurd (not-nil m)
+  keep-member (y ∷ ys) x m = ⊎-elim
+      (λ s. (ap p (s .0) ∙ s .1, here (s .0)))
+      (λ t. let r = keep-member ys x t in (r .0, there (r .1)))
+      (keep-out (p y) x y (keep p ys) m)
+
+  -- one passes: a member that passes, and the other way round
+  any-in : (a b : Bool) → (a ≡ true) ⊎ (b ≡ true) → (a || b) ≡ true
+  any-in true b c = refl
+  any-in false b c = ⊎-elim (λ e. absurd (true≢false (sym e))) (λ e. e) c
+
+  any-out : (a b : Bool) → (a || b) ≡ true → (a ≡ true) ⊎ (b ≡ true)
+  any-out true b e = inl refl
+  any-out false b e = inr e
+
+  pub member-any : (xs : List A) (x : A) → Member x xs → p x ≡ true → any p xs ≡ true
+  unfolding any
+  member-any [] x m e = absurd (not-nil m)
+  member-any (y ∷ ys) x m e = any-in (p y) (any p ys) (⊎-elim (λ s. inl (ap p (sym s) ∙ e)) (λ t. inr (member-any ys x t e)) (cases-cons m))
+
+  pub any-member : (xs : List A) → any p xs ≡ true → (x : A) × Member x xs × (p x ≡ true)
+  unfolding any
+  any-member [] e = absurd (true≢false (sym e))
+  any-member (y ∷ ys) e = ⊎-elim (λ s. (y, here refl, s)) (λ t. let r = any-member ys t in (r .0, there (r .1), r .2)) (any-out (p y) (any p ys) e)
+
+  -- none passes
+  pub none-any : (xs : List A) → ((x : A) → Member x xs → p x ≡ false) → any p xs ≡ false
+  unfolding any
+  none-any [] h = refl
+  none-any (y ∷ ys) h = ap₂ (λ (a b : Bool). a || b) (h y (here refl)) (none-any ys (λ x m. h x (there m)))
+
+  pub any-none : (xs : List A) → any p xs ≡ false → (x : A) → Member x xs → p x ≡ false
+  any-none xs e x m = one (p x) refl
+    where
+      one : (b : Bool) → p x ≡ b → p x ≡ false
+      one true h = absurd (true≢false (sym (member-any xs x m h) ∙ e))
+      one false h = h
