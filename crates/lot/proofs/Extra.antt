@@ -84,6 +84,17 @@ module _ {A : Type 0} where
       one true e = any-found p l (ltb-true (firstAt p l) (length l) e)
       one false e = any-missing p l (ltb-false (firstAt p l) (length l) e)
 
+  -- what a search finds passes
+  pub found-passes : (p : A → Bool) (l : List A) (d : A) → firstAt p l < length l → p (getD l (firstAt p l) d) ≡ true
+  unfolding firstAt
+  found-passes p [] d h = absurd (omega arith)
+  found-passes p (x ∷ l) d h = one (p x) refl h (λ b. found-passes p l d b)
+    where
+      one : (b : Bool) → p x ≡ b → cond b 0 (suc (firstAt p l)) < suc (length l) → (firstAt p l < length l → p (getD l (firstAt p l) d) ≡ true)
+          → p (getD (x ∷ l) (cond b 0 (suc (firstAt p l))) d) ≡ true
+      one true e h f = e
+      one false e h f = f (omega arith)
+
   -- a search ends at the end
   pub first-within : (p : A → Bool) (l : List A) → firstAt p l ≤ length l
   unfolding firstAt

@@ -10,7 +10,7 @@ use Rattle.lists.specs.Ranges.{range}
 use Rattle.lists.specs.Filters.{any}
 use Rattle.lists.specs.Numbers.{inGroup, members}
 use Rattle.lot.specs.Strata.{informs}
-use Rattle.lot.proofs.Membership.{member-range, range-member, member-keep, keep-member, member-any, any-member, none-any, any-none}
+use Rattle.lot.proofs.Membership.{member-range, range-member, member-keep, keep-member, member-any, any-member, none-any, any-fails}
 
 -- the sample b is of stratum s and not in group g
 abbrev pub other : List ℕ → List ℕ → ℕ → ℕ → ℕ → Bool
@@ -51,7 +51,7 @@ module _ (ss gs : List ℕ) (m k : ℕ) (h : k < m) where
   same-group : any (other ss gs s g) (range 0 m) ≡ false → (b : ℕ) → Member b (members ss m s) → getD gs b 0 ≡ g
   same-group e b l =
       let r = of-stratum b l in
-      let t = any-none (other ss gs s g) (range 0 m) e b (range-member m b (r .0)) in
+      let t = any-fails (other ss gs s g) (range 0 m) e b (range-member m b (r .0)) in
       eqb-true (getD gs b 0) g (not-false _ (ap (λ (a : Bool). a && not (eqb (getD gs b 0) g)) (sym (r .1)) ∙ t))
 
   no-other : any (other ss gs s g) (range 0 m) ≡ false → informs ss gs m s ≡ false

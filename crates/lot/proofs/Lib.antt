@@ -6,3 +6,7 @@ pub mod Samples
 pub mod Numbering
 pub mod Membership
 pub mod Informing
+pub mod Upward
+pub mod Places
+pub mod Few
+pub mod Checks

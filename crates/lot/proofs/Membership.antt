@@ -89,8 +89,8 @@ module _ {A : Type 0} (p : A → Bool) where
   none-any [] h = refl
   none-any (y ∷ ys) h = ap₂ (λ (a b : Bool). a || b) (h y (here refl)) (none-any ys (λ x m. h x (there m)))
 
-  pub any-none : (xs : List A) → any p xs ≡ false → (x : A) → Member x xs → p x ≡ false
-  any-none xs e x m = one (p x) refl
+  pub any-fails : (xs : List A) → any p xs ≡ false → (x : A) → Member x xs → p x ≡ false
+  any-fails xs e x m = one (p x) refl
     where
       one : (b : Bool) → p x ≡ b → p x ≡ false
       one true h = absurd (true≢false (sym (member-any xs x m h) ∙ e))
