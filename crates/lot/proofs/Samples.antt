@@ -1,12 +1,12 @@
 -- Kept samples and their groups: how many there are, and that each has its place. Assumes nothing.
 use mathlib.Core.Path.{_≡_, refl, sym, ap, ap₂, _∙_, subst}
-use mathlib.Core.Bool.{Bool}
+use mathlib.Core.Bool.{Bool, true, cond}
 use mathlib.Core.List.{List, _++_, map}
 use Prim.Native.Nat.{ℕ, _+_, _-_, _<_, _≤_}
 use native.Mathlib.Omega.{arith}
 use lib.ListN.{length, getD, take, drop, length-map}
 use Rattle.lists.specs.Ranges.{range}
-use Rattle.lists.specs.Numbers.{position, upward, Below}
+use Rattle.lists.specs.Numbers.{howMany, position, upward, Below}
 use Rattle.lists.specs.Writes.{over}
 use Rattle.lists.proofs.Ranges.{length-range}
 use Rattle.lists.proofs.Filters.{length-keep, countIf-below}
@@ -14,8 +14,11 @@ use Rattle.lists.proofs.Writes.{take-over}
 use Rattle.lot.specs.Lot.{none}
 use Rattle.lot.specs.Filled.{Filled}
 use Rattle.lot.specs.Kept.{twice, kept, gathered, keptLabels, names, groups}
+use Rattle.lot.specs.Strata.{named, numbered, heldStrata, strata, strataCount}
+use Rattle.lot.specs.declared.groups.Sizes.{Sizes}
+use Rattle.lot.specs.Described.{samplesOf, Grouped, Stratified, Described}
 use Rattle.lot.proofs.Extra.{keep-below, over-back}
-use Rattle.lot.proofs.Fills.{filled-as}
+use Rattle.lot.proofs.Fills.{filled-as, filled-front, filled-long}
 use Rattle.lot.proofs.Inserts.{length-upward}
 
 -- ---- what is gathered stands at the front
@@ -74,3 +77,30 @@ module _ (labels ks gs gs′ : List ℕ) (are : ks ≡ kept labels) (gathers : g
       let whole : r ≡ groups labels = e ∙ ap (λ (ls : List ℕ). map (λ l. position l (upward ls)) ls) front-labels in
       let many : length r ≡ length ks = ap length whole ∙ length-groups labels ∙ sym (ap length are) in
       over-back (gathered labels ks) gs r gathers (length-gathered labels ks) many ∙ ap (λ (t : List ℕ). over t gs) whole
+
+-- ---- the whole description: groups, then strata of the kept samples
+
+module _ (labels given : List ℕ) (stratified : Bool) {sizes : Sizes} {ks ns gs ks′ ns′ gs′ : List ℕ} (g : Grouped labels sizes ks ns gs ks′ ns′ gs′) where
+  -- the kept samples are a part of the slice that holds them, and places of the strata where these are given
+  pub front-kept : take (sizes .kept) ks′ ≡ kept labels
+  front-kept = filled-front ks (g .samples)
+
+  pub front-within : length labels ≤ length ks → sizes .kept ≤ length ks′
+  front-within room =
+      let few : sizes .kept ≤ length ks = omega (arith, g .samples .many, kept-few labels) in
+      omega (arith, filled-long ks (g .samples) few)
+
+  pub front-below : (stratified ≡ true → length given ≡ length labels) → stratified ≡ true → Below (length given) (take (sizes .kept) ks′)
+  front-below fit is =
+      subst (Below (length given)) (sym front-kept) (subst (λ (n : ℕ). Below n (kept labels)) (sym (fit is)) (kept-below labels))
+
+  pub described : {ss ss′ : List ℕ} {s : ℕ} → Stratified stratified given (take (sizes .kept) ks′) ss ss′ s
+      → Described (samplesOf labels stratified given) (record { kept = sizes .kept; groups = sizes .groups; strata = s }) ks ns gs ss ks′ ns′ gs′ ss′
+  unfolding strata strataCount heldStrata
+  described {ss} {ss′} {s} t = record {
+    samples = g .samples;
+    labelled = g .labelled;
+    grouped = g .grouped;
+    stratified = t .numbers ∙ ap (λ (l : List ℕ). over (cond stratified (numbered (gathered given l)) (map (λ i. 0) l)) ss) front-kept;
+    strataMany = t .count ∙ ap (λ (l : List ℕ). cond stratified (length (named (gathered given l)) + howMany none (gathered given l)) 1) front-kept;
+  }

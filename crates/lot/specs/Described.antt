@@ -1,7 +1,7 @@
 -- What the functions that describe a lot leave in lent slices. Statements only.
 use mathlib.Core.Path.{_≡_}
-use Prim.Native.Nat.{ℕ, _+_}
-use mathlib.Core.Bool.{Bool, false, cond}
+use Prim.Native.Nat.{ℕ, _+_, _≤_}
+use mathlib.Core.Bool.{Bool, true, false, cond}
 use mathlib.Core.List.{List, [], map}
 use lib.ListN.{length}
 use Rattle.lists.specs.Numbers.{howMany}
@@ -28,7 +28,16 @@ pub record Stratified (stratified : Bool) (given ks ss ss′ : List ℕ) (r : �
   pub numbers : ss′ ≡ over (cond stratified (numbered (gathered given ks)) (map (λ i. 0) ks)) ss
   pub count : r ≡ cond stratified (length (named (gathered given ks)) + howMany none (gathered given ks)) 1
 
--- what is left of a lot in four slices
+-- at most 256 samples, a stratum for each where strata are given, and four slices with room for n numbers
+pub record Room (lot : Lot) (ks ns gs ss : List ℕ) : Type 0 where
+  pub few : length (lot .labels) ≤ 256
+  pub strataFit : lot .stratified ≡ true → length (lot .strata) ≡ length (lot .labels)
+  pub samplesFit : length (lot .labels) ≤ length ks
+  pub namesFit : length (lot .labels) ≤ length ns
+  pub groupsFit : length (lot .labels) ≤ length gs
+  pub numbersFit : length (lot .labels) ≤ length ss
+
+-- four slices held ks, ns, gs, ss and hold ks′, ns′, gs′, ss′: kept samples, groups' labels, each kept sample's group and stratum
 pub record Described (lot : Lot) (shape : Shape) (ks ns gs ss ks′ ns′ gs′ ss′ : List ℕ) : Type 0 where
   pub samples : Filled (kept (lot .labels)) ks ks′ (shape .kept)
   pub labelled : Filled (names (lot .labels)) ns ns′ (shape .groups)
