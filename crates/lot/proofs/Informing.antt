@@ -3,13 +3,16 @@ use mathlib.Core.Path.{_≡_, refl, sym, ap, _∙_}
 use mathlib.Core.Bool.{Bool, true, false, not, _&&_, true≢false}
 use mathlib.Core.List.{List, List·Memᴰ as Member}
 use Prim.Native.Nat.{ℕ, _<_}
+use native.Mathlib.Omega.{arith}
 use borrow.Author.Tests.{eqb-true, eqb-false, eq-eqb, ne-eqb, not-true, not-false}
 use lib.Dec.{eqb}
-use lib.ListN.{getD}
+use lib.ListN.{length, getD}
 use Rattle.lists.specs.Ranges.{range}
 use Rattle.lists.specs.Filters.{any}
 use Rattle.lists.specs.Numbers.{inGroup, members}
 use Rattle.lot.specs.Strata.{informs}
+use Rattle.lot.specs.Way.{tally}
+use Rattle.lot.proofs.Tallies.{Counted, tally-own, tally-some}
 use Rattle.lot.proofs.Membership.{member-range, range-member, member-keep, keep-member, member-any, any-member, none-any, any-fails}
 
 -- the sample b is of stratum s and not in group g
@@ -66,3 +69,68 @@ module _ (ss gs : List ℕ) (m k : ℕ) (h : k < m) where
       one : (b : Bool) → any (other ss gs s g) (range 0 m) ≡ b → b ≡ informs ss gs m s
       one true e = sym (some-other e)
       one false e = sym (no-other e)
+
+-- ---- whether a stratum informs is decided by its counts
+
+-- two samples of the stratum s in different groups
+record Differing (ss gs : List ℕ) (m s : ℕ) : Type 0 where
+  a : ℕ
+  b : ℕ
+  a-there : a < m
+  b-there : b < m
+  a-in : getD ss a 0 ≡ s
+  b-in : getD ss b 0 ≡ s
+  apart : getD gs a 0 ≡ getD gs b 0 → ⊥
+
+differing-informs : (ss gs : List ℕ) (m s : ℕ) → Differing ss gs m s → informs ss gs m s ≡ true
+unfolding informs members
+differing-informs ss gs m s d =
+    member-any _ (members ss m s) (d .a) (member-keep (inGroup ss s) (range 0 m) (d .a) (range-member m (d .a) (d .a-there)) (eq-eqb _ _ (d .a-in)))
+    (member-any (λ b. not (eqb (getD gs (d .a) 0) (getD gs b 0))) (members ss m s) (d .b)
+    (member-keep (inGroup ss s) (range 0 m) (d .b) (range-member m (d .b) (d .b-there)) (eq-eqb _ _ (d .b-in))) (ap not (ne-eqb _ _ (d .apart))))
+
+informs-differing : (ss gs : List ℕ) (m s : ℕ) → informs ss gs m s ≡ true → Differing ss gs m s
+unfolding informs members
+informs-differing ss gs m s e =
+    let v = any-member _ (members ss m s) e in
+    let w = any-member (λ b. not (eqb (getD gs (v .0) 0) (getD gs b 0))) (members ss m s) (v .2) in
+    let p = keep-member (inGroup ss s) (range 0 m) (v .0) (v .1) in
+    let q = keep-member (inGroup ss s) (range 0 m) (w .0) (w .1) in
+    record {
+      a = v .0;
+      b = w .0;
+      a-there = member-range m (v .0) (p .1);
+      b-there = member-range m (w .0) (q .1);
+      a-in = eqb-true _ _ (p .0);
+      b-in = eqb-true _ _ (q .0);
+      apart = eqb-false _ _ (not-true _ (w .2));
+    }
+
+-- two samples that differ, of labels with the same counts
+differing-same : (ss gs hs : List ℕ) (m s : ℕ) → length ss ≡ m → length gs ≡ m → length hs ≡ m → ((s j : ℕ) → tally ss gs s j ≡ tally ss hs s j)
+    → Differing ss gs m s → Differing ss hs m s
+differing-same ss gs hs m s fits fit-g fit-h same d =
+    let other : (i : ℕ) → i < m → getD ss i 0 ≡ s → (k : ℕ) × Counted ss hs s (getD gs i 0) k =
+    λ i h e. tally-some ss hs s (getD gs i 0) (omega (arith, tally-own ss gs i (omega arith) (omega arith), same (getD ss i 0) (getD gs i 0), ap (λ (t : ℕ). tally ss hs t (getD gs i 0)) e)) in
+    let x = other (d .a) (d .a-there) (d .a-in) in
+    let y = other (d .b) (d .b-there) (d .b-in) in
+    record {
+      a = x .0;
+      b = y .0;
+      a-there = omega (arith, x .1 .inStrata);
+      b-there = omega (arith, y .1 .inStrata);
+      a-in = x .1 .stratum;
+      b-in = y .1 .stratum;
+      apart = λ e. d .apart (sym (x .1 .label) ∙ e ∙ y .1 .label);
+    }
+
+both-ways : (a b : Bool) → (a ≡ true → b ≡ true) → (b ≡ true → a ≡ true) → a ≡ b
+both-ways true b f g = sym (f refl)
+both-ways false true f g = g refl
+both-ways false false f g = refl
+
+pub informs-same : (ss gs hs : List ℕ) (m : ℕ) → length ss ≡ m → length gs ≡ m → length hs ≡ m → ((s j : ℕ) → tally ss hs s j ≡ tally ss gs s j)
+    → (s : ℕ) → informs ss hs m s ≡ informs ss gs m s
+informs-same ss gs hs m fits fit-g fit-h same s = both-ways (informs ss hs m s) (informs ss gs m s)
+    (λ e. differing-informs ss gs m s (differing-same ss hs gs m s fits fit-h fit-g same (informs-differing ss hs m s e)))
+    (λ e. differing-informs ss hs m s (differing-same ss gs hs m s fits fit-g fit-h (λ s j. sym (same s j)) (informs-differing ss gs m s e)))

@@ -10,3 +10,7 @@ pub mod Upward
 pub mod Places
 pub mod Few
 pub mod Checks
+pub mod Tallies
+pub mod Within
+pub mod OnKept
+pub mod Relabelled

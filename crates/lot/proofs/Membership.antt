@@ -2,15 +2,17 @@
 use mathlib.Core.Path.{_≡_, refl, sym, ap, ap₂, _∙_}
 use mathlib.Core.Bool.{Bool, true, false, _||_, cond, true≢false}
 use mathlib.Core.Logic.{_⊎_, inl, inr, ⊎-elim}
-use mathlib.Core.List.{List, [], _∷_, map, List·Memᴰ as Member, List·Memᴰ·head as here, List·Memᴰ·tail as there, List·Memᴰ·cases-cons as cases-cons, List·Memᴰ·not-nil as not-nil}
-use Prim.Native.Nat.{ℕ, zero, suc, _+_, _-_, _<_, _≤_}
+use mathlib.Core.List.{List, [], _∷_, _++_, map, foldl, List·Memᴰ as Member, List·Memᴰ·head as here, List·Memᴰ·tail as there, List·Memᴰ·cases-cons as cases-cons, List·Memᴰ·not-nil as not-nil, Memᴰ·append-left, Memᴰ·append-right, Memᴰ·cast}
+use Prim.Native.Nat.{ℕ, zero, suc, _+_, _-_, _<_, _≤_, suc-le-suc}
 use native.Mathlib.Nat.{sub-zero}
 use native.Mathlib.Omega.{arith}
 use native.Mathlib.Decide.{ℕ-discrete}
+use borrow.Author.Tests.{eq-eqb, eqb-true}
+use lib.Dec.{eqb}
 use lib.ListN.{length, getD}
 use Rattle.lists.specs.Ranges.{upFrom, range}
 use Rattle.lists.specs.Filters.{keep, countIf, any}
-use Rattle.lists.specs.Numbers.{Below}
+use Rattle.lists.specs.Numbers.{howMany, stands, firsts, Below}
 
 -- ---- ranges
 
@@ -95,3 +97,88 @@ module _ {A : Type 0} (p : A → Bool) where
       one : (b : Bool) → p x ≡ b → p x ≡ false
       one true h = absurd (true≢false (sym (member-any xs x m h) ∙ e))
       one false h = h
+
+-- ---- equal tests
+
+module _ {A : Type 0} (p q : A → Bool) where
+  pub keep-cong : (xs : List A) → ((x : A) → Member x xs → p x ≡ q x) → keep p xs ≡ keep q xs
+  unfolding keep
+  keep-cong [] h = refl
+  keep-cong (x ∷ xs) h = λ i. cond (h x (here refl) i) (x ∷ keep-cong xs (λ y m. h y (there m)) i) (keep-cong xs (λ y m. h y (there m)) i)
+
+  pub countIf-cong : (xs : List A) → ((x : A) → Member x xs → p x ≡ q x) → countIf p xs ≡ countIf q xs
+  unfolding countIf
+  countIf-cong [] h = refl
+  countIf-cong (x ∷ xs) h = ap₂ _+_ (ap (λ (b : Bool). cond b 1 0) (h x (here refl))) (countIf-cong xs (λ y m. h y (there m)))
+
+pub countIf-map : {A B : Type 0} (p : B → Bool) (f : A → B) (xs : List A) → countIf p (map f xs) ≡ countIf (λ x. p (f x)) xs
+unfolding countIf
+countIf-map p f [] = refl
+countIf-map p f (x ∷ xs) = ap (λ (k : ℕ). cond (p (f x)) 1 0 + k) (countIf-map p f xs)
+
+-- ---- numbers below g
+
+pub below-map : {A : Type 0} (g : ℕ) (f : A → ℕ) (xs : List A) → ((x : A) → Member x xs → f x < g) → Below g (map f xs)
+below-map g f [] h i l = absurd (omega arith)
+below-map g f (x ∷ xs) h zero l = h x (here refl)
+below-map g f (x ∷ xs) h (suc i) l = below-map g f xs (λ y m. h y (there m)) i (omega arith)
+
+pub below-member : (g : ℕ) (xs : List ℕ) (j : ℕ) → Below g xs → Member j xs → j < g
+below-member g [] j h m = absurd (not-nil m)
+below-member g (x ∷ xs) j h m = ⊎-elim (λ s. omega (arith, h 0 (omega arith))) (λ t. below-member g xs j (λ i b. h (suc i) (suc-le-suc b)) t) (cases-cons m)
+
+-- ---- a member is counted, and what is counted is a member
+
+pub member-howMany : (x : ℕ) (xs : List ℕ) → Member x xs → 0 < howMany x xs
+unfolding howMany countIf
+member-howMany x [] m = absurd (not-nil m)
+member-howMany x (y ∷ ys) m = ⊎-elim
+    (λ e. omega (arith, ap {B = ℕ} (λ (b : Bool). cond b 1 0) (eq-eqb x y e)))
+    (λ t. omega (arith, member-howMany x ys t))
+    (cases-cons m)
+
+counted-cases : (b : Bool) (x y : ℕ) (ys : List ℕ) → eqb x y ≡ b → (0 < countIf (eqb x) ys → Member x ys) → 0 < cond b 1 0 + countIf (eqb x) ys → Member x (y ∷ ys)
+counted-cases true x y ys e f h = here (eqb-true x y e)
+counted-cases false x y ys e f h = there (f (omega arith))
+
+pub howMany-member : (x : ℕ) (xs : List ℕ) → 0 < howMany x xs → Member x xs
+unfolding howMany countIf
+howMany-member x [] h = absurd (omega arith)
+howMany-member x (y ∷ ys) h = counted-cases (eqb x y) x y ys refl (howMany-member x ys) h
+
+-- ---- numbers without repeats, by first appearance: every number is there
+
+stands-step : (a : Bool) (x y : ℕ) (ys : List ℕ) (b : Bool) → (a ≡ true → x ≡ y) → (b ≡ true → Member x ys) → (a || b) ≡ true → Member x (y ∷ ys)
+stands-step true x y ys b f h e = here (f refl)
+stands-step false x y ys b f h e = there (h e)
+
+pub stands-member : (x : ℕ) (ys : List ℕ) → stands x ys ≡ true → Member x ys
+unfolding stands any
+stands-member x [] e = absurd (true≢false (sym e))
+stands-member x (y ∷ ys) e = stands-step (eqb x y) x y ys (any (eqb x) ys) (λ f. eqb-true x y f) (λ f. stands-member x ys f) e
+
+abbrev see : List ℕ → ℕ → List ℕ
+see seen x = cond (stands x seen) seen (seen ++ (x ∷ []))
+
+seen-stays : (b : Bool) (x z : ℕ) (seen : List ℕ) → Member z seen → Member z (cond b seen (seen ++ (x ∷ [])))
+seen-stays true x z seen m = m
+seen-stays false x z seen m = Memᴰ·append-left (x ∷ []) m
+
+seen-has : (b : Bool) (x : ℕ) (seen : List ℕ) → (b ≡ true → Member x seen) → Member x (cond b seen (seen ++ (x ∷ [])))
+seen-has true x seen h = h refl
+seen-has false x seen h = Memᴰ·append-right seen (here refl)
+
+firsts-stay : (xs seen : List ℕ) (z : ℕ) → Member z seen → Member z (foldl see seen xs)
+firsts-stay [] seen z m = m
+firsts-stay (x ∷ xs) seen z m = firsts-stay xs (see seen x) z (seen-stays (stands x seen) x z seen m)
+
+firsts-enter : (xs seen : List ℕ) (z : ℕ) → Member z xs → Member z (foldl see seen xs)
+firsts-enter [] seen z m = absurd (not-nil m)
+firsts-enter (x ∷ xs) seen z m = ⊎-elim
+    (λ s. Memᴰ·cast s (firsts-stay xs (see seen x) x (seen-has (stands x seen) x seen (stands-member x seen))))
+    (λ t. firsts-enter xs (see seen x) z t)
+    (cases-cons m)
+
+pub member-firsts : (xs : List ℕ) (z : ℕ) → Member z xs → Member z (firsts xs)
+unfolding firsts
+member-firsts xs z m = firsts-enter xs [] z m

@@ -161,7 +161,7 @@ module _ (held ns : List ℕ) where
 
 -- ---- the strata of samples, gathered and numbered, or all one
 
-length-numbered : (held : List ℕ) → length (numbered held) ≡ length held
+pub length-numbered : (held : List ℕ) → length (numbered held) ≡ length held
 unfolding numbered
 length-numbered held = length-table (numberAt held (named held)) (length held)
 
