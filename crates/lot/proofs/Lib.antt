@@ -14,3 +14,4 @@ pub mod Tallies
 pub mod Within
 pub mod OnKept
 pub mod Relabelled
+pub mod Cases
