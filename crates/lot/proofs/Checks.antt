@@ -1,6 +1,6 @@
 -- Lines 1 to 5, one after the other: the first that holds is returned. Assumes nothing.
-use mathlib.Core.Path.{_≡_, refl, sym, ap, _∙_}
-use mathlib.Core.Bool.{Bool, true, false, not, _&&_, _||_, true≢false}
+use mathlib.Core.Path.{_≡_, refl, sym}
+use mathlib.Core.Bool.{Bool, true, false, not, _&&_, true≢false}
 use mathlib.Core.List.{List, _∷_}
 use Prim.Native.Nat.{ℕ, _*_, _≤_}
 use native.Mathlib.Omega.{arith}
@@ -15,12 +15,9 @@ use Rattle.outcome.specs.Refusals.{Line, _when_, first}
 use Rattle.lot.specs.Lot.{Lot}
 use Rattle.lot.specs.Kept.{groupCount}
 use Rattle.lot.specs.Lines.{badDistance, badWeight, misfits, testLines}
+use Rattle.lot.proofs.Extra.{or-neither}
 
 -- ---- a lot whose parts fit n
-
-or-false : (a b : Bool) → (a || b) ≡ false → (a ≡ false) × (b ≡ false)
-or-false true b e = absurd (true≢false e)
-or-false false b e = (refl, e)
 
 -- what fits, of a part that is given
 fit-given : (given : Bool) (k n : ℕ) → (given && not (eqb k n)) ≡ false → given ≡ true → k ≡ n
@@ -36,9 +33,9 @@ pub record Fits (lot : Lot) : Type 0 where
 pub parts-fit : (lot : Lot) → misfits lot ≡ false → Fits lot
 unfolding misfits
 parts-fit lot e =
-    let w = or-false _ _ e in
-    let s = or-false _ _ (w .0) in
-    let l = or-false _ _ (s .0) in
+    let w = or-neither _ _ e in
+    let s = or-neither _ _ (w .0) in
+    let l = or-neither _ _ (s .0) in
     record {
       distancesFit = eqb-true _ _ (not-false _ (l .0));
       labelsFit = eqb-true _ _ (not-false _ (l .1));
@@ -109,8 +106,8 @@ passes lot short beyond e =
     let l₃ = line-out _ _ _ (l₂ .1) in
     let l₄ = line-out _ _ _ (l₃ .1) in
     let l₅ = line-out _ _ _ (l₄ .1) in
-    let one = or-false _ _ (l₁ .0) in
-    let two = or-false _ _ (l₂ .0) in
+    let one = or-neither _ _ (l₁ .0) in
+    let two = or-neither _ _ (l₂ .0) in
     record {
       fits = parts-fit lot (one .0);
       long = one .1;

@@ -1,6 +1,6 @@
 -- Laws of lists that name nothing of a lot. Assumes nothing.
 use mathlib.Core.Path.{_≡_, refl, sym, ap, _∙_}
-use mathlib.Core.Bool.{Bool, true, false, _||_, cond}
+use mathlib.Core.Bool.{Bool, true, false, _&&_, _||_, cond, true≢false}
 use mathlib.Core.List.{List, [], _∷_, _++_}
 use Prim.Native.Nat.{ℕ, zero, suc, _+_, _-_, _<_, _≤_}
 use native.Mathlib.Numerals.{add-one}
@@ -15,6 +15,18 @@ use Rattle.lists.specs.Numbers.{Below}
 use Rattle.lists.specs.Writes.{over}
 use Rattle.lists.proofs.Ranges.{length-table}
 use Rattle.lists.proofs.Writes.{Writing, getD-behind, drop-over}
+
+-- ---- tests joined
+
+pub and-both : (a b : Bool) → (a && b) ≡ true → (a ≡ true) × (b ≡ true)
+and-both true b e = (refl, e)
+and-both false b e = absurd (true≢false (sym e))
+
+pub or-neither : (a b : Bool) → (a || b) ≡ false → (a ≡ false) × (b ≡ false)
+or-neither true b e = absurd (true≢false e)
+or-neither false b e = (refl, e)
+
+-- ---- entries, fronts and searches
 
 module _ {A : Type 0} where
   -- what stands in a list, whatever would stand past its end

@@ -1,6 +1,6 @@
 -- A stratum informs if one of its samples is in another group than a given one of them. Assumes nothing.
 use mathlib.Core.Path.{_≡_, refl, sym, ap, _∙_}
-use mathlib.Core.Bool.{Bool, true, false, not, _&&_, true≢false}
+use mathlib.Core.Bool.{Bool, true, false, not, _&&_}
 use mathlib.Core.List.{List, List·Memᴰ as Member}
 use Prim.Native.Nat.{ℕ, _<_}
 use native.Mathlib.Omega.{arith}
@@ -13,15 +13,12 @@ use Rattle.lists.specs.Numbers.{inGroup, members}
 use Rattle.lot.specs.Strata.{informs}
 use Rattle.lot.specs.Way.{tally}
 use Rattle.lot.proofs.Tallies.{Counted, tally-own, tally-some}
+use Rattle.lot.proofs.Extra.{and-both}
 use Rattle.lot.proofs.Membership.{member-range, range-member, member-keep, keep-member, member-any, any-member, none-any, any-fails}
 
 -- the sample b is of stratum s and not in group g
 abbrev pub other : List ℕ → List ℕ → ℕ → ℕ → ℕ → Bool
 other ss gs s g b = eqb (getD ss b 0) s && not (eqb (getD gs b 0) g)
-
-both : (a b : Bool) → (a && b) ≡ true → (a ≡ true) × (b ≡ true)
-both true b e = (refl, e)
-both false b e = absurd (true≢false (sym e))
 
 -- of a stratum that the sample k is in
 module _ (ss gs : List ℕ) (m k : ℕ) (h : k < m) where
@@ -45,7 +42,7 @@ module _ (ss gs : List ℕ) (m k : ℕ) (h : k < m) where
   some-other e =
       let w = any-member (other ss gs s g) (range 0 m) e in
       let b = w .0 in
-      let r = both (eqb (getD ss b 0) s) (not (eqb (getD gs b 0) g)) (w .2) in
+      let r = and-both (eqb (getD ss b 0) s) (not (eqb (getD gs b 0) g)) (w .2) in
       let apart : not (eqb g (getD gs b 0)) ≡ true = ap not (ne-eqb g (getD gs b 0) (λ q. eqb-false (getD gs b 0) g (not-true _ (r .1)) (sym q))) in
       member-any _ (members ss m s) k (in-stratum k h (eq-eqb s s refl))
       (member-any (λ b. not (eqb g (getD gs b 0))) (members ss m s) b (in-stratum b (member-range m b (w .1)) (r .0)) apart)

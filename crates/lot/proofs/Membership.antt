@@ -4,7 +4,6 @@ use mathlib.Core.Bool.{Bool, true, false, _||_, cond, true≢false}
 use mathlib.Core.Logic.{_⊎_, inl, inr, ⊎-elim}
 use mathlib.Core.List.{List, [], _∷_, _++_, map, foldl, List·Memᴰ as Member, List·Memᴰ·head as here, List·Memᴰ·tail as there, List·Memᴰ·cases-cons as cases-cons, List·Memᴰ·not-nil as not-nil, Memᴰ·append-left, Memᴰ·append-right, Memᴰ·cast}
 use Prim.Native.Nat.{ℕ, zero, suc, _+_, _-_, _<_, _≤_, suc-le-suc}
-use native.Mathlib.Nat.{sub-zero}
 use native.Mathlib.Omega.{arith}
 use native.Mathlib.Decide.{ℕ-discrete}
 use borrow.Author.Tests.{eq-eqb, eqb-true}
@@ -157,7 +156,8 @@ unfolding stands any
 stands-member x [] e = absurd (true≢false (sym e))
 stands-member x (y ∷ ys) e = stands-step (eqb x y) x y ys (any (eqb x) ys) (λ f. eqb-true x y f) (λ f. stands-member x ys f) e
 
-abbrev see : List ℕ → ℕ → List ℕ
+-- one number more of those seen
+abbrev pub see : List ℕ → ℕ → List ℕ
 see seen x = cond (stands x seen) seen (seen ++ (x ∷ []))
 
 seen-stays : (b : Bool) (x z : ℕ) (seen : List ℕ) → Member z seen → Member z (cond b seen (seen ++ (x ∷ [])))

@@ -1,11 +1,11 @@
 -- Strata are named by first appearance, and numbered: one sample more. Assumes nothing.
-use mathlib.Core.Path.{_≡_, refl, sym, ap, ap₂, _∙_, subst}
+use mathlib.Core.Path.{_≡_, refl, sym, ap, ap₂, _∙_}
 use mathlib.Core.Bool.{Bool, true, false, not, cond}
 use mathlib.Core.List.{List, [], _∷_, _++_, map, foldl}
-use Prim.Native.Nat.{ℕ, zero, suc, _+_, _-_, _<_, _≤_}
+use Prim.Native.Nat.{ℕ, zero, _+_, _-_, _<_, _≤_}
 use native.Mathlib.Nat.{add-zero}
 use native.Mathlib.Omega.{arith}
-use borrow.Author.Tests.{eqb-true, eqb-false, eq-eqb, ne-eqb}
+use borrow.Author.Tests.{eq-eqb, ne-eqb}
 use lib.Dec.{eqb}
 use lib.ListN.{length, getD, take, drop, set, replicate, length-append, length-map}
 use lib.Seq.{length-take-le, take-all}
@@ -22,14 +22,11 @@ use Rattle.lot.specs.Kept.{gathered}
 use Rattle.lot.specs.Strata.{named, noted, numbered}
 use Rattle.lot.specs.Described.{Stratified}
 use Rattle.lot.proofs.Extra.{over-part, over-back, getD-either, take-more, writing-here}
+use Rattle.lot.proofs.Membership.{see}
 use Rattle.lot.proofs.Fills.{filled-none, filled-take, filled-as, filled-more, filled-over, filled-front}
 use Rattle.lot.proofs.Samples.{front-gathered, length-gathered}
 
 -- ---- named strata, one sample more
-
--- one number more of those seen
-abbrev see : List ℕ → ℕ → List ℕ
-see seen x = cond (stands x seen) seen (seen ++ (x ∷ []))
 
 see-last : (xs seen : List ℕ) (x : ℕ) → foldl see seen (xs ++ (x ∷ [])) ≡ see (foldl see seen xs) x
 see-last [] seen x = refl

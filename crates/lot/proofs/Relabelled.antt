@@ -1,18 +1,18 @@
 -- A way handed in as the observed one: every label is held by as many samples as before, so the same samples are kept, their labels are numbered alike,
 -- the strata and those that inform are the same, and the groups are the way. Assumes nothing.
-use mathlib.Core.Path.{_≡_, refl, sym, ap, ap₂, _∙_, fun-ext}
-use mathlib.Core.Bool.{Bool, true, false, not, _&&_, cond}
-use mathlib.Core.List.{List, [], _∷_, map, List·Memᴰ as Member}
+use mathlib.Core.Path.{_≡_, sym, ap, ap₂, _∙_, fun-ext}
+use mathlib.Core.Bool.{Bool, true, not, _&&_, cond}
+use mathlib.Core.List.{List, map, List·Memᴰ as Member}
 use Prim.Native.Nat.{ℕ, _+_, _<_}
 use native.Mathlib.Omega.{arith}
 use lib.Dec.{eqb, leb}
 use lib.ListN.{length, getD, length-map, List·getD-map}
 use Rattle.lists.specs.Ranges.{range}
 use Rattle.lists.specs.Filters.{keep, countIf}
-use Rattle.lists.specs.Numbers.{howMany, position, upward, Below}
+use Rattle.lists.specs.Numbers.{howMany, position, Below}
 use Rattle.lot.specs.Lot.{Lot, none}
 use Rattle.lot.specs.Kept.{twice, kept, gathered, keptLabels, names, groups, keptCount}
-use Rattle.lot.specs.Strata.{named, numbered, heldStrata, strata, strataCount, informs, informative, informativeCount}
+use Rattle.lot.specs.Strata.{named, numbered, heldStrata, strata, strataCount, informative, informativeCount}
 use Rattle.lot.specs.Way.{IsWay, relabelled, SameLot}
 use Rattle.lot.proofs.Membership.{below-member, member-howMany, howMany-member, keep-cong, countIf-cong, countIf-map}
 use Rattle.lot.proofs.Upward.{upward-same}

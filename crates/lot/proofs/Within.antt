@@ -2,14 +2,13 @@
 use mathlib.Core.Path.{_≡_, refl, sym, ap, ap₂, _∙_, subst}
 use mathlib.Core.Bool.{Bool, true, false, not, cond}
 use mathlib.Core.List.{List, [], _∷_, map, List·Memᴰ as Member, List·Memᴰ·head as here, List·Memᴰ·tail as there}
-use Prim.Native.Nat.{ℕ, _+_, _<_, _≤_}
+use Prim.Native.Nat.{ℕ, _+_, _<_}
 use native.Mathlib.Omega.{arith}
 use borrow.Author.Tests.{eqb-true, eq-eqb}
 use lib.Dec.{eqb}
 use lib.ListN.{length, getD, take, drop, length-map, take-append-drop}
-use Rattle.lists.specs.Ranges.{table}
 use Rattle.lists.specs.Filters.{keep, countIf}
-use Rattle.lists.specs.Numbers.{howMany, position, firsts, upward, Below}
+use Rattle.lists.specs.Numbers.{howMany, position, Below}
 use Rattle.lists.proofs.Ranges.{length-table, getD-table}
 use Rattle.lists.proofs.Filters.{countIf-append, countIf-yes}
 use Rattle.lot.specs.Lot.{Lot, none}

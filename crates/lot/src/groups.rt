@@ -1,7 +1,7 @@
 // The groups of a lot: kept samples, the groups' labels, and each sample's group (section 2).
 use crate::kept;
 ghost use mathlib.Core.Path.{_≡_};
-ghost use Prim.Native.Nat.{_+_, _<_, _≤_};
+ghost use Prim.Native.Nat.{_<_, _≤_};
 ghost use mathlib.Core.Bool.{cond};
 ghost use mathlib.Core.List.{map};
 ghost use lib.ListN.{length};
@@ -56,7 +56,7 @@ fn group_of(ns: &[u16], l: u16) -> u16
     ensures { λ r. ⌜ r ≡ cond (stands l (now (ns .entry))) (position l (now (ns .entry))) none ⌝ }
 {
     let p = kept::place_of(ns, l);
-    if p < ns.len() { p as u16 } else { kept::NONE }
+    if p < ns.len() { p as u16 } else { crate::NONE }
 }
 
 // The group of each of the n samples, or none, goes to the front of `out`. `ns` are the groups' labels.

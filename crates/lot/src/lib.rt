@@ -1,10 +1,31 @@
 // Section 2: a lot's kept samples, groups and strata, and the lines of the table that both tests share.
 pub mod groups;
-pub mod kept;
+mod kept;
 pub mod lines;
 pub mod strata;
 
+ghost use mathlib.Core.Path.{_≡_};
+ghost use Prim.Native.Nat.{_<_};
+ghost use lib.ListN.{length};
+ghost use Rattle.lists.specs.Numbers.{howMany};
 ghost use Rattle.lot.specs.Described.{samplesOf, Room, Described};
+
+// No label, no stratum, no group.
+pub const NONE: u16 = 65535;
+
+// How many samples have the label l.
+pub fn how_many(labels: &[u16], l: u16) -> u16
+    requires { ⌜ length (now labels) < 65536 ⌝ }
+    ensures { λ r. ⌜ r ≡ howMany l (now (labels .entry)) ⌝ }
+{
+    let mut count: u16 = 0;
+    for i in 0..labels.len() {
+        if l == labels[i] {
+            count += 1;
+        }
+    }
+    count
+}
 
 // How many samples are kept, how many groups they are in, and how many strata.
 pub struct Shape {

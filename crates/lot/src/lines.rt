@@ -3,7 +3,7 @@ use crate::kept;
 use outcome::Check;
 use outcome::Refusal;
 ghost use mathlib.Core.Path.{_≡_};
-ghost use Prim.Native.Nat.{_*_, _<_, _≤_};
+ghost use Prim.Native.Nat.{_*_, _<_};
 ghost use mathlib.Core.Bool.{_&&_, _||_, not};
 ghost use lib.Dec.{eqb, ltb};
 ghost use lib.ListN.{length, getD};
@@ -95,7 +95,7 @@ fn other_label(labels: &[u16], l: u16) -> u16
             }
         }
     }
-    kept::NONE
+    crate::NONE
 }
 
 // Whether fewer than two labels are held by two samples.
@@ -103,8 +103,8 @@ pub fn few_labels(labels: &[u16]) -> bool
     requires { ⌜ length (now labels) < 65536 ⌝ }
     ensures { λ r. ⌜ r ≡ ltb (spec.groupCount (now (labels .entry))) 2 ⌝ }
 {
-    let a = other_label(labels, kept::NONE);
-    other_label(labels, a) == kept::NONE
+    let a = other_label(labels, crate::NONE);
+    other_label(labels, a) == crate::NONE
 }
 
 // Whether a weight that is given is not within 2 ^ -20 to 2 ^ 20.

@@ -2,9 +2,7 @@
 use crate::kept;
 ghost use mathlib.Core.Path.{_≡_};
 ghost use Prim.Native.Nat.{_+_, _<_, _≤_};
-ghost use mathlib.Core.Bool.{cond, true};
-ghost use mathlib.Core.List.{[], _∷_, _++_};
-ghost use lib.Dec.{eqb};
+ghost use mathlib.Core.Bool.{true};
 ghost use lib.ListN.{length, getD, take};
 ghost use Rattle.float.specs.Floats.{_⊘_, num};
 ghost use Rattle.lists.specs.Numbers.{Below};
@@ -26,7 +24,7 @@ fn note(ns: &mut [u16], k: usize, s: u16) -> usize
     requires { ⌜ k < length (now ns) ⌝ }
     ensures { λ r. ⌜ Filled (spec.noted (take k (now (ns .entry))) s) (now (ns .entry)) (now (ns .exit)) r ⌝ }
 {
-    if s == kept::NONE {
+    if s == crate::NONE {
         return k;
     }
     if stands(&ns[..k], s) {
@@ -57,7 +55,7 @@ fn number_by(held: &mut [u16], ns: &[u16]) -> usize
     let mut next = ns.len();
     for k in 0..held.len() {
         let s = held[k];
-        if s == kept::NONE {
+        if s == crate::NONE {
             held[k] = next as u16;
             next += 1;
         } else {

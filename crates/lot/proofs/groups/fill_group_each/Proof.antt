@@ -9,7 +9,7 @@ use Rattle.lists.specs.Numbers.{stands, position}
 use Rattle.lists.specs.Writes.{over}
 use Rattle.lists.proofs.Ranges.{map-table}
 use Rattle.lot.specs.Lot.{none}
-use Rattle.lot.specs.Kept.{groups, groupEach}
+use Rattle.lot.specs.Kept.{groupEach}
 use Rattle.lot.proofs.Fills.{Fronting, fronting-none, fronting-next, fronting-all}
 use Rattle.lot.proofs.Samples.{names-few}
 use Rattle.lot.proofs.groups.fill_group_each.Statement.{statement}

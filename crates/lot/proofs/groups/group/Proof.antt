@@ -3,7 +3,6 @@ use Prim.Native.Nat.{_-_, _≤_}
 use native.Mathlib.Omega.{arith}
 use borrow.Author.Needs.{needs}
 use lib.ListN.{length}
-use Rattle.lot.specs.Kept.{groups}
 use Rattle.lot.proofs.Fills.{filled-long, filled-front, filled-part}
 use Rattle.lot.proofs.Samples.{kept-few}
 use Rattle.lot.proofs.groups.group.Statement.{statement}

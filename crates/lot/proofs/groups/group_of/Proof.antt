@@ -4,7 +4,6 @@ use native.Mathlib.Omega.{arith}
 use borrow.Author.Needs.{needs}
 use lib.Dec.{eqb}
 use Rattle.lists.specs.Numbers.{stands, position}
-use Rattle.lot.specs.Kept.{groups}
 use Rattle.lot.proofs.Extra.{any-found, any-missing}
 use Rattle.lot.proofs.groups.group_of.Statement.{statement}
 use Rattle.lot.proofs.groups.group_of.Tie as tie

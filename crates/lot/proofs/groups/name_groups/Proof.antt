@@ -6,7 +6,7 @@ use borrow.Author.Needs.{needs}
 use lib.ListN.{length}
 use lib.Seq.{length-take-le}
 use Rattle.lists.specs.Numbers.{Below}
-use Rattle.lot.specs.Kept.{kept, groups}
+use Rattle.lot.specs.Kept.{kept}
 use Rattle.lot.proofs.Samples.{kept-below, kept-few, front-few, named-groups, numbered-groups}
 use Rattle.lot.proofs.groups.name_groups.Statement.{statement}
 use Rattle.lot.proofs.groups.name_groups.Tie as tie

@@ -6,7 +6,6 @@ use native.Mathlib.Omega.{arith}
 use borrow.Author.Needs.{needs}
 use lib.ListN.{length}
 use Rattle.lists.specs.Numbers.{position}
-use Rattle.lot.specs.Kept.{groups}
 use Rattle.lot.proofs.Fills.{filled-long, filled-front, filled-part}
 use Rattle.lot.proofs.Inserts.{length-upward}
 use Rattle.lot.proofs.groups.number_labels.Statement.{statement}

@@ -3,7 +3,6 @@ use mathlib.Core.Path.{sym, _∙_}
 use Prim.Native.Nat.{_-_}
 use borrow.Author.Needs.{needs}
 use borrow.Author.Tests.{eq-eqb, ne-eqb, not-true, not-false}
-use Rattle.lot.specs.Lines.{misfits}
 use Rattle.lot.proofs.lines.misfits.Statement.{statement}
 use Rattle.lot.proofs.lines.misfits.Tie as tie
 

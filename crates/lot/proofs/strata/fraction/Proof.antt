@@ -2,7 +2,7 @@
 use Prim.Native.Nat.{_-_, _^_}
 use native.Mathlib.Omega.{arith}
 use borrow.Author.Needs.{needs}
-use lib.Dec.{leb, le→leb}
+use lib.Dec.{le→leb}
 use lib.Ieee.{inFloat}
 use Rattle.lot.proofs.strata.fraction.Statement.{statement}
 use Rattle.lot.proofs.strata.fraction.Tie as tie

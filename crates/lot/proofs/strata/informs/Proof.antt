@@ -9,7 +9,6 @@ use lib.ListN.{length, getD}
 use Rattle.lists.specs.Ranges.{range}
 use Rattle.lists.specs.Filters.{any}
 use Rattle.lists.proofs.Filters.{range-any-here, range-any-later, range-any-none}
-use Rattle.lot.specs.Strata.{informs}
 use Rattle.lot.proofs.Informing.{other, informs-other}
 use Rattle.lot.proofs.strata.informs.Statement.{statement}
 use Rattle.lot.proofs.strata.informs.Tie as tie
