@@ -1,9 +1,7 @@
 -- Judged samples of the trade: case h. Labels 0,0,1 are turned away with 5, whatever the distances allowed. Assumes nothing.
-use mathlib.Core.Path.{_≡_, refl, sym, ap}
-use mathlib.Core.Bool.{false, not, _||_}
+use mathlib.Core.Path.{_≡_, refl}
+use mathlib.Core.Bool.{false}
 use mathlib.Core.List.{List, [], _∷_}
-use Prim.Native.Nat.{ℕ}
-use lib.Dec.{eqb}
 use lib.ListN.{length, replicate}
 use lib.Ieee.{Float, le, ofBits}
 use Rattle.float.specs.Floats.{zero⁺}
@@ -16,15 +14,14 @@ use Rattle.outcome.specs.Refusals.{number, first}
 use Rattle.lot.specs.Lot.{Lot, lotOf}
 use Rattle.lot.specs.Kept.{twice, kept, gathered, keptLabels, names, groupCount}
 use Rattle.lot.specs.Lines.{badDistance, misfits, testLines}
-use Rattle.lot.proofs.Checks.{line-labels}
 
 -- three samples with labels 0, 0, 1
 abbrev pub three : List Float → Lot
 three d = lotOf 3 d (0 ∷ 0 ∷ 1 ∷ []) false [] false []
 
 pub case-h : (d : List Float) → length d ≡ 9 → any badDistance d ≡ false → first (testLines (three d) false false) ≡ Refused Labels
-unfolding misfits groupCount names keptLabels gathered kept twice howMany countIf keep range upFrom upward insertUp
-case-h d e v = sym (line-labels (three d) false false (ap (λ (k : ℕ). not (eqb k 9) || false || false || false) e) refl refl refl v refl refl)
+unfolding first testLines misfits groupCount names keptLabels gathered kept twice howMany countIf keep range upFrom upward insertUp
+case-h d e v = rw (e, v)
 
 -- all distances 0
 pub case-h-zero : first (testLines (three (replicate 9 zero⁺)) false false) ≡ Refused Labels

@@ -1,16 +1,15 @@
--- Lines 1 to 5, one after the other: the first that holds is returned. Assumes nothing.
+-- What is known of a lot whose parts fit n, and of one that no line turns away. Assumes nothing.
 use mathlib.Core.Path.{_≡_, refl, sym}
 use mathlib.Core.Bool.{Bool, true, false, not, _&&_, true≢false}
 use mathlib.Core.List.{List, _∷_}
 use Prim.Native.Nat.{ℕ, _*_, _≤_}
 use native.Mathlib.Omega.{arith}
 use borrow.Author.Tests.{eqb-true, ltb-false, not-false}
-use lib.Dec.{eqb, ltb}
+use lib.Dec.{eqb}
 use lib.ListN.{length}
 use Rattle.lists.specs.Filters.{any}
 use Rattle.outcome.specs.declared.Refusal.{Refusal}
-use Rattle.outcome.specs.declared.Refusal.the-variants.{Length, Limit, Value, Weight, Labels}
-use Rattle.outcome.specs.declared.Check.the-variants.{Passed, Refused}
+use Rattle.outcome.specs.declared.Check.the-variants.{Passed}
 use Rattle.outcome.specs.Refusals.{Line, _when_, first}
 use Rattle.lot.specs.Lot.{Lot}
 use Rattle.lot.specs.Kept.{groupCount}
@@ -42,45 +41,6 @@ parts-fit lot e =
       strataFit = λ g. fit-given (lot .stratified) _ _ (s .1) g;
       weightsFit = λ g. fit-given (lot .weighted) _ _ (w .1) g;
     }
-
--- ---- one line after the other
-
-module _ (lot : Lot) (short beyond : Bool) where
-  pub line-unfit : misfits lot ≡ true → Refused Length ≡ first (testLines lot short beyond)
-  unfolding first testLines
-  line-unfit a = rw a
-
-  pub line-short : misfits lot ≡ false → short ≡ true → Refused Length ≡ first (testLines lot short beyond)
-  unfolding first testLines
-  line-short a b = rw (a, b)
-
-  module _ (a : misfits lot ≡ false) (b : short ≡ false) where
-    pub line-many : ltb 256 (lot .n) ≡ true → Refused Limit ≡ first (testLines lot short beyond)
-    unfolding first testLines
-    line-many c = rw (a, b, c)
-
-    pub line-beyond : ltb 256 (lot .n) ≡ false → beyond ≡ true → Refused Limit ≡ first (testLines lot short beyond)
-    unfolding first testLines
-    line-beyond c d = rw (a, b, c, d)
-
-    module _ (c : ltb 256 (lot .n) ≡ false) (d : beyond ≡ false) where
-      pub line-value : any badDistance (lot .distances) ≡ true → Refused Value ≡ first (testLines lot short beyond)
-      unfolding first testLines
-      line-value e = rw (a, b, c, d, e)
-
-      pub line-weight : any badDistance (lot .distances) ≡ false → (lot .weighted && any badWeight (lot .weights)) ≡ true
-          → Refused Weight ≡ first (testLines lot short beyond)
-      unfolding first testLines
-      line-weight e f = rw (a, b, c, d, e, f)
-
-      module _ (e : any badDistance (lot .distances) ≡ false) (f : (lot .weighted && any badWeight (lot .weights)) ≡ false) where
-        pub line-labels : ltb (groupCount (lot .labels)) 2 ≡ true → Refused Labels ≡ first (testLines lot short beyond)
-        unfolding first testLines
-        line-labels g = rw (a, b, c, d, e, f, g)
-
-        pub line-passed : ltb (groupCount (lot .labels)) 2 ≡ false → Passed ≡ first (testLines lot short beyond)
-        unfolding first testLines
-        line-passed g = rw (a, b, c, d, e, f, g)
 
 -- ---- a lot that no line turns away
 

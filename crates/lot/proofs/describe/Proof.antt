@@ -13,15 +13,19 @@ group-requires : tie.Need-group-requires
 group-requires c κs = search needs
 
 slice-reshare-prefix-stratify : tie.Need-slice-reshare-prefix-stratify
-slice-reshare-prefix-stratify c = front-within (c .before .before .before .before .before .before .before .before .before .before .before .before .before .before .before .before .args .labels .now) (c .before .before .before .before .before .before .before .before .before .before .before .before .before .before .before .before .args .given .now) (c .before .before .before .before .before .before .before .before .before .before .before .before .before .before .before .before .args .stratified) (c .before .before .before .before .before .before .group .ensures) (c .before .before .before .before .before .before .before .before .before .before .before .before .before .before .before .before .pre .samplesFit)
+slice-reshare-prefix-stratify c =
+    let start = c .before .before .before .before .before .before .before .before .before .before .before .before .before .before .before .before in
+    front-within (start .args .labels .now) (start .args .given .now) (start .args .stratified) (c .before .before .before .before .before .before .group .ensures) (start .pre .samplesFit)
 
 slice-aggregate-stratify : tie.Need-slice-aggregate-stratify
 slice-aggregate-stratify c = filled-part _ (c .before .before .before .before .before .before .before .group .ensures .samples)
 
 stratify-requires : tie.Need-stratify-requires
 stratify-requires c κs =
-    let front = front-kept (c .before .before .before .before .before .before .before .before .before .before .before .before .before .before .before .before .before .before .args .labels .now) (c .before .before .before .before .before .before .before .before .before .before .before .before .before .before .before .before .before .before .args .given .now) (c .before .before .before .before .before .before .before .before .before .before .before .before .before .before .before .before .before .before .args .stratified) (c .before .before .before .before .before .before .before .before .group .ensures) in
-    (front-below (c .before .before .before .before .before .before .before .before .before .before .before .before .before .before .before .before .before .before .args .labels .now) (c .before .before .before .before .before .before .before .before .before .before .before .before .before .before .before .before .before .before .args .given .now) (c .before .before .before .before .before .before .before .before .before .before .before .before .before .before .before .before .before .before .args .stratified) (c .before .before .before .before .before .before .before .before .group .ensures) (c .before .before .before .before .before .before .before .before .before .before .before .before .before .before .before .before .before .before .pre .strataFit), omega (arith, ap length front, kept-few (c .before .before .before .before .before .before .before .before .before .before .before .before .before .before .before .before .before .before .args .labels .now), c .before .before .before .before .before .before .before .before .before .before .before .before .before .before .before .before .before .before .pre .few), omega (arith, ap length front, kept-few (c .before .before .before .before .before .before .before .before .before .before .before .before .before .before .before .before .before .before .args .labels .now), c .before .before .before .before .before .before .before .before .before .before .before .before .before .before .before .before .before .before .pre .numbersFit))
+    let start = c .before .before .before .before .before .before .before .before .before .before .before .before .before .before .before .before .before .before in
+    let front = front-kept (start .args .labels .now) (start .args .given .now) (start .args .stratified) (c .before .before .before .before .before .before .before .before .group .ensures) in
+    let few = kept-few (start .args .labels .now) in
+    (front-below (start .args .labels .now) (start .args .given .now) (start .args .stratified) (c .before .before .before .before .before .before .before .before .group .ensures) (start .pre .strataFit), omega (arith, ap length front, start .pre .few), omega (arith, ap length front, start .pre .numbersFit))
 
 same-length : tie.Need-same-length
 same-length c = search needs
@@ -36,7 +40,9 @@ same-length-4 : tie.Need-same-length-4
 same-length-4 c = search needs
 
 returns : tie.Need-returns
-returns c = described (c .before .before .before .before .before .before .before .before .before .before .before .before .before .before .before .before .before .before .before .before .before .args .labels .now) (c .before .before .before .before .before .before .before .before .before .before .before .before .before .before .before .before .before .before .before .before .before .args .given .now) (c .before .before .before .before .before .before .before .before .before .before .before .before .before .before .before .before .before .before .before .before .before .args .stratified) (c .before .before .before .before .before .before .before .before .before .before .before .group .ensures) (c .before .before .stratify .ensures)
+returns c =
+    let start = c .before .before .before .before .before .before .before .before .before .before .before .before .before .before .before .before .before .before .before .before .before in
+    described (start .args .labels .now) (start .args .given .now) (start .args .stratified) (c .before .before .before .before .before .before .before .before .before .before .before .group .ensures) (c .before .before .stratify .ensures)
 
 pub describe-spec : {M : Type 1} → statement M
 describe-spec =

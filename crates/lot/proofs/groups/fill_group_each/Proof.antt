@@ -31,13 +31,19 @@ shared-slice-read-group-of : tie.Need-shared-slice-read-group-of Inv-loop μ-loo
 shared-slice-read-group-of c = omega arith
 
 group-of-requires : tie.Need-group-of-requires Inv-loop μ-loop
-group-of-requires c κs = omega (arith, names-few (c .before .before .before .before .before .before .args .labels .now), ap length (c .before .before .before .before .before .before .pre .1), c .before .before .before .before .before .before .pre .0)
+group-of-requires c κs =
+    let start = c .before .before .before .before .before .before in
+    omega (arith, names-few (start .args .labels .now), ap length (start .pre .1), start .pre .0)
 
 mul-out : tie.Need-mul-out Inv-loop μ-loop
-mul-out c = omega (arith, c .before .before .before .loop .inv .long, c .before .before .before .before .before .before .before .pre .2)
+mul-out c =
+    let start = c .before .before .before .before .before .before .before in
+    omega (arith, c .before .before .before .loop .inv .long, start .pre .2)
 
 slice-write-out : tie.Need-slice-write-out Inv-loop μ-loop
-slice-write-out c = omega (arith, c .before .before .before .loop .inv .long, c .before .before .before .before .before .before .before .pre .2)
+slice-write-out c =
+    let start = c .before .before .before .before .before .before .before in
+    omega (arith, c .before .before .before .loop .inv .long, start .pre .2)
 
 add-i : tie.Need-add-i Inv-loop μ-loop
 add-i c = omega arith
@@ -47,9 +53,11 @@ loop-less c = omega arith
 
 loop-again : tie.Need-loop-again Inv-loop μ-loop
 loop-again c =
-    let labels = c .before .before .before .before .before .before .before .args .labels .now in
-    let ns = c .before .before .before .before .before .before .before .args .ns .now in
-    fronting-next (λ j. cond (stands (getD labels j 0) ns) (position (getD labels j 0) ns) none) _ _ (c .before .before .before .loop .inv) (c .before .before .loop-test .taken) (c .before .before .before .before .before .before .before .pre .2) (c .group-of .ensures)
+    let at-loop = c .before .before .before in
+    let start = at-loop .before .before .before .before in
+    let labels = start .args .labels .now in
+    let ns = start .args .ns .now in
+    fronting-next (λ j. cond (stands (getD labels j 0) ns) (position (getD labels j 0) ns) none) _ _ (at-loop .loop .inv) (c .before .before .loop-test .taken) (start .pre .2) (c .group-of .ensures)
 
 same-length : tie.Need-same-length Inv-loop μ-loop
 same-length c = c .before .loop .inv .long
@@ -57,11 +65,12 @@ same-length c = c .before .loop .inv .long
 returns : tie.Need-returns Inv-loop μ-loop
 unfolding groupEach
 returns c =
-    let labels = c .before .before .before .before .before .args .labels .now in
-    let ns = c .before .before .before .before .before .args .ns .now in
+    let start = c .before .before .before .before .before in
+    let labels = start .args .labels .now in
+    let ns = start .args .ns .now in
     let each : List ℕ → ℕ → ℕ = λ ms l. cond (stands l ms) (position l ms) none in
     fronting-all (λ j. each ns (getD labels j 0)) _ _ (c .before .loop .inv) (c .loop-test .left)
-    ∙ ap (λ (t : List ℕ). over t (c .before .before .before .before .before .args .out .now)) (sym (map-table (each ns) labels 0) ∙ ap (λ (ms : List ℕ). map (each ms) labels) (c .before .before .before .before .before .pre .1))
+    ∙ ap (λ (t : List ℕ). over t (start .args .out .now)) (sym (map-table (each ns) labels 0) ∙ ap (λ (ms : List ℕ). map (each ms) labels) (start .pre .1))
 
 pub fill-group-each-spec : {M : Type 1} → statement M
 fill-group-each-spec =

@@ -13,14 +13,17 @@ fill-kept-requires c κs = search needs
 
 slice-reshare-prefix-name-groups : tie.Need-slice-reshare-prefix-name-groups
 slice-reshare-prefix-name-groups c =
-    let few : c .before .before .fill-kept .result ≤ length (c .before .before .before .before .before .before .before .before .args .ks .now) = omega (arith, c .before .before .fill-kept .ensures .many, kept-few (c .before .before .before .before .before .before .before .before .args .labels .now)) in
+    let start = c .before .before .before .before .before .before .before .before in
+    let few : c .before .before .fill-kept .result ≤ length (start .args .ks .now) = omega (arith, c .before .before .fill-kept .ensures .many, kept-few (start .args .labels .now)) in
     omega (arith, filled-long _ (c .before .before .fill-kept .ensures) few)
 
 slice-aggregate-name-groups : tie.Need-slice-aggregate-name-groups
 slice-aggregate-name-groups c = filled-part _ (c .before .before .before .fill-kept .ensures)
 
 name-groups-requires : tie.Need-name-groups-requires
-name-groups-requires c κs = (c .before .before .before .before .before .before .before .before .before .before .before .pre .0, filled-front _ (c .before .before .before .before .before .fill-kept .ensures), c .before .before .before .before .before .before .before .before .before .before .before .pre .2, c .before .before .before .before .before .before .before .before .before .before .before .pre .3)
+name-groups-requires c κs =
+    let start = c .before .before .before .before .before .before .before .before .before .before .before in
+    (start .pre .0, filled-front _ (c .before .before .before .before .before .fill-kept .ensures), start .pre .2, start .pre .3)
 
 same-length : tie.Need-same-length
 same-length c = search needs

@@ -17,15 +17,17 @@ cast-result c = search needs
 returns : tie.Need-returns
 unfolding stands position
 returns c =
-    let ns = c .before .before .before .args .ns .now in
-    let found = any-found (eqb (c .before .before .before .args .l)) ns (omega (arith, c .before .place-of .ensures)) in
+    let start = c .before .before .before in
+    let ns = start .args .ns .now in
+    let found = any-found (eqb (start .args .l)) ns (omega (arith, c .before .place-of .ensures)) in
     rw found (c .before .place-of .ensures)
 
 returns-2 : tie.Need-returns-2
 unfolding stands position
 returns-2 c =
-    let ns = c .before .before .before .args .ns .now in
-    let missing = any-missing (eqb (c .before .before .before .args .l)) ns (omega (arith, c .before .place-of .ensures)) in
+    let start = c .before .before .before in
+    let ns = start .args .ns .now in
+    let missing = any-missing (eqb (start .args .l)) ns (omega (arith, c .before .place-of .ensures)) in
     rw missing
 
 pub group-of-spec : {M : Type 1} → statement M

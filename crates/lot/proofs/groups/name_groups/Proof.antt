@@ -12,20 +12,26 @@ use Rattle.lot.proofs.groups.name_groups.Statement.{statement}
 use Rattle.lot.proofs.groups.name_groups.Tie as tie
 
 gather-requires : tie.Need-gather-requires
-gather-requires c κs = (
-  subst (Below (length (c .before .before .before .before .before .args .labels .now))) (sym (c .before .before .before .before .before .pre .1)) (kept-below (c .before .before .before .before .before .args .labels .now)),
-  omega (arith, ap length (c .before .before .before .before .before .pre .1), kept-few (c .before .before .before .before .before .args .labels .now)),
-)
+gather-requires c κs =
+    let start = c .before .before .before .before .before in (
+      subst (Below (length (start .args .labels .now))) (sym (start .pre .1)) (kept-below (start .args .labels .now)),
+      omega (arith, ap length (start .pre .1), kept-few (start .args .labels .now)),
+    )
 
 slice-relend-prefix-number-labels : tie.Need-slice-relend-prefix-number-labels
-slice-relend-prefix-number-labels c = omega (arith, ap length (c .before .before .before .before .before .before .before .before .pre .1), kept-few (c .before .before .before .before .before .before .before .before .args .labels .now), c .before .before .gather .kept .1 .1 .0)
+slice-relend-prefix-number-labels c =
+    let start = c .before .before .before .before .before .before .before .before in
+    omega (arith, ap length (start .pre .1), kept-few (start .args .labels .now), c .before .before .gather .kept .1 .1 .0)
 
 slice-aggregate-number-labels : tie.Need-slice-aggregate-number-labels
-slice-aggregate-number-labels c = sym (length-take-le (length (c .before .before .before .before .before .before .before .before .before .args .ks .now)) (c .before .before .before .gather .last .1 .1 .0) (omega (arith, ap length (c .before .before .before .before .before .before .before .before .before .pre .1), kept-few (c .before .before .before .before .before .before .before .before .before .args .labels .now), c .before .before .before .gather .kept .1 .1 .0)))
+slice-aggregate-number-labels c =
+    let start = c .before .before .before .before .before .before .before .before .before in
+    sym (length-take-le (length (start .args .ks .now)) (c .before .before .before .gather .last .1 .1 .0) (omega (arith, ap length (start .pre .1), kept-few (start .args .labels .now), c .before .before .before .gather .kept .1 .1 .0)))
 
 number-labels-requires : tie.Need-number-labels-requires
 number-labels-requires c κs =
-    let few = front-few (c .before .before .before .before .before .before .before .before .before .before .args .labels .now) (c .before .before .before .before .before .before .before .before .before .before .args .ks .now) (c .before .before .before .before .before .before .before .before .before .before .args .gs .now) (c .before .before .before .before .gather .last .1 .1 .0) (c .before .before .before .before .before .before .before .before .before .before .pre .1) (c .before .before .before .before .gather .ensures) in
+    let start = c .before .before .before .before .before .before .before .before .before .before in
+    let few = front-few (start .args .labels .now) (start .args .ks .now) (start .args .gs .now) (c .before .before .before .before .gather .last .1 .1 .0) (start .pre .1) (c .before .before .before .before .gather .ensures) in
     (omega arith, omega arith)
 
 same-length : tie.Need-same-length
@@ -36,12 +42,13 @@ same-length-2 c = search needs
 
 returns : tie.Need-returns
 returns c =
-    let labels = c .before .before .before .before .before .before .before .before .before .before .before .before .before .before .before .args .labels .now in
-    let ks = c .before .before .before .before .before .before .before .before .before .before .before .before .before .before .before .args .ks .now in
-    let gs = c .before .before .before .before .before .before .before .before .before .before .before .before .before .before .before .args .gs .now in
+    let start = c .before .before .before .before .before .before .before .before .before .before .before .before .before .before .before in
+    let labels = start .args .labels .now in
+    let ks = start .args .ks .now in
+    let gs = start .args .gs .now in
     let held = c .before .before .before .before .before .before .before .before .before .gather .last .1 .1 .0 in (
-      named-groups labels ks gs held (c .before .before .before .before .before .before .before .before .before .before .before .before .before .before .before .pre .1) (c .before .before .before .before .before .before .before .before .before .gather .ensures) (c .before .before .before .before .number-labels .ensures .0),
-      numbered-groups labels ks gs held (c .before .before .before .before .before .before .before .before .before .before .before .before .before .before .before .pre .1) (c .before .before .before .before .before .before .before .before .before .gather .ensures) (c .before .before .before .before .number-labels .ensures .1),
+      named-groups labels ks gs held (start .pre .1) (c .before .before .before .before .before .before .before .before .before .gather .ensures) (c .before .before .before .before .number-labels .ensures .0),
+      numbered-groups labels ks gs held (start .pre .1) (c .before .before .before .before .before .before .before .before .before .gather .ensures) (c .before .before .before .before .number-labels .ensures .1),
     )
 
 pub name-groups-spec : {M : Type 1} → statement M

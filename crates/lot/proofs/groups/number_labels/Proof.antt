@@ -16,14 +16,17 @@ fill-upward-requires c κs = search needs
 
 slice-reshare-prefix-number-by : tie.Need-slice-reshare-prefix-number-by
 slice-reshare-prefix-number-by c =
-    let few : c .before .before .fill-upward .result ≤ length (c .before .before .before .before .before .before .before .args .ns .now) = omega (arith, c .before .before .fill-upward .ensures .many, length-upward (c .before .before .before .before .before .before .before .args .labels .now)) in
+    let start = c .before .before .before .before .before .before .before in
+    let few : c .before .before .fill-upward .result ≤ length (start .args .ns .now) = omega (arith, c .before .before .fill-upward .ensures .many, length-upward (start .args .labels .now)) in
     omega (arith, filled-long _ (c .before .before .fill-upward .ensures) few)
 
 slice-aggregate-number-by : tie.Need-slice-aggregate-number-by
 slice-aggregate-number-by c = filled-part _ (c .before .before .before .fill-upward .ensures)
 
 number-by-requires : tie.Need-number-by-requires
-number-by-requires c κs = omega (arith, filled-part _ (c .before .before .before .before .fill-upward .ensures), c .before .before .before .before .fill-upward .ensures .many, length-upward (c .before .before .before .before .before .before .before .before .before .args .labels .now))
+number-by-requires c κs =
+    let start = c .before .before .before .before .before .before .before .before .before in
+    omega (arith, filled-part _ (c .before .before .before .before .fill-upward .ensures), c .before .before .before .before .fill-upward .ensures .many, length-upward (start .args .labels .now))
 
 same-length : tie.Need-same-length
 same-length c = search needs
@@ -32,10 +35,11 @@ same-length-2 : tie.Need-same-length-2
 same-length-2 c = search needs
 
 returns : tie.Need-returns
-returns c = (
-  c .before .before .before .before .before .before .before .fill-upward .ensures,
-  c .before .before .number-by .ensures ∙ ap (λ (ns : List ℕ). map (λ l. position l ns) (c .before .before .before .before .before .before .before .before .before .before .before .before .args .labels .now)) (filled-front _ (c .before .before .before .before .before .before .before .fill-upward .ensures)),
-)
+returns c =
+    let start = c .before .before .before .before .before .before .before .before .before .before .before .before in (
+      c .before .before .before .before .before .before .before .fill-upward .ensures,
+      c .before .before .number-by .ensures ∙ ap (λ (ns : List ℕ). map (λ l. position l ns) (start .args .labels .now)) (filled-front _ (c .before .before .before .before .before .before .before .fill-upward .ensures)),
+    )
 
 pub number-labels-spec : {M : Type 1} → statement M
 number-labels-spec =

@@ -31,8 +31,10 @@ outside-requires c κs = search needs
 
 returns : tie.Need-returns Inv-loop μ-loop
 returns c =
-    let p : Float → Bool = λ x. not (le (c .before .before .before .before .before .before .args .lo) x && le x (c .before .before .before .before .before .before .args .hi)) in
-    sym (any-here p (c .before .before .before .before .before .before .args .xs .now) (c .before .before .before .before .loop .i) nan (c .before .before .before .loop-test .taken) (sym (c .before .outside .ensures) ∙ c .if1 .taken)) ∙ c .before .before .before .before .loop .inv
+    let at-loop = c .before .before .before .before in
+    let start = at-loop .before .before in
+    let p : Float → Bool = λ x. not (le (start .args .lo) x && le x (start .args .hi)) in
+    sym (any-here p (start .args .xs .now) (at-loop .loop .i) nan (c .before .before .before .loop-test .taken) (sym (c .before .outside .ensures) ∙ c .if1 .taken)) ∙ at-loop .loop .inv
 
 add-i : tie.Need-add-i Inv-loop μ-loop
 add-i c = omega arith
@@ -42,13 +44,16 @@ loop-less c = omega arith
 
 loop-again : tie.Need-loop-again Inv-loop μ-loop
 loop-again c =
-    let p : Float → Bool = λ x. not (le (c .before .before .before .before .before .before .args .lo) x && le x (c .before .before .before .before .before .before .args .hi)) in
-    sym (any-later p (c .before .before .before .before .before .before .args .xs .now) (c .before .before .before .before .loop .i) nan (c .before .before .before .loop-test .taken) (sym (c .before .outside .ensures) ∙ c .if1 .left)) ∙ c .before .before .before .before .loop .inv
+    let at-loop = c .before .before .before .before in
+    let start = at-loop .before .before in
+    let p : Float → Bool = λ x. not (le (start .args .lo) x && le x (start .args .hi)) in
+    sym (any-later p (start .args .xs .now) (at-loop .loop .i) nan (c .before .before .before .loop-test .taken) (sym (c .before .outside .ensures) ∙ c .if1 .left)) ∙ at-loop .loop .inv
 
 returns-2 : tie.Need-returns-2 Inv-loop μ-loop
 returns-2 c =
-    let p : Float → Bool = λ x. not (le (c .before .before .before .args .lo) x && le x (c .before .before .before .args .hi)) in
-    sym (any-none p (c .before .before .before .args .xs .now) (c .before .loop .i) (c .loop-test .left)) ∙ c .before .loop .inv
+    let start = c .before .before .before in
+    let p : Float → Bool = λ x. not (le (start .args .lo) x && le x (start .args .hi)) in
+    sym (any-none p (start .args .xs .now) (c .before .loop .i) (c .loop-test .left)) ∙ c .before .loop .inv
 
 pub any-outside-spec : {M : Type 1} → statement M
 any-outside-spec =

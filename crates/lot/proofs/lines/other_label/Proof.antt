@@ -37,10 +37,12 @@ twice-requires c κs = search needs
 
 returns : tie.Need-returns Inv-loop μ-loop
 returns c =
-    let labels = c .before .before .before .before .before .before .before .args .labels .now in
-    let i = c .before .before .before .before .before .loop .i in
-    let passes : otherThan labels (c .before .before .before .before .before .before .before .args .l) (getD labels i 0) ≡ true = rw (ne-eqb _ _ (c .before .before .if1 .taken)) (sym (c .before .twice .ensures) ∙ c .if2 .taken) in
-    let at = sym (first-here (otherThan labels (c .before .before .before .before .before .before .before .args .l)) labels i 0 (c .before .before .before .before .loop-test .taken) passes) ∙ c .before .before .before .before .before .loop .inv .1 in
+    let at-loop = c .before .before .before .before .before in
+    let start = at-loop .before .before in
+    let labels = start .args .labels .now in
+    let i = at-loop .loop .i in
+    let passes : otherThan labels (start .args .l) (getD labels i 0) ≡ true = rw (ne-eqb _ _ (c .before .before .if1 .taken)) (sym (c .before .twice .ensures) ∙ c .if2 .taken) in
+    let at = sym (first-here (otherThan labels (start .args .l)) labels i 0 (c .before .before .before .before .loop-test .taken) passes) ∙ at-loop .loop .inv .1 in
     getD-either labels i 0 none (c .before .before .before .before .loop-test .taken) ∙ ap (λ (k : ℕ). getD labels k none) at
 
 add-i : tie.Need-add-i Inv-loop μ-loop
@@ -51,10 +53,12 @@ loop-less c = omega arith
 
 loop-again : tie.Need-loop-again Inv-loop μ-loop
 loop-again c =
-    let labels = c .before .before .before .before .before .args .labels .now in
-    let i = c .before .before .before .loop .i in
-    let later : otherThan labels (c .before .before .before .before .before .args .l) (getD labels i 0) ≡ false → i + 1 + firstAt (otherThan labels (c .before .before .before .before .before .args .l)) (drop (i + 1) labels) ≡ firstAt (otherThan labels (c .before .before .before .before .before .args .l)) labels =
-    λ e. sym (first-later (otherThan labels (c .before .before .before .before .before .args .l)) labels i 0 (c .before .before .loop-test .taken) e) ∙ c .before .before .before .loop .inv .1 in
+    let at-loop = c .before .before .before in
+    let start = at-loop .before .before in
+    let labels = start .args .labels .now in
+    let i = at-loop .loop .i in
+    let later : otherThan labels (start .args .l) (getD labels i 0) ≡ false → i + 1 + firstAt (otherThan labels (start .args .l)) (drop (i + 1) labels) ≡ firstAt (otherThan labels (start .args .l)) labels =
+    λ e. sym (first-later (otherThan labels (start .args .l)) labels i 0 (c .before .before .loop-test .taken) e) ∙ at-loop .loop .inv .1 in
     ⊎-elim
     (λ w. (omega arith, later (rw (ne-eqb _ _ (w .0 .taken)) (sym (w .1 .ensures) ∙ w .2 .left))))
     (λ w. (omega arith, later (rw (eq-eqb _ _ (w .left)))))
@@ -62,9 +66,10 @@ loop-again c =
 
 returns-2 : tie.Need-returns-2 Inv-loop μ-loop
 returns-2 c =
-    let labels = c .before .before .before .args .labels .now in
+    let start = c .before .before .before in
+    let labels = start .args .labels .now in
     let i = c .before .loop .i in
-    let end = sym (first-none (otherThan labels (c .before .before .before .args .l)) labels i (c .loop-test .left)) ∙ c .before .loop .inv .1 in
+    let end = sym (first-none (otherThan labels (start .args .l)) labels i (c .loop-test .left)) ∙ c .before .loop .inv .1 in
     sym (ap (λ (k : ℕ). getD labels k none) (sym end) ∙ List·getD-eq-default labels none (c .loop-test .left))
 
 pub other-label-spec : {M : Type 1} → statement M

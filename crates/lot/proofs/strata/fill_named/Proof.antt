@@ -19,7 +19,9 @@ abbrev μ-loop : tie.MeasureT-loop
 μ-loop held ns₀ k₀ i₀ i-end ns k i = length held - i
 
 loop-holds : tie.Need-loop-holds Inv-loop μ-loop
-loop-holds c = (omega arith, refl, naming-none (c .before .before .args .held .now) (c .before .before .args .ns .now))
+loop-holds c =
+    let start = c .before .before in
+    (omega arith, refl, naming-none (start .args .held .now) (start .args .ns .now))
 
 mul-note : tie.Need-mul-note Inv-loop μ-loop
 mul-note c = omega arith
@@ -28,7 +30,10 @@ shared-slice-read-note : tie.Need-shared-slice-read-note Inv-loop μ-loop
 shared-slice-read-note c = omega arith
 
 note-requires : tie.Need-note-requires Inv-loop μ-loop
-note-requires c κs = omega (arith, naming-room (c .before .before .before .before .before .before .args .held .now) (c .before .before .before .before .before .before .args .ns .now) (c .before .before .before .loop .i) (omega arith) (c .before .before .before .loop .inv .2))
+note-requires c κs =
+    let at-loop = c .before .before .before in
+    let start = at-loop .before .before .before in
+    omega (arith, naming-room (start .args .held .now) (start .args .ns .now) (at-loop .loop .i) (omega arith) (at-loop .loop .inv .2))
 
 add-i : tie.Need-add-i Inv-loop μ-loop
 add-i c = omega arith
@@ -37,11 +42,13 @@ loop-less : tie.Need-loop-less Inv-loop μ-loop
 loop-less c = omega arith
 
 loop-again : tie.Need-loop-again Inv-loop μ-loop
-loop-again c = (
-  omega arith,
-  c .before .before .note .kept .0 ∙ c .before .before .before .before .before .before .loop .inv .1,
-  naming-turn (c .before .before .before .before .before .before .before .before .before .args .held .now) (c .before .before .before .before .before .before .before .before .before .args .ns .now) (c .before .before .before .before .before .before .loop .i) (c .before .before .before .before .before .loop-test .taken) (c .before .before .before .before .before .before .loop .inv .2) (c .before .before .note .ensures),
-)
+loop-again c =
+    let at-loop = c .before .before .before .before .before .before in
+    let start = at-loop .before .before .before in (
+      omega arith,
+      c .before .before .note .kept .0 ∙ at-loop .loop .inv .1,
+      naming-turn (start .args .held .now) (start .args .ns .now) (at-loop .loop .i) (c .before .before .before .before .before .loop-test .taken) (at-loop .loop .inv .2) (c .before .before .note .ensures),
+    )
 
 same-length : tie.Need-same-length Inv-loop μ-loop
 same-length c = c .before .loop .inv .1

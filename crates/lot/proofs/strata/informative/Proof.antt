@@ -37,9 +37,11 @@ loop-less c = omega arith
 
 loop-again : tie.Need-loop-again Inv-loop μ-loop
 loop-again c =
-    let ss = c .before .before .before .before .before .before .args .ss .now in
-    let gs = c .before .before .before .before .before .before .args .gs .now in
-    let k = c .before .before .before .loop .k in
+    let at-loop = c .before .before .before in
+    let start = at-loop .before .before .before in
+    let ss = start .args .ss .now in
+    let gs = start .args .gs .now in
+    let k = at-loop .loop .k in
     let p : ℕ → Bool = λ j. informs ss gs (length ss) (getD ss j 0) in
     ⊎-elim
     (λ w. (omega arith, omega arith, omega (arith, range-count-yes p k (length ss) (c .before .before .loop-test .taken) (sym (c .before .informs .ensures) ∙ w .0 .taken))))
@@ -48,8 +50,9 @@ loop-again c =
 
 returns : tie.Need-returns Inv-loop μ-loop
 returns c =
-    let ss = c .before .before .before .before .args .ss .now in
-    let gs = c .before .before .before .before .args .gs .now in
+    let start = c .before .before .before .before in
+    let ss = start .args .ss .now in
+    let gs = start .args .gs .now in
     omega (arith, range-count-none (λ j. informs ss gs (length ss) (getD ss j 0)) (c .before .loop .k) (length ss) (c .loop-test .left))
 
 pub informative-spec : {M : Type 1} → statement M

@@ -48,12 +48,14 @@ shared-slice-read-if2 c = omega arith
 
 returns : tie.Need-returns Inv-loop μ-loop
 returns c =
-    let ss = c .before .before .before .before .before .before .before .before .args .ss .now in
-    let gs = c .before .before .before .before .before .before .before .before .args .gs .now in
-    let k = c .before .before .before .before .before .before .before .before .args .k in
-    let b = c .before .before .before .before .before .loop .b in
+    let at-loop = c .before .before .before .before .before in
+    let start = at-loop .before .before .before in
+    let ss = start .args .ss .now in
+    let gs = start .args .gs .now in
+    let k = start .args .k in
+    let b = at-loop .loop .b in
     let found : other ss gs (getD ss k 0) (getD gs k 0) b ≡ true = rw (eq-eqb _ _ (c .before .before .if1 .taken), ne-eqb _ _ (c .if2 .taken)) in
-    sym (range-any-here (other ss gs (getD ss k 0) (getD gs k 0)) b (length ss) (c .before .before .before .before .loop-test .taken) found) ∙ c .before .before .before .before .before .loop .inv .1 ∙ informs-other ss gs (length ss) k (c .before .before .before .before .before .before .before .before .pre .1)
+    sym (range-any-here (other ss gs (getD ss k 0) (getD gs k 0)) b (length ss) (c .before .before .before .before .loop-test .taken) found) ∙ at-loop .loop .inv .1 ∙ informs-other ss gs (length ss) k (start .pre .1)
 
 add-b : tie.Need-add-b Inv-loop μ-loop
 add-b c = omega arith
@@ -63,12 +65,14 @@ loop-less c = omega arith
 
 loop-again : tie.Need-loop-again Inv-loop μ-loop
 loop-again c =
-    let ss = c .before .before .before .before .before .before .args .ss .now in
-    let gs = c .before .before .before .before .before .before .args .gs .now in
-    let k = c .before .before .before .before .before .before .args .k in
-    let b = c .before .before .before .loop .b in
+    let at-loop = c .before .before .before in
+    let start = at-loop .before .before .before in
+    let ss = start .args .ss .now in
+    let gs = start .args .gs .now in
+    let k = start .args .k in
+    let b = at-loop .loop .b in
     let later : other ss gs (getD ss k 0) (getD gs k 0) b ≡ false → any (other ss gs (getD ss k 0) (getD gs k 0)) (range (b + 1) (length ss)) ≡ any (other ss gs (getD ss k 0) (getD gs k 0)) (range 0 (length ss)) =
-    λ e. sym (range-any-later (other ss gs (getD ss k 0) (getD gs k 0)) b (length ss) (c .before .before .loop-test .taken) e) ∙ c .before .before .before .loop .inv .1 in
+    λ e. sym (range-any-later (other ss gs (getD ss k 0) (getD gs k 0)) b (length ss) (c .before .before .loop-test .taken) e) ∙ at-loop .loop .inv .1 in
     ⊎-elim
     (λ w. (omega arith, later (rw (eq-eqb _ _ (w .0 .taken), eq-eqb _ _ (w .2 .left)))))
     (λ w. (omega arith, later (rw (ne-eqb _ _ (w .left)))))
@@ -76,10 +80,11 @@ loop-again c =
 
 returns-2 : tie.Need-returns-2 Inv-loop μ-loop
 returns-2 c =
-    let ss = c .before .before .before .before .args .ss .now in
-    let gs = c .before .before .before .before .args .gs .now in
-    let k = c .before .before .before .before .args .k in
-    sym (range-any-none (other ss gs (getD ss k 0) (getD gs k 0)) (c .before .loop .b) (length ss) (c .loop-test .left)) ∙ c .before .loop .inv .1 ∙ informs-other ss gs (length ss) k (c .before .before .before .before .pre .1)
+    let start = c .before .before .before .before in
+    let ss = start .args .ss .now in
+    let gs = start .args .gs .now in
+    let k = start .args .k in
+    sym (range-any-none (other ss gs (getD ss k 0) (getD gs k 0)) (c .before .loop .b) (length ss) (c .loop-test .left)) ∙ c .before .loop .inv .1 ∙ informs-other ss gs (length ss) k (start .pre .1)
 
 pub informs-spec : {M : Type 1} → statement M
 informs-spec =

@@ -10,13 +10,17 @@ use Rattle.lot.proofs.strata.note.Statement.{statement}
 use Rattle.lot.proofs.strata.note.Tie as tie
 
 returns : tie.Need-returns
-returns c = note-none (c .before .before .args .ns .now) (c .before .before .args .k) (c .before .before .args .s) (c .before .before .pre) (c .if1 .taken)
+returns c =
+    let start = c .before .before in
+    note-none (start .args .ns .now) (start .args .k) (start .args .s) (start .pre) (c .if1 .taken)
 
 slice-reshare-prefix-stands : tie.Need-slice-reshare-prefix-stands
 slice-reshare-prefix-stands c = search needs
 
 slice-aggregate-stands : tie.Need-slice-aggregate-stands
-slice-aggregate-stands c = sym (length-take-le (c .before .before .before .args .k) (c .before .before .before .args .ns .now) (omega arith))
+slice-aggregate-stands c =
+    let start = c .before .before .before in
+    sym (length-take-le (start .args .k) (start .args .ns .now) (omega arith))
 
 stands-requires : tie.Need-stands-requires
 stands-requires c κs = search needs
@@ -25,7 +29,9 @@ same-length : tie.Need-same-length
 same-length c = search needs
 
 returns-2 : tie.Need-returns-2
-returns-2 c = note-seen (c .before .before .before .before .before .args .ns .now) (c .before .before .before .before .before .args .k) (c .before .before .before .before .before .args .s) (c .before .before .before .before .before .pre) (c .before .before .before .if1 .left) (sym (c .before .stands .ensures) ∙ c .if2 .taken)
+returns-2 c =
+    let start = c .before .before .before .before .before in
+    note-seen (start .args .ns .now) (start .args .k) (start .args .s) (start .pre) (c .before .before .before .if1 .left) (sym (c .before .stands .ensures) ∙ c .if2 .taken)
 
 mul-ns : tie.Need-mul-ns
 mul-ns c = search needs
@@ -40,7 +46,9 @@ same-length-2 : tie.Need-same-length-2
 same-length-2 c = search needs
 
 returns-3 : tie.Need-returns-3
-returns-3 c = note-new (c .before .before .before .before .before .args .ns .now) (c .before .before .before .before .before .args .k) (c .before .before .before .before .before .args .s) (c .before .before .before .before .before .pre) (c .before .before .before .if1 .left) (sym (c .before .stands .ensures) ∙ c .if2 .left)
+returns-3 c =
+    let start = c .before .before .before .before .before in
+    note-new (start .args .ns .now) (start .args .k) (start .args .s) (start .pre) (c .before .before .before .if1 .left) (sym (c .before .stands .ensures) ∙ c .if2 .left)
 
 pub note-spec : {M : Type 1} → statement M
 note-spec =

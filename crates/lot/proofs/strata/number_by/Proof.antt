@@ -29,9 +29,11 @@ slice-read-s c = omega (arith, c .before .before .loop .inv .written .long)
 
 cast-held : tie.Need-cast-held Inv-loop μ-loop
 cast-held c =
-    let ns = c .before .before .before .before .before .before .args .ns .now in
-    let held = c .before .before .before .before .before .before .args .held .now in
-    omega (arith, next-fits held ns (c .before .before .before .loop .inv) (c .before .before .loop-test .taken), ap length (c .before .before .before .before .before .before .pre .0), length-named held)
+    let at-loop = c .before .before .before in
+    let start = at-loop .before .before .before in
+    let ns = start .args .ns .now in
+    let held = start .args .held .now in
+    omega (arith, next-fits held ns (at-loop .loop .inv) (c .before .before .loop-test .taken), ap length (start .pre .0), length-named held)
 
 mul-held : tie.Need-mul-held Inv-loop μ-loop
 mul-held c = omega (arith, c .before .before .before .loop .inv .written .long)
@@ -41,9 +43,11 @@ slice-write-held c = omega (arith, c .before .before .before .loop .inv .written
 
 add-next : tie.Need-add-next Inv-loop μ-loop
 add-next c =
-    let ns = c .before .before .before .before .before .before .args .ns .now in
-    let held = c .before .before .before .before .before .before .args .held .now in
-    omega (arith, next-fits held ns (c .before .before .before .loop .inv) (c .before .before .loop-test .taken), ap length (c .before .before .before .before .before .before .pre .0), length-named held)
+    let at-loop = c .before .before .before in
+    let start = at-loop .before .before .before in
+    let ns = start .args .ns .now in
+    let held = start .args .held .now in
+    omega (arith, next-fits held ns (at-loop .loop .inv) (c .before .before .loop-test .taken), ap length (start .pre .0), length-named held)
 
 place-of-requires : tie.Need-place-of-requires Inv-loop μ-loop
 place-of-requires c κs = search needs
@@ -51,9 +55,11 @@ place-of-requires c κs = search needs
 cast-held-2 : tie.Need-cast-held-2 Inv-loop μ-loop
 unfolding position
 cast-held-2 c =
-    let ns = c .before .before .before .before .before .before .before .args .ns .now in
-    let held = c .before .before .before .before .before .before .before .args .held .now in
-    omega (arith, c .place-of .ensures, first-within (eqb (getD (c .before .before .before .before .loop .held) (c .before .before .before .before .loop .k) 0)) ns, ap length (c .before .before .before .before .before .before .before .pre .0), length-named held)
+    let at-loop = c .before .before .before .before in
+    let start = at-loop .before .before .before in
+    let ns = start .args .ns .now in
+    let held = start .args .held .now in
+    omega (arith, c .place-of .ensures, first-within (eqb (getD (at-loop .loop .held) (at-loop .loop .k) 0)) ns, ap length (start .pre .0), length-named held)
 
 mul-held-2 : tie.Need-mul-held-2 Inv-loop μ-loop
 mul-held-2 c = omega (arith, c .before .before .before .before .loop .inv .written .long)
@@ -69,21 +75,24 @@ loop-less c = omega arith
 
 loop-again : tie.Need-loop-again Inv-loop μ-loop
 loop-again c =
-    let ns = c .before .before .before .before .before .before .args .ns .now in
-    let held = c .before .before .before .before .before .before .args .held .now in
+    let at-loop = c .before .before .before in
+    let start = at-loop .before .before .before in
+    let ns = start .args .ns .now in
+    let held = start .args .held .now in
     ⊎-elim
-    (λ w. numbering-alone held ns (c .before .before .before .loop .inv) (c .before .before .loop-test .taken) (w .0 .taken) (w .1) (w .2))
-    (λ w. numbering-named held ns (c .before .before .before .loop .inv) (c .before .before .loop-test .taken) (w .0 .left) (w .1 .ensures) (w .2) (w .3))
+    (λ w. numbering-alone held ns (at-loop .loop .inv) (c .before .before .loop-test .taken) (w .0 .taken) (w .1) (w .2))
+    (λ w. numbering-named held ns (at-loop .loop .inv) (c .before .before .loop-test .taken) (w .0 .left) (w .1 .ensures) (w .2) (w .3))
     (c .if1 .came)
 
 same-length : tie.Need-same-length Inv-loop μ-loop
 same-length c = c .before .loop .inv .written .long
 
 returns : tie.Need-returns Inv-loop μ-loop
-returns c = (
-  numbering-all (c .before .before .before .before .args .held .now) (c .before .before .before .before .args .ns .now) (c .before .loop .inv) (c .loop-test .left) (c .before .before .before .before .pre .0),
-  numbering-count (c .before .before .before .before .args .held .now) (c .before .before .before .before .args .ns .now) (c .before .loop .inv) (c .loop-test .left) (c .before .before .before .before .pre .0),
-)
+returns c =
+    let start = c .before .before .before .before in (
+      numbering-all (start .args .held .now) (start .args .ns .now) (c .before .loop .inv) (c .loop-test .left) (start .pre .0),
+      numbering-count (start .args .held .now) (start .args .ns .now) (c .before .loop .inv) (c .loop-test .left) (start .pre .0),
+    )
 
 pub number-by-spec : {M : Type 1} → statement M
 number-by-spec =

@@ -13,14 +13,17 @@ fill-named-requires c κs = search needs
 
 slice-reshare-prefix-number-by : tie.Need-slice-reshare-prefix-number-by
 slice-reshare-prefix-number-by c =
-    let few : c .before .before .before .fill-named .result ≤ length (c .before .before .before .before .before .before .before .before .args .ns .now) = omega (arith, c .before .before .before .fill-named .ensures .many, length-named (c .before .before .before .before .before .before .before .before .args .held .now)) in
+    let start = c .before .before .before .before .before .before .before .before in
+    let few : c .before .before .before .fill-named .result ≤ length (start .args .ns .now) = omega (arith, c .before .before .before .fill-named .ensures .many, length-named (start .args .held .now)) in
     omega (arith, filled-long _ (c .before .before .before .fill-named .ensures) few)
 
 slice-aggregate-number-by : tie.Need-slice-aggregate-number-by
 slice-aggregate-number-by c = filled-part _ (c .before .before .before .before .fill-named .ensures)
 
 number-by-requires : tie.Need-number-by-requires
-number-by-requires c κs = (filled-front _ (c .before .before .before .before .fill-named .ensures), c .before .before .before .before .before .before .before .before .before .pre .0)
+number-by-requires c κs =
+    let start = c .before .before .before .before .before .before .before .before .before in
+    (filled-front _ (c .before .before .before .before .fill-named .ensures), start .pre .0)
 
 same-length : tie.Need-same-length
 same-length c = search needs

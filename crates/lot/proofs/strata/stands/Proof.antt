@@ -14,7 +14,9 @@ place-of-requires c κs = search needs
 
 returns : tie.Need-returns
 unfolding stands position
-returns c = ap (λ (p : ℕ). ltb p (length (c .before .before .args .xs .now))) (c .place-of .ensures) ∙ sym (any-first (eqb (c .before .before .args .x)) (c .before .before .args .xs .now))
+returns c =
+    let start = c .before .before in
+    ap (λ (p : ℕ). ltb p (length (start .args .xs .now))) (c .place-of .ensures) ∙ sym (any-first (eqb (start .args .x)) (start .args .xs .now))
 
 pub stands-spec : {M : Type 1} → statement M
 stands-spec = tie.close (tie.spec place-of-requires returns)

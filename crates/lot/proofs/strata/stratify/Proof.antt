@@ -11,28 +11,38 @@ use Rattle.lot.proofs.strata.stratify.Statement.{statement}
 use Rattle.lot.proofs.strata.stratify.Tie as tie
 
 gather-requires : tie.Need-gather-requires
-gather-requires c κs = (c .before .before .before .before .before .pre .0 (c .before .if1 .taken), c .before .before .before .before .before .pre .2)
+gather-requires c κs =
+    let start = c .before .before .before .before .before in
+    (start .pre .0 (c .before .if1 .taken), start .pre .2)
 
 slice-relend-prefix-number : tie.Need-slice-relend-prefix-number
 slice-relend-prefix-number c = search needs
 
 slice-aggregate-number : tie.Need-slice-aggregate-number
-slice-aggregate-number c = sym (length-take-le (length (c .before .before .before .before .before .before .before .before .before .args .ks .now)) (c .before .before .before .gather .last .1 .1 .0) (omega (arith, c .before .before .before .gather .kept .1 .1 .0, c .before .before .before .before .before .before .before .before .before .pre .2)))
+slice-aggregate-number c =
+    let start = c .before .before .before .before .before .before .before .before .before in
+    sym (length-take-le (length (start .args .ks .now)) (c .before .before .before .gather .last .1 .1 .0) (omega (arith, c .before .before .before .gather .kept .1 .1 .0, start .pre .2)))
 
 number-requires : tie.Need-number-requires
-number-requires c κs = omega (arith, length-take-le (length (c .before .before .before .before .before .before .before .before .before .args .ks .now)) (c .before .before .before .gather .last .1 .1 .0) (omega (arith, c .before .before .before .gather .kept .1 .1 .0, c .before .before .before .before .before .before .before .before .before .pre .2)), c .before .before .before .before .before .before .before .before .before .pre .1)
+number-requires c κs =
+    let start = c .before .before .before .before .before .before .before .before .before in
+    omega (arith, length-take-le (length (start .args .ks .now)) (c .before .before .before .gather .last .1 .1 .0) (omega (arith, c .before .before .before .gather .kept .1 .1 .0, start .pre .2)), start .pre .1)
 
 same-length : tie.Need-same-length
 same-length c = search needs
 
 returns : tie.Need-returns
-returns c = stratified-numbered (c .before .before .before .before .before .before .before .before .before .before .before .before .args .given .now) (c .before .before .before .before .before .before .before .before .before .before .before .before .args .ks .now) (c .before .before .before .before .before .before .before .before .before .before .before .before .args .out .now) (c .before .before .before .before .before .before .before .before .if1 .taken) (c .before .before .before .before .before .before .gather .ensures) (c .before .before .number .ensures .0) (c .before .before .number .ensures .1)
+returns c =
+    let start = c .before .before .before .before .before .before .before .before .before .before .before .before in
+    stratified-numbered (start .args .given .now) (start .args .ks .now) (start .args .out .now) (c .before .before .before .before .before .before .before .before .if1 .taken) (c .before .before .before .before .before .before .gather .ensures) (c .before .before .number .ensures .0) (c .before .before .number .ensures .1)
 
 slice-relend-prefix-clear-u16 : tie.Need-slice-relend-prefix-clear-u16
 slice-relend-prefix-clear-u16 c = search needs
 
 slice-aggregate-clear-u16 : tie.Need-slice-aggregate-clear-u16
-slice-aggregate-clear-u16 c = sym (length-take-le (length (c .before .before .before .before .before .args .ks .now)) (c .before .before .before .before .before .args .out .now) (c .before .before .before .before .before .pre .2))
+slice-aggregate-clear-u16 c =
+    let start = c .before .before .before .before .before in
+    sym (length-take-le (length (start .args .ks .now)) (start .args .out .now) (start .pre .2))
 
 clear-u16-requires : tie.Need-clear-u16-requires
 clear-u16-requires c κs = search needs
@@ -41,7 +51,9 @@ same-length-2 : tie.Need-same-length-2
 same-length-2 c = search needs
 
 returns-2 : tie.Need-returns-2
-returns-2 c = stratified-one (c .before .before .before .before .before .before .before .before .args .given .now) (c .before .before .before .before .before .before .before .before .args .ks .now) (c .before .before .before .before .before .before .before .before .args .out .now) (c .before .before .before .before .if1 .left) (c .before .before .before .before .before .before .before .before .pre .2) (c .before .before .clear-u16 .ensures)
+returns-2 c =
+    let start = c .before .before .before .before .before .before .before .before in
+    stratified-one (start .args .given .now) (start .args .ks .now) (start .args .out .now) (c .before .before .before .before .if1 .left) (start .pre .2) (c .before .before .clear-u16 .ensures)
 
 pub stratify-spec : {M : Type 1} → statement M
 stratify-spec =
