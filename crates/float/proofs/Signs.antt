@@ -18,7 +18,7 @@ use Rattle.float.specs.Value.{sign, SignedLe}
 use Rattle.float.specs.Order.{magnitude, larger, signum}
 use Rattle.float.proofs.Tests.{fails, either-way}
 use Rattle.float.proofs.Signed.{SignedEq}
-use Rattle.float.proofs.Value.{first-zero, unique, zeroOf, zero-fits}
+use Rattle.float.proofs.Value.{first-zero, sign-fits, unique, zeroOf, zero-fits}
 use Rattle.float.proofs.Order.{le-over, lt-over, eq-over, lt-value}
 use Rattle.float.proofs.Rounding.{round-own}
 use Rattle.float.proofs.Sum.{add-at, add-neg-zero}
@@ -61,13 +61,6 @@ zero-add-abs f m e p =
     ∙ ap (λ (z : ℕ). round f false z (down e)) (zero-add (m * up e))
     ∙ round-own f (fin false m e) false (m * up e) (down e) (down-pos e) p (refl, refl)
 
-pub abs-fits : (f : Format) (x : Float) → T (fits f x) → T (fits f (magnitude x))
-unfolding magnitude fits
-abs-fits f nan p = tt
-abs-fits f (inf s) p = tt
-abs-fits f (fin s zero e) p = p
-abs-fits f (fin s (suc m) e) p = p
-
 abs-of-zero : (s : Bool) → sub binary64 zero⁺ (zeroOf s) ≡ magnitude (zeroOf s)
 unfolding sub ofBits magnitude
 abs-of-zero true = refl
@@ -78,7 +71,7 @@ unfolding sub neg ofBits magnitude
 abs-below nan p h = absurd (unfold le in h)
 abs-below (inf true) p h = unfold add in refl
 abs-below (inf false) p h = absurd (unfold le in h)
-abs-below (fin true m e) p h = zero-add-abs binary64 m e (abs-fits binary64 (fin true m e) p)
+abs-below (fin true m e) p h = zero-add-abs binary64 m e (sign-fits binary64 true false m e p)
 abs-below (fin false m e) p h =
     let z = zero-is binary64 (fin false m e) p (eq-zero false m e .1 (le-zero false m e .0 h, omega arith)) in
     ap (sub binary64 zero⁺) (z .1) ∙ abs-of-zero (z .0) ∙ sym (ap magnitude (z .1))
