@@ -1,0 +1,6 @@
+-- The laws of the ways.
+pub mod Extra
+pub mod Distinct
+pub mod Dealt
+pub mod Every
+pub mod Level
