@@ -147,6 +147,11 @@ module _ {A : Type 0} where
   length-rows-sum (suc n) f =
       length-append (rows n f) (f n) ∙ ap (λ (k : ℕ). k + length (f n)) (length-rows-sum n f) ∙ sym (addUp-table (λ i. length (f i)) n)
 
+  pub rows-longer : (m n : ℕ) (f : ℕ → List A) → m ≤ n → length (rows m f) ≤ length (rows n f)
+  unfolding rows
+  rows-longer m zero f h = let e : m ≡ 0 = omega arith in rw e (le-refl _)
+  rows-longer m (suc n) f h = elim (ℕ-discrete m (suc n)) [ yes e ↦ rw e (le-refl _) | no d ↦ omega (arith, rows-longer m n f (omega arith), length-append (rows n f) (f n)) ]
+
 -- ---- members of a list without repeats, upward
 
 up-in : (a b : Bool) (x y : ℕ) (ys rest : List ℕ) → (b ≡ true → x ≡ y) → Member x rest → Member x (cond a (x ∷ y ∷ ys) (cond b (y ∷ ys) (y ∷ rest)))

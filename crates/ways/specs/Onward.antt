@@ -1,7 +1,7 @@
--- Section 6: the walk as the code holds it, with the counts left in one list, a row of g numbers for each stratum. Definitions only.
+-- Section 6: the walk as the code holds it, with the counts left in one list, a row of g numbers for each stratum. Definitions and statements only.
 use Prim.Native.Nat.{ℕ, _+_, _*_, _/_, _%_, _≤_, _<_}
 use mathlib.Core.Bool.{Bool}
-use mathlib.Core.List.{List, _++_}
+use mathlib.Core.List.{List, _++_, List·Memᴰ as Member}
 use lib.ListN.{length, getD, take, drop}
 use Rattle.lists.specs.Ranges.{table}
 use Rattle.lists.specs.Filters.{countIf}
@@ -27,3 +27,7 @@ onward g ss counts k = deal g (drop k ss) (leftIn g counts)
 -- how many of them pass the test p, as whole ways: the first k labels of `way`, then the others
 unfoldable pub reached : (List ℕ → Bool) → ℕ → List ℕ → List ℕ → List ℕ → ℕ → ℕ
 reached p g ss counts way k = countIf (λ rest. p (take k way ++ rest)) (onward g ss counts k)
+
+-- P holds of each of them, as a whole way
+unfoldable pub Ahead : (List ℕ → Type 0) → ℕ → List ℕ → List ℕ → List ℕ → ℕ → Type 0
+Ahead P g ss counts way k = (rest : List ℕ) → Member rest (onward g ss counts k) → P (take k way ++ rest)
