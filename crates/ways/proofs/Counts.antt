@@ -7,9 +7,10 @@ use native.Mathlib.Nat.{div-add-mod'}
 use native.Mathlib.Omega.{arith}
 use native.Mathlib.Decide.{ℕ-discrete, decLt}
 use lib.Arith.{digits-div, digits-mod}
-use lib.ListN.{length, getD, drop, set, replicate, length-set, List·getD-eq-default}
+use lib.ListN.{length, getD, drop, set, replicate, length-set, length-drop, List·getD-eq-default}
 use lib.Seq.{getD-set-same, getD-set-other, ext-getD}
 use Rattle.lists.specs.Ranges.{table}
+use Rattle.lists.specs.Numbers.{Below}
 use Rattle.lists.specs.Writes.{cleared}
 use Rattle.lists.proofs.Ranges.{length-table, getD-table, table-ext}
 use Rattle.lists.proofs.Writes.{replicate-table}
@@ -17,7 +18,7 @@ use Rattle.lot.specs.Way.{mark, tally}
 use Rattle.ways.specs.Ways.{spend, deal, waysOf}
 use Rattle.ways.specs.Onward.{leftIn, HasRows, tallies, onward}
 use Rattle.ways.proofs.Dealt.{mark-same, mark-stratum, mark-label, mark-cases, deal-cong}
-use Rattle.ways.proofs.Number.{tally-step, tally-end}
+use Rattle.ways.proofs.Number.{tally-step, tally-end, tally-le}
 
 -- two places of the rows are one only where stratum and label are the same
 place-one : (g s s₀ j j₀ : ℕ) → j < g → j₀ < g → s * g + j ≡ s₀ * g + j₀ → (s ≡ s₀) × (j ≡ j₀)
@@ -76,12 +77,12 @@ module _ (g s j : ℕ) (ss labels : List ℕ) (n : ℕ) (h : j < g) (b : s * g +
 
 -- with sample k counted
 pub tallies-step : (g : ℕ) (ss labels : List ℕ) (n k : ℕ) → length labels ≡ length ss → k < length ss → getD labels k 0 < g → getD ss k 0 * g + getD labels k 0 < n
-    → {counts : List ℕ} {place x : ℕ} → counts ≡ tallies g (drop (k + 1) ss) (drop (k + 1) labels) n → place ≡ getD ss k 0 * g + getD labels k 0 → x ≡ getD counts place 0 + 1
-    → set counts place x ≡ tallies g (drop k ss) (drop k labels) n
-tallies-step g ss labels n k fits h hj b {counts} {place} {x} inv e f =
+    → {counts : List ℕ} {place : ℕ} → counts ≡ tallies g (drop (k + 1) ss) (drop (k + 1) labels) n → place ≡ getD ss k 0 * g + getD labels k 0
+    → set counts place (getD counts place 0 + 1) ≡ tallies g (drop k ss) (drop k labels) n
+tallies-step g ss labels n k fits h hj b {counts} {place} inv e =
     let t = tallies g (drop (k + 1) ss) (drop (k + 1) labels) n in
     let long = length-set t place (getD t place 0 + 1) ∙ length-tallies g (drop (k + 1) ss) (drop (k + 1) labels) n in
-    rw (f, inv) (ext-getD 0 (set t place (getD t place 0 + 1)) (tallies g (drop k ss) (drop k labels) n) (long ∙ sym (length-tallies g (drop k ss) (drop k labels) n))
+    rw inv (ext-getD 0 (set t place (getD t place 0 + 1)) (tallies g (drop k ss) (drop k labels) n) (long ∙ sym (length-tallies g (drop k ss) (drop k labels) n))
     (λ p l. let l′ : p < n = omega (arith, long) in
     more-at g (getD ss k 0) (getD labels k 0) (drop (k + 1) ss) (drop (k + 1) labels) n hj b p l′ place e
     ∙ sym (tally-step ss labels k fits h (p / g) (p % g))
@@ -120,3 +121,56 @@ left-tallies g ss labels counts rows s j h = elim (decLt (s * g + j) (length cou
 pub onward-ways : (g : ℕ) (ss labels counts : List ℕ) → HasRows g ss counts → {filled : List ℕ} → filled ≡ tallies g ss labels (length counts) → onward g ss filled 0 ≡ waysOf g ss labels
 unfolding onward waysOf
 onward-ways g ss labels counts rows {filled} e = ap (λ (t : List ℕ). deal g ss (leftIn g t)) e ∙ deal-cong g ss _ _ (left-tallies g ss labels counts rows)
+
+-- ---- the loop of `fill_counts`: k goes down, and the rows count the samples from k on
+
+pub record Filling (g : ℕ) (ss labels counts₀ counts : List ℕ) (k : ℕ) : Type 0 where
+  pub fits : length labels ≡ length ss
+  pub below : Below g labels
+  pub rows : HasRows g ss counts₀
+  pub most : k ≤ length ss
+  pub long : length counts ≡ length counts₀
+  pub held : counts ≡ tallies g (drop k ss) (drop k labels) (length counts₀)
+
+pub filling-none : (g : ℕ) (ss labels counts : List ℕ) → length labels ≡ length ss → Below g labels → HasRows g ss counts → counts ≡ cleared 0 counts
+    → Filling g ss labels counts counts (length ss)
+filling-none g ss labels counts fits below rows zeros =
+    record { fits = fits; below = below; rows = rows; most = omega arith; long = refl; held = zeros ∙ tallies-none g ss labels counts (length ss) refl }
+
+module _ {g : ℕ} {ss labels counts₀ counts : List ℕ} {k : ℕ} (f : Filling g ss labels counts₀ counts k) where
+  -- sample k - 1, of stratum s and label j, is counted in its stratum's row, where at most the number of samples stands
+  pub filling-place : {s j : ℕ} → 0 < k → s ≡ getD ss (k - 1) 0 → j ≡ getD labels (k - 1) 0 → s * g + j < length counts₀
+  unfolding HasRows
+  filling-place {s} {j} some es ej =
+      let fits = f .fits in
+      let most = f .most in
+      omega (arith, f .rows (k - 1) (omega arith), f .below (k - 1) (omega arith), ap (λ (n : ℕ). n * g) es)
+
+  pub filling-small : (p : ℕ) → p < length counts₀ → getD counts p 0 ≤ length ss
+  filling-small p h = omega (
+    arith,
+    ap (λ (t : List ℕ). getD t p 0) (f .held),
+    getD-tallies g (drop k ss) (drop k labels) (length counts₀) p h,
+    tally-le (drop k ss) (drop k labels) (p / g) (p % g),
+    length-drop k ss,
+  )
+
+  pub filling-next : {s j : ℕ} → 0 < k → s ≡ getD ss (k - 1) 0 → j ≡ getD labels (k - 1) 0
+      → Filling g ss labels counts₀ (set counts (s * g + j) (getD counts (s * g + j) 0 + 1)) (k - 1)
+  filling-next {s} {j} some es ej =
+      let back : k ≡ k - 1 + 1 = omega arith in
+      let fits = f .fits in
+      let most = f .most in record {
+        fits = fits;
+        below = f .below;
+        rows = f .rows;
+        most = omega arith;
+        long = length-set counts (s * g + j) (getD counts (s * g + j) 0 + 1) ∙ f .long;
+        held = tallies-step g ss labels (length counts₀) (k - 1) fits (omega arith) (f .below (k - 1) (omega arith)) (filling-place some refl refl)
+            (f .held ∙ ap (λ (i : ℕ). tallies g (drop i ss) (drop i labels) (length counts₀)) back) (ap₂ (λ (a b : ℕ). a * g + b) es ej);
+      }
+
+  pub filling-all : k ≤ 0 → counts ≡ tallies g ss labels (length counts₀)
+  filling-all none =
+      let z : k ≡ 0 = omega arith in
+      f .held ∙ ap (λ (i : ℕ). tallies g (drop i ss) (drop i labels) (length counts₀)) z

@@ -138,3 +138,23 @@ unfolding tally
 tally-le [] labels s j = omega arith
 tally-le (s₀ ∷ ss) [] s j = omega arith
 tally-le (s₀ ∷ ss) (j₀ ∷ l) s j = ⊎-elim (λ w. omega (arith, w .2, tally-le ss l s j)) (λ z. omega (arith, tally-le ss l s j)) (mark-cases s₀ j₀ s j)
+
+-- ---- the loop of `count_ways`: k goes down, and m is M of the samples from k on
+
+module _ (ss labels : List ℕ) (fits : length labels ≡ length ss) where
+  pub count-turn : {m k z n : ℕ} → 0 < k → k ≤ length ss → m ≡ wayCountOf (drop k ss) (drop k labels) → z ≡ howMany (getD ss (k - 1) 0) (drop (k - 1) ss)
+      → n ≡ tally (drop (k - 1) ss) (drop (k - 1) labels) (getD ss (k - 1) 0) (getD labels (k - 1) 0)
+      → m * z / n ≡ wayCountOf (drop (k - 1) ss) (drop (k - 1) labels)
+  count-turn {m} {k} some most inv ez en =
+      let back : k ≡ k - 1 + 1 = omega arith in
+      ap₂ _/_ (ap₂ _*_ (inv ∙ ap (λ (i : ℕ). wayCountOf (drop i ss) (drop i labels)) back) ez) en ∙ count-step ss labels (k - 1) fits (omega arith)
+
+  -- above 20,000 it stops, since M is no smaller
+  pub count-stops : (k : ℕ) {m : ℕ} → m ≡ wayCountOf (drop k ss) (drop k labels) → mostWays < m → 20001 ≡ capped (wayCountOf ss labels)
+  count-stops k inv h = sym (capped-above (wayCountOf ss labels) (omega (arith, inv, count-rest k ss labels fits)))
+
+  pub count-ends : (k : ℕ) {m : ℕ} → k ≤ 0 → m ≡ wayCountOf (drop k ss) (drop k labels) → m ≤ mostWays → m ≡ capped (wayCountOf ss labels)
+  count-ends k none inv h =
+      let z : k ≡ 0 = omega arith in
+      let whole = inv ∙ ap (λ (i : ℕ). wayCountOf (drop i ss) (drop i labels)) z in
+      whole ∙ sym (capped-within (wayCountOf ss labels) (omega (arith, whole)))

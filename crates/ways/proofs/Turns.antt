@@ -123,7 +123,7 @@ module _ (p : List ℕ → Bool) (g : ℕ) (ss counts way : List ℕ) (k : ℕ) 
 pub record Turn (g : ℕ) (ss : List ℕ) (k : ℕ) (counts₀ way₀ counts way : List ℕ) (j : ℕ) : Type 0 where
   pub more : k < length ss
   pub sized : length way₀ ≡ length ss
-  pub inRows : getD ss k 0 * g + g ≤ length counts₀
+  pub rows : HasRows g ss counts₀
   pub upTo : j ≤ g
   pub restored : counts ≡ counts₀
   pub sameRows : length counts ≡ length counts₀
@@ -131,11 +131,10 @@ pub record Turn (g : ℕ) (ss : List ℕ) (k : ℕ) (counts₀ way₀ counts way
   pub kept : take k way ≡ take k way₀
 
 pub turn-first : (g : ℕ) (ss : List ℕ) (k : ℕ) (counts way : List ℕ) → k < length ss → length way ≡ length ss → HasRows g ss counts → Turn g ss k counts way counts way 0
-unfolding HasRows
 turn-first g ss k counts way more sized rows =
-    record { more = more; sized = sized; inRows = rows k more; upTo = omega arith; restored = refl; sameRows = refl; sameLength = refl; kept = refl }
+    record { more = more; sized = sized; rows = rows; upTo = omega arith; restored = refl; sameRows = refl; sameLength = refl; kept = refl }
 
-module _ (g : ℕ) (ss : List ℕ) (k : ℕ) (counts₀ way₀ counts way : List ℕ) (j : ℕ) (t : Turn g ss k counts₀ way₀ counts way j) where
+module _ {g : ℕ} {ss : List ℕ} {k : ℕ} {counts₀ way₀ counts way : List ℕ} {j : ℕ} (t : Turn g ss k counts₀ way₀ counts way j) where
   -- all labels have had their turn
   pub turns-counted : (p : List ℕ → Bool) {hits : ℕ} → g ≤ j → hits ≡ so-far p g ss counts₀ way₀ k j → hits ≡ reached p g ss counts₀ way₀ k
   turns-counted p done e =
@@ -143,13 +142,18 @@ module _ (g : ℕ) (ss : List ℕ) (k : ℕ) (counts₀ way₀ counts way : List
       e ∙ ap (so-far p g ss counts₀ way₀ k) all ∙ so-far-all p g ss counts₀ way₀ k (t .more)
 
   module _ (less : j < g) where
+    -- the label's place is in the rows
+    pub turn-inside : place g ss k j < length counts
+    unfolding HasRows
+    turn-inside = omega (arith, t .rows k (t .more), t .sameRows)
+
     -- none of the label j is left
     module _ (none : getD counts (place g ss k j) 0 ≤ 0) where
       pub turn-empty : {counts″ way″ : List ℕ} → counts″ ≡ counts → way″ ≡ way → Turn g ss k counts₀ way₀ counts″ way″ (j + 1)
       turn-empty ec ew = record {
         more = t .more;
         sized = t .sized;
-        inRows = t .inRows;
+        rows = t .rows;
         upTo = omega arith;
         restored = ec ∙ t .restored;
         sameRows = ap length ec ∙ t .sameRows;
@@ -167,27 +171,24 @@ module _ (g : ℕ) (ss : List ℕ) (k : ℕ) (counts₀ way₀ counts way : List
       at-start : (P : List ℕ → Type 0) → P counts → P counts₀
       at-start P h = subst P (t .restored) h
 
-      inside : place g ss k j < length counts
-      inside = omega (arith, t .inRows, t .sameRows)
-
       -- what the walk onward is handed is within its bounds
-      pub placed-rows : HasRows g ss counts₀ → HasRows g ss (taken counts (place g ss k j))
+      pub placed-rows : HasRows g ss (taken counts (place g ss k j))
       unfolding HasRows
-      placed-rows rows i h = omega (arith, rows i h, length-set counts (place g ss k j) (getD counts (place g ss k j) 0 - 1), t .sameRows)
+      placed-rows i h = omega (arith, t .rows i h, length-set counts (place g ss k j) (getD counts (place g ss k j) 0 - 1), t .sameRows)
 
       pub placed-sized : length (set way k j) ≡ length ss
       placed-sized = length-set way k j ∙ t .sameLength ∙ t .sized
 
       pub placed-few : (most : ℕ) → length (onward g ss counts₀ k) < most → length (onward g ss (taken counts (place g ss k j)) (k + 1)) < most
       placed-few most few =
-          lt-of-le-of-lt (onward-fewer g ss counts k j (t .more) less inside some) (subst (λ (c : List ℕ). length (onward g ss c k) < most) (sym (t .restored)) few)
+          lt-of-le-of-lt (onward-fewer g ss counts k j (t .more) less turn-inside some) (subst (λ (c : List ℕ). length (onward g ss c k) < most) (sym (t .restored)) few)
 
       pub placed-ahead : (P : List ℕ → Type 0) → Ahead P g ss counts₀ way₀ k → Ahead P g ss (taken counts (place g ss k j)) (set way k j) (k + 1)
       unfolding Ahead
       placed-ahead P all rest m =
           let on = at-start (λ c. Member rest (onward g ss (taken c (place g ss k j)) (k + 1))) m in
           let some₀ = at-start (λ c. 0 < getD c (place g ss k j) 0) some in
-          let inside₀ = at-start (λ c. place g ss k j < length c) inside in
+          let inside₀ = at-start (λ c. place g ss k j < length c) turn-inside in
           let here : Member (j ∷ rest) (turn g ss counts₀ k j) = rw (turn-some g ss counts₀ k j less inside₀ some₀) (Memᴰ·map (λ rest. j ∷ rest) on) in
           let whole : Member (j ∷ rest) (onward g ss counts₀ k) = rw (onward-rows g ss counts₀ k (t .more)) (rows-member g (turn g ss counts₀ k) (j ∷ rest) j less here) in
           subst P (begins k j way₀ way rest (t .kept) (omega (arith, t .sameLength, t .sized, t .more))) (all (j ∷ rest) whole)
@@ -198,7 +199,7 @@ module _ (g : ℕ) (ss : List ℕ) (k : ℕ) (counts₀ way₀ counts way : List
       placed-counted p {hits} {r} e er =
           ap₂ _+_ e (at-start (λ c. r ≡ reached p g ss (taken c (place g ss k j)) (set way k j) (k + 1)) er)
           ∙ sym (so-far-placed p g ss counts₀ way₀ k way j (t .kept) (omega (arith, t .sameLength, t .sized, t .more)) less
-          (at-start (λ c. place g ss k j < length c) inside) (at-start (λ c. 0 < getD c (place g ss k j) 0) some))
+          (at-start (λ c. place g ss k j < length c) turn-inside) (at-start (λ c. 0 < getD c (place g ss k j) 0) some))
 
       pub placed-fits : (p : List ℕ → Bool) (most : ℕ) {hits r : ℕ} → length (onward g ss counts₀ k) < most → hits ≡ so-far p g ss counts₀ way₀ k j
           → r ≡ reached p g ss (taken counts (place g ss k j)) (set way k j) (k + 1) → hits + r < most
@@ -212,7 +213,7 @@ module _ (g : ℕ) (ss : List ℕ) (k : ℕ) (counts₀ way₀ counts way : List
           let same : take k way′ ≡ take k way = sym (take-take k (k + 1) way′ (omega arith)) ∙ ap (take k) ew ∙ take-take k (k + 1) (set way k j) (omega arith) ∙ take-set-le k way k j (le-refl k) in record {
             more = t .more;
             sized = t .sized;
-            inRows = t .inRows;
+            rows = t .rows;
             upTo = omega arith;
             restored = back ∙ t .restored;
             sameRows = ap length back ∙ t .sameRows;
@@ -227,6 +228,9 @@ module _ (g : ℕ) (ss counts way : List ℕ) (k : ℕ) where
   pub reached-all : reached (λ _. true) g ss counts way k ≡ length (onward g ss counts k)
   unfolding reached
   reached-all = countIf-all (onward g ss counts k)
+
+  pub all-reached : {r : ℕ} → r ≡ length (onward g ss counts k) → r ≡ reached (λ _. true) g ss counts way k
+  all-reached e = e ∙ sym reached-all
 
   -- every sample has its label: the one way ahead is the one that stands there
   pub ahead-leaf : (P : List ℕ → Type 0) → k ≡ length ss → length way ≡ length ss → Ahead P g ss counts way k → P way
