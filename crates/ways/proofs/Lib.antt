@@ -7,3 +7,4 @@ pub mod Level
 pub mod Number
 pub mod Counts
 pub mod Turns
+pub mod Cases

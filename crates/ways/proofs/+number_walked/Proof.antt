@@ -95,21 +95,21 @@ number-walked-requires : (t : ℕ) → lts.Need-number-walked-requires (claims t
 number-walked-requires t c κs =
     let l = c .before .before .before .before .before in
     let s = l .before .before .before .before .before .before in
-    let t = l .loop .inv .0 in
+    let turn = l .loop .inv .0 in
     let less = c .before .before .before .before .loop-test .taken in
     let some = c .before .before .if2 .taken in (
-      omega (arith, s .pre .0, t .more),
-      (omega (arith, t .more), (placed-sized t less some, (s .pre .1 .1 .1 .0, (placed-rows t less some, placed-few t less some (2 ^ 64) (s .pre .1 .1 .1 .1 .1))))),
+      omega (arith, s .pre .0, turn .more),
+      (omega (arith, turn .more), (placed-sized turn less some, (s .pre .1 .1 .1 .0, (placed-rows turn less some, placed-few turn less some (2 ^ 64) (s .pre .1 .1 .1 .1 .1))))),
     )
 
 add-number : (t : ℕ) → lts.Need-add-number (claims t) (pre t) reads.Post Inv-loop μ-loop
 add-number t c =
     let l = c .before .before .before .before .before .before .before .before .before .before in
     let s = l .before .before .before .before .before .before in
-    let t = l .loop .inv .0 in
+    let turn = l .loop .inv .0 in
     let less = c .before .before .before .before .before .before .before .before .before .loop-test .taken in
     let some = c .before .before .before .before .before .before .before .if2 .taken in
-    record { fits = placed-fits t less some (λ _. true) (2 ^ 64) (s .pre .1 .1 .1 .1 .1) (l .loop .inv .1) (all-reached _ _ _ _ _ (c .before .before .before .before .number-walked .ensures .0)) }
+    record { fits = placed-fits turn less some (λ _. true) (2 ^ 64) (s .pre .1 .1 .1 .1 .1) (l .loop .inv .1) (all-reached _ _ _ _ _ (c .before .before .before .before .number-walked .ensures .0)) }
 
 mul-counts-2 : (t : ℕ) → lts.Need-mul-counts-2 (claims t) (pre t) reads.Post Inv-loop μ-loop
 mul-counts-2 t c =
@@ -131,14 +131,14 @@ loop-less t c = omega arith
 loop-again : (t : ℕ) → lts.Need-loop-again (claims t) (pre t) reads.Post Inv-loop μ-loop
 loop-again t c =
     let l = c .before .before .before in
-    let t = l .loop .inv .0 in
+    let turn = l .loop .inv .0 in
     let less = c .before .before .loop-test .taken in
     ⊎-elim
     (λ w. (
-      turn-placed t less (w .0 .taken) (w .3 .ensures .1 .0) (w .3 .ensures .1 .1) (w .3 .kept .1 .1 .1 .1 .0) (w .8) (w .9),
-      w .10 ∙ placed-counted t less (w .0 .taken) (λ _. true) (l .loop .inv .1) (all-reached _ _ _ _ _ (w .3 .ensures .0)),
+      turn-placed turn less (w .0 .taken) (w .3 .ensures .1 .0) (w .3 .ensures .1 .1) (w .3 .kept .1 .1 .1 .1 .0) (w .8) (w .9),
+      w .10 ∙ placed-counted turn less (w .0 .taken) (λ _. true) (l .loop .inv .1) (all-reached _ _ _ _ _ (w .3 .ensures .0)),
     ))
-    (λ w. (turn-empty t less (w .0 .left) (w .1) (w .2), empty-counted t less (w .0 .left) (λ _. true) (l .loop .inv .1) (w .3)))
+    (λ w. (turn-empty turn less (w .0 .left) (w .1) (w .2), empty-counted turn less (w .0 .left) (λ _. true) (l .loop .inv .1) (w .3)))
     (c .if2 .came)
 
 same-length : (t : ℕ) → lts.Need-same-length (claims t) (pre t) reads.Post Inv-loop μ-loop
