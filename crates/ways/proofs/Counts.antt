@@ -2,18 +2,18 @@
 use mathlib.Core.Path.{_≡_, refl, sym, ap, ap₂, _∙_, subst}
 use mathlib.Core.Logic.{⊎-elim}
 use mathlib.Core.List.{List, [], _∷_, List·Memᴰ as Member, List·Memᴰ·head as here, List·Memᴰ·tail as there, List·Memᴰ·cases-cons as cases-cons, List·Memᴰ·not-nil as not-nil}
-use Prim.Native.Nat.{ℕ, zero, suc, _+_, _-_, _*_, _/_, _%_, _≤_, _<_, suc-le-suc}
-use native.Mathlib.Nat.{div-add-mod'}
+use Prim.Native.Nat.{ℕ, suc, _+_, _-_, _*_, _/_, _%_, _≤_, _<_, suc-le-suc}
+use native.Mathlib.Nat.{div-add-mod', le-trans}
 use native.Mathlib.Omega.{arith}
 use native.Mathlib.Decide.{ℕ-discrete, decLt}
 use lib.Arith.{digits-div, digits-mod}
-use lib.ListN.{length, getD, drop, set, replicate, length-set, length-drop, List·getD-eq-default}
+use lib.ListN.{length, getD, drop, set, replicate, length-replicate, length-set, length-drop, List·getD-eq-default}
 use lib.Seq.{getD-set-same, getD-set-other, ext-getD}
-use Rattle.lists.specs.Ranges.{table}
 use Rattle.lists.specs.Numbers.{Below}
 use Rattle.lists.specs.Writes.{cleared}
 use Rattle.lists.proofs.Ranges.{length-table, getD-table, table-ext}
 use Rattle.lists.proofs.Writes.{replicate-table}
+use Rattle.lists.proofs.Rows.{row-end}
 use Rattle.lot.specs.Way.{mark, tally}
 use Rattle.ways.specs.Ways.{spend, deal, waysOf}
 use Rattle.ways.specs.Onward.{leftIn, HasRows, tallies, onward}
@@ -47,11 +47,11 @@ left-spend g counts s₀ j₀ h₀ b s j h =
 
 pub length-tallies : (g : ℕ) (ss labels : List ℕ) (n : ℕ) → length (tallies g ss labels n) ≡ n
 unfolding tallies
-length-tallies g ss labels n = length-table (λ place. tally ss labels (place / g) (place % g)) n
+length-tallies g ss labels n = length-table _ n
 
 getD-tallies : (g : ℕ) (ss labels : List ℕ) (n p : ℕ) → p < n → getD (tallies g ss labels n) p 0 ≡ tally ss labels (p / g) (p % g)
 unfolding tallies
-getD-tallies g ss labels n p h = getD-table (λ place. tally ss labels (place / g) (place % g)) n p 0 h
+getD-tallies g ss labels n p h = getD-table _ n p 0 h
 
 -- none counted: all zero
 pub tallies-none : (g : ℕ) (ss labels counts : List ℕ) (k : ℕ) → k ≡ length ss → cleared 0 counts ≡ tallies g (drop k ss) (drop k labels) (length counts)
@@ -88,7 +88,17 @@ tallies-step g ss labels n k fits h hj b {counts} {place} inv e =
     ∙ sym (tally-step ss labels k fits h (p / g) (p % g))
     ∙ sym (getD-tallies g (drop k ss) (drop k labels) n p l′)))
 
+-- a list cleared is one of zeros
+pub zeros-cleared : (old : List ℕ) {l : List ℕ} → l ≡ cleared 0 old → l ≡ cleared 0 l
+unfolding cleared
+zeros-cleared old e = e ∙ ap (λ (n : ℕ). replicate n 0) (sym (ap length e ∙ length-replicate (length old) 0))
+
 -- ---- the walk from the first sample
+
+-- rows for n strata are rows for those of every sample
+pub rows-below : (g n : ℕ) (ss counts : List ℕ) → Below n ss → n * g ≤ length counts → HasRows g ss counts
+unfolding HasRows
+rows-below g n ss counts below h i l = le-trans (row-end g (getD ss i 0) n (below i l)) h
 
 -- a stratum that no sample has is counted nowhere
 tally-other : (ss labels : List ℕ) (s j : ℕ) → (Member s ss → ⊥) → tally ss labels s j ≡ 0

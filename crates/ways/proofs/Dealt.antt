@@ -1,24 +1,24 @@
 -- What `deal` lists, over plain lists of strata and labels: the ways, each once, and how many there are. Assumes nothing.
 use mathlib.Core.Path.{_≡_, refl, sym, ap, ap₂, _∙_}
-use mathlib.Core.Bool.{Bool, true, false, cond, true≢false}
+use mathlib.Core.Bool.{Bool, true, false, cond}
 use mathlib.Core.Logic.{_⊎_, inl, inr, ⊎-elim}
-use mathlib.Core.List.{List, [], _∷_, map, head-eq-of-cons-eq, tail-eq-of-cons-eq, List·Memᴰ as Member, List·Memᴰ·head as here, List·Memᴰ·tail as there, List·Memᴰ·not-nil as not-nil, List·Memᴰ·eq-of-singleton as eq-of-singleton, List·Memᴰ·cases-cons as cases-cons, Memᴰ·map, Memᴰ·of-map}
-use Prim.Native.Nat.{ℕ, zero, suc, _+_, _-_, _*_, _/_, _≤_, _<_, suc-le-suc}
-use native.Mathlib.Nat.{mul-comm, mul-left-comm, zero-mul, mul-zero, one-mul, lt-of-not-le, mul-div-cancel}
+use mathlib.Core.List.{List, [], _∷_, map, head-eq-of-cons-eq, tail-eq-of-cons-eq, List·Memᴰ as Member, List·Memᴰ·head as here, List·Memᴰ·tail as there, List·Memᴰ·not-nil as not-nil, List·Memᴰ·eq-of-singleton as eq-of-singleton, Memᴰ·map, Memᴰ·of-map}
+use Prim.Native.Nat.{ℕ, zero, suc, _+_, _-_, _*_, _≤_, _<_, suc-le-suc}
+use native.Mathlib.Nat.{mul-comm, mul-left-comm, zero-mul, mul-zero, one-mul}
 use native.Mathlib.Omega.{arith}
 use native.Mathlib.Decide.{ℕ-discrete, decLt}
 use lib.Dec.{ltb}
-use lib.ListN.{length, getD, length-map}
+use lib.ListN.{length, length-map}
 use borrow.Author.Tests.{lt-ltb, le-ltb, ltb-true}
 use Rattle.lists.specs.Ranges.{upFrom, table, rows}
 use Rattle.lists.specs.Filters.{countIf}
-use Rattle.lists.specs.Numbers.{addUp, multiply, factorial, howMany, upward, Below}
+use Rattle.lists.specs.Numbers.{addUp, multiply, factorial, howMany, Below}
 use Rattle.lists.proofs.Ranges.{rows-ext}
 use Rattle.lot.specs.Way.{δ, mark, tally}
-use Rattle.ways.specs.Ways.{spend, deal, waysOf, sizeFactorials, labelFactorials, wayCountOf}
-use Rattle.ways.specs.Every.{WayOf, Distinct}
-use Rattle.ways.proofs.Extra.{map-cong, addUp-add, addUp-mul, addUp-zeros, addUp-term, multiply-ones, multiply-pos, factorial-pos, factorial-less, member-upFrom, upFrom-member, member-rows, rows-member, length-rows-sum, member-upward, upward-member}
-use Rattle.ways.proofs.Distinct.{distinct-rows, distinct-map, distinct-upFrom, distinct-upward, δ-same, δ-other, addUp-δ, multiply-scale, multiply-more}
+use Rattle.ways.specs.Ways.{spend, deal}
+use Rattle.ways.specs.Every.{Distinct}
+use Rattle.ways.proofs.Extra.{map-cong, addUp-add, addUp-mul, addUp-zeros, addUp-term, multiply-ones, multiply-pos, factorial-pos, factorial-less, member-upFrom, upFrom-member, member-rows, rows-member, length-rows-sum}
+use Rattle.ways.proofs.Distinct.{distinct-rows, distinct-map, distinct-upFrom, δ-same, δ-other, addUp-δ, multiply-scale}
 
 -- ---- `mark`: one sample in the counts
 

@@ -5,22 +5,22 @@ use mathlib.Core.Bool.{Bool}
 use mathlib.Core.Logic.{⊎-elim}
 use mathlib.Core.List.{List, [], _∷_, map, List·Memᴰ as Member, List·Memᴰ·head as here, List·Memᴰ·tail as there, List·Memᴰ·cases-cons as cases-cons, List·Memᴰ·not-nil as not-nil}
 use Prim.Native.Nat.{ℕ, zero, suc, _+_, _*_, _/_, _≤_, _<_, suc-le-suc}
-use native.Mathlib.Nat.{lt-of-not-le, mul-div-cancel}
+use native.Mathlib.Nat.{lt-of-not-le, mul-div-cancel, one-mul}
 use native.Mathlib.Omega.{arith}
 use native.Mathlib.Decide.{decLt}
 use lib.ListN.{length, getD}
 use Rattle.lists.specs.Ranges.{upFrom, table}
 use Rattle.lists.specs.Filters.{countIf}
-use Rattle.lists.specs.Numbers.{multiply, factorial, upward, Below}
+use Rattle.lists.specs.Numbers.{addUp, multiply, factorial, howMany, upward, Below}
 use Rattle.lot.specs.Lot.{Lot}
 use Rattle.lot.specs.Kept.{names, groups, keptCount, groupCount}
 use Rattle.lot.specs.Strata.{strata}
-use Rattle.lot.specs.Way.{tally, IsWay, relabelled, SameLot}
+use Rattle.lot.specs.Way.{δ, mark, tally, IsWay, relabelled, SameLot}
 use Rattle.ways.specs.Ways.{deal, waysOf, ways, sizeFactorials, labelFactorials, wayCountOf, wayCount}
 use Rattle.ways.specs.Every.{WayOf, Distinct, Every}
-use Rattle.ways.proofs.Extra.{map-cong, member-upFrom, upFrom-member, member-upward, upward-member}
-use Rattle.ways.proofs.Distinct.{distinct-upFrom, distinct-upward, multiply-more, any-order}
-use Rattle.ways.proofs.Dealt.{mark-same, mark-label, deal-cong, deal-distinct, Balanced, balanced-tally, Dealt, deal-sound, deal-complete, counts!, sizes!, counts!-pos, deal-count}
+use Rattle.ways.proofs.Extra.{map-cong, addUp-add, addUp-mul, addUp-zeros, upFrom-member, member-upward, upward-member}
+use Rattle.ways.proofs.Distinct.{distinct-upFrom, distinct-upward, addUp-δ, multiply-more, any-order}
+use Rattle.ways.proofs.Dealt.{mark-same, mark-label, howMany-cons, deal-cong, deal-distinct, balanced-tally, deal-sound, deal-complete, counts!, sizes!, counts!-pos, deal-count}
 
 -- ---- counts of labels
 
@@ -43,6 +43,19 @@ tally-own (s₀ ∷ ss) [] i p q = absurd (omega arith)
 tally-own (s₀ ∷ ss) (j₀ ∷ l) zero p q = omega (arith, mark-same s₀ j₀ s₀ j₀ refl refl)
 tally-own (s₀ ∷ ss) (j₀ ∷ l) (suc i) p q = omega (arith, tally-own ss l i (omega arith) (omega arith))
 
+-- the counts of a label over all strata N are its count
+tally-total : (N ss labels : List ℕ) (j : ℕ) → Distinct N → ((s : ℕ) → Member s ss → Member s N) → length labels ≡ length ss
+    → addUp (map (λ s. tally ss labels s j) N) ≡ howMany j labels
+unfolding tally mark
+tally-total N [] [] j once has e = addUp-zeros (λ _. 0) N (λ _ _. refl) ∙ unfold howMany countIf in refl
+tally-total N [] (j₀ ∷ l) j once has e = absurd (omega arith)
+tally-total N (s₀ ∷ ss) [] j once has e = absurd (omega arith)
+tally-total N (s₀ ∷ ss) (j₀ ∷ l) j once has e =
+    addUp-add (λ s. δ s s₀ * δ j j₀) (λ s. tally ss l s j) N
+    ∙ ap₂ _+_ (addUp-mul (λ s. δ s s₀) (δ j j₀) N ∙ ap (λ (k : ℕ). k * δ j j₀) (addUp-δ s₀ N once (has s₀ (here refl))) ∙ one-mul (δ j j₀))
+    (tally-total N ss l j once (λ t m. has t (there m)) (omega arith))
+    ∙ sym (howMany-cons j j₀ l)
+
 -- the factorials of the labels that there are, and of all below g
 factorials-below : (g : ℕ) (ss labels : List ℕ) → Below g labels → counts! (upward ss) g (tally ss labels) ≡ labelFactorials ss labels
 unfolding counts! labelFactorials table factorial
@@ -52,6 +65,17 @@ factorials-below g ss labels below = ap multiply (map-cong _ _ (upward ss) (λ s
     (λ j _ out. ap factorial (tally-absent ss labels s j (λ m. out (member-upward labels j m))))))
 
 -- ---- the ways of labels below g, one for each sample
+
+-- the labels themselves are a way
+pub own-way : (ss labels : List ℕ) → WayOf ss labels labels
+own-way ss labels = record { labelsAll = refl; keepsCounts = λ s j. refl }
+
+-- a way keeps the count of every label in the whole lot too
+pub way-keeps : (ss labels way : List ℕ) → length labels ≡ length ss → WayOf ss labels way → (j : ℕ) → howMany j way ≡ howMany j labels
+way-keeps ss labels way fits w j =
+    sym (tally-total (upward ss) ss way j (distinct-upward ss) (member-upward ss) (w .labelsAll ∙ fits))
+    ∙ ap addUp (map-cong _ _ (upward ss) (λ s _. w .keepsCounts s j))
+    ∙ tally-total (upward ss) ss labels j (distinct-upward ss) (member-upward ss) fits
 
 module _ (g : ℕ) (ss labels : List ℕ) (fits : length labels ≡ length ss) (below : Below g labels) where
   -- a way has no other labels

@@ -1,9 +1,9 @@
 -- The level of a test that counts hits over a finite list. Assumes nothing.
 use mathlib.Core.Path.{_≡_, refl, sym, ap, _∙_}
-use mathlib.Core.Bool.{Bool, true, false, _&&_, cond, true≢false}
+use mathlib.Core.Bool.{Bool, true, false, _&&_, true≢false}
 use mathlib.Core.Logic.{_⊎_, inl, inr, ⊎-elim}
 use mathlib.Core.List.{List, [], _∷_, List·Memᴰ as Member, List·Memᴰ·cases-cons as cases-cons}
-use Prim.Native.Nat.{ℕ, _+_, _≤_}
+use Prim.Native.Nat.{ℕ, _≤_}
 use native.Mathlib.Nat.{le-trans}
 use native.Mathlib.Omega.{arith}
 use lib.Dec.{leb}
@@ -11,7 +11,7 @@ use borrow.Author.Tests.{leb-true}
 use Rattle.lists.specs.Filters.{countIf}
 use Rattle.lists.proofs.Filters.{countIf-no}
 use Rattle.ways.specs.Level.{KeepsLevel, Ranks}
-use Rattle.ways.proofs.Extra.{countIf-mono, countIf-cong, countIf-member}
+use Rattle.ways.proofs.Extra.{countIf-mono, countIf-member}
 
 and-left : (a b : Bool) → (a && b) ≡ true → a ≡ true
 and-left true b e = refl

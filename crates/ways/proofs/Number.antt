@@ -1,22 +1,23 @@
 -- M, sample by sample from the last. Assumes nothing.
 use mathlib.Core.Path.{_≡_, refl, sym, ap, ap₂, _∙_}
-use mathlib.Core.List.{List, [], _∷_, map}
+use mathlib.Core.List.{List, [], _∷_, List·Memᴰ·head as here, List·Memᴰ·tail as there}
 use mathlib.Core.Logic.{⊎-elim}
 use Prim.Native.Nat.{ℕ, zero, suc, _+_, _-_, _*_, _/_, _≤_, _<_, suc-le-suc}
 use native.Mathlib.Nat.{mul-assoc, mul-left-comm, mul-le-mul, le-of-mul-le-mul-right, eq-of-mul-eq-mul-right, div-eq-of-eq-mul-left, le-trans, le-refl}
 use native.Mathlib.Omega.{arith}
-use native.Mathlib.Numerals.{add-one}
+use native.Mathlib.Decide.{decLt}
 use lib.ListN.{length, getD, drop, length-drop}
 use lib.Seq.{drop-length}
+use lib.Dec.{eqb}
 use borrow.Author.Tests.{lt-ltb, le-ltb}
 use mathlib.Core.Bool.{Bool, cond}
 use Rattle.lists.specs.Numbers.{multiply, howMany, upward, Below}
-use Rattle.lists.proofs.Filters.{drop-more}
+use Rattle.lists.proofs.Filters.{drop-more, countIf-below}
 use Rattle.lot.specs.Way.{mark, tally}
 use Rattle.ways.specs.Ways.{spend, deal, waysOf, sizeFactorials, labelFactorials, wayCountOf, mostWays, capped}
 use Rattle.ways.proofs.Extra.{member-upward}
 use Rattle.ways.proofs.Distinct.{distinct-upward}
-use Rattle.ways.proofs.Dealt.{mark-same, mark-cases, Balanced, balanced-tally, balanced-le, counts!, sizes!, counts!-pos, counts!-cong, counts!-spend, sizes!-cons, deal-count}
+use Rattle.ways.proofs.Dealt.{mark-same, mark-cases, balanced-tally, balanced-le, counts!, sizes!, counts!-pos, counts!-cong, counts!-spend, sizes!-cons, deal-count}
 use Rattle.ways.proofs.Every.{ways-count}
 
 -- ---- the cap
@@ -28,6 +29,13 @@ capped-within m h = ap (λ (b : Bool). cond b 20001 m) (le-ltb mostWays m h)
 pub capped-above : (m : ℕ) → mostWays < m → capped m ≡ 20001
 unfolding capped
 capped-above m h = ap (λ (b : Bool). cond b 20001 m) (lt-ltb mostWays m h)
+
+-- what a caller learns of M from the capped number r
+pub few-ways : (m : ℕ) {r : ℕ} → r ≡ capped m → r ≤ mostWays → r ≡ m
+few-ways m e h = elim (decLt mostWays m) [ yes many ↦ absurd (omega (arith, e, capped-above m many)) | no few ↦ e ∙ capped-within m (omega arith) ]
+
+pub many-ways : (m : ℕ) {r : ℕ} → r ≡ capped m → mostWays < r → mostWays < m
+many-ways m e h = elim (decLt mostWays m) [ yes many ↦ many | no few ↦ omega (arith, e, capped-within m (omega arith)) ]
 
 -- ---- one sample more, of stratum s and label j
 
@@ -62,10 +70,10 @@ module _ (s j : ℕ) (ss labels : List ℕ) (fits : length labels ≡ length ss)
       let M₀ = length (deal g ss (tally ss labels)) in
       let P = counts! N g (tally ss labels) in
       let n = howMany s (s ∷ ss) in
-      let hs = member-upward (s ∷ ss) s (mathlib.Core.List.List·Memᴰ·head refl) in
+      let hs = member-upward (s ∷ ss) s (here refl) in
       let once = distinct-upward (s ∷ ss) in
       let whole : M * counts! N g c ≡ sizes! N (s ∷ ss) = deal-count N g (s ∷ ss) c once (member-upward (s ∷ ss)) (balanced-tally g (s ∷ ss) (j ∷ labels) (ap suc fits) below) in
-      let rest : M₀ * P ≡ sizes! N ss = deal-count N g ss (tally ss labels) once (λ t m. member-upward (s ∷ ss) t (mathlib.Core.List.List·Memᴰ·tail m)) (balanced-tally g ss labels fits (λ i h. below (suc i) (suc-le-suc h))) in
+      let rest : M₀ * P ≡ sizes! N ss = deal-count N g ss (tally ss labels) once (λ t m. member-upward (s ∷ ss) t (there m)) (balanced-tally g ss labels fits (λ i h. below (suc i) (suc-le-suc h))) in
       let grown : counts! N g c ≡ c s j * P = counts!-spend N once s hs g j c (below 0 (omega arith)) own ∙ ap (λ (k : ℕ). c s j * k) (counts!-cong N g _ _ spent) in
       eq-of-mul-eq-mul-right P (counts!-pos N g (tally ss labels)) _ _
       (mul-assoc M (c s j) P
@@ -148,6 +156,11 @@ module _ (ss labels : List ℕ) (fits : length labels ≡ length ss) where
   count-turn {m} {k} some most inv ez en =
       let back : k ≡ k - 1 + 1 = omega arith in
       ap₂ _/_ (ap₂ _*_ (inv ∙ ap (λ (i : ℕ). wayCountOf (drop i ss) (drop i labels)) back) ez) en ∙ count-step ss labels (k - 1) fits (omega arith)
+
+  -- a stratum's size is at most the number of samples
+  pub count-size : (k s : ℕ) {z : ℕ} → z ≡ howMany s (drop k ss) → z ≤ length ss
+  unfolding howMany
+  count-size k s e = omega (arith, e, countIf-below (eqb s) (drop k ss), length-drop k ss)
 
   -- above 20,000 it stops, since M is no smaller
   pub count-stops : (k : ℕ) {m : ℕ} → m ≡ wayCountOf (drop k ss) (drop k labels) → mostWays < m → 20001 ≡ capped (wayCountOf ss labels)

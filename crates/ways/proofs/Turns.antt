@@ -4,22 +4,22 @@
 use mathlib.Core.Path.{_≡_, refl, sym, ap, ap₂, _∙_, subst}
 use mathlib.Core.Bool.{Bool, true, cond}
 use mathlib.Core.List.{List, [], _∷_, _++_, map, append-nil, append-assoc, List·Memᴰ as Member, List·Memᴰ·head as here, Memᴰ·map}
-use Prim.Native.Nat.{ℕ, _+_, _-_, _*_, _^_, _≤_, _<_}
+use Prim.Native.Nat.{ℕ, _+_, _-_, _*_, _≤_, _<_}
 use native.Mathlib.Nat.{le-refl, lt-of-le-of-lt}
 use native.Mathlib.Numerals.{add-one}
 use native.Mathlib.Omega.{arith}
-use native.Mathlib.Decide.{ℕ-discrete}
 use lib.ListN.{length, getD, take, drop, set, length-set, length-map}
 use lib.Seq.{drop-length, take-length, take-suc-set, set-set, set-getD, take-take, take-set-le}
 use Rattle.lists.specs.Ranges.{rows, table, upFrom}
 use Rattle.lists.specs.Filters.{countIf}
-use Rattle.lists.specs.Numbers.{addUp}
+use Rattle.lists.specs.Numbers.{Below}
 use Rattle.lists.proofs.Ranges.{rows-last}
 use Rattle.lists.proofs.Filters.{drop-more, countIf-append, countIf-below}
-use Rattle.ways.specs.Ways.{spend, deal, waysOf}
+use Rattle.ways.specs.Ways.{deal, waysOf, wayCountOf}
 use Rattle.ways.specs.Onward.{leftIn, HasRows, tallies, onward, reached, Ahead}
 use Rattle.ways.proofs.Extra.{countIf-cong, countIf-map, countIf-all, addUp-term, upFrom-member, rows-member, rows-longer, length-rows-sum}
 use Rattle.ways.proofs.Dealt.{branch, deal-cons, branch-some, branch-none, deal-cong}
+use Rattle.ways.proofs.Every.{ways-count}
 use Rattle.ways.proofs.Counts.{left-spend, onward-ways}
 
 -- the place in the rows of the label j for the stratum of sample k
@@ -245,6 +245,9 @@ module _ (g : ℕ) (ss labels counts : List ℕ) (rows : HasRows g ss counts) {f
   pub reached-ways : (p : List ℕ → Bool) → reached p g ss filled way 0 ≡ countIf p (waysOf g ss labels)
   unfolding reached
   reached-ways p = ap (countIf p) (onward-ways g ss labels counts rows e)
+
+  pub onward-count : length labels ≡ length ss → Below g labels → length (onward g ss filled 0) ≡ wayCountOf ss labels
+  onward-count fits below = ap length (onward-ways g ss labels counts rows e) ∙ ways-count g ss labels fits below
 
   pub ahead-ways : (P : List ℕ → Type 0) → ((whole : List ℕ) → Member whole (waysOf g ss labels) → P whole) → Ahead P g ss filled way 0
   unfolding Ahead

@@ -3,12 +3,9 @@ use mathlib.Core.Path.{_≡_, refl, sym}
 use Prim.Native.Nat.{_≤_, _-_}
 use native.Mathlib.Nat.{mul-le-mul}
 use native.Mathlib.Omega.{arith}
-use lib.ListN.{length, getD, drop, length-drop}
-use lib.Dec.{eqb}
-use Rattle.lists.specs.Numbers.{howMany}
-use Rattle.lists.proofs.Filters.{countIf-below}
+use lib.ListN.{length, drop}
 use Rattle.ways.specs.Ways.{wayCountOf, mostWays}
-use Rattle.ways.proofs.Number.{count-none, count-turn, count-stops, count-ends, tally-pos}
+use Rattle.ways.proofs.Number.{count-none, count-turn, count-size, count-stops, count-ends, tally-pos}
 use Rattle.ways.proofs.count_ways.Statement.{statement}
 use Rattle.ways.proofs.count_ways.Tie as tie
 
@@ -40,13 +37,10 @@ size-from-requires : tie.Need-size-from-requires Inv-loop μ-loop
 size-from-requires c κs = omega arith
 
 mul-m : tie.Need-mul-m Inv-loop μ-loop
-unfolding howMany
 mul-m c =
     let a = c .before .before .before .before .before .before .before .args in
-    let l = c .before .before .before .before .loop in
-    let rest = drop (l .k - 1) (a .strata .now) in
-    let few : c .size-from .result ≤ 256 = omega (arith, c .size-from .ensures, countIf-below (eqb (getD (a .strata .now) (l .k - 1) 0)) rest, length-drop (l .k - 1) (a .strata .now)) in
-    omega (arith, mul-le-mul (l .inv .1) few)
+    let few = count-size (a .strata .now) (a .groups .now) (omega arith) (c .before .before .before .before .loop .k - 1) _ (c .size-from .ensures) in
+    omega (arith, mul-le-mul (c .before .before .before .before .loop .inv .1) few, c .before .before .before .before .before .before .before .pre .0)
 
 label-from-requires : tie.Need-label-from-requires Inv-loop μ-loop
 label-from-requires c κs = omega arith

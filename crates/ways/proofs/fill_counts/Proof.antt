@@ -1,7 +1,6 @@
 -- `ways::fill_counts` meets its contract: the rows count the samples from k on. Assumes nothing.
 use mathlib.Core.Path.{refl}
 use native.Mathlib.Omega.{arith}
-use lib.ListN.{length, length-set}
 use Rattle.ways.proofs.Counts.{Filling, filling-none, filling-place, filling-small, filling-next, filling-all}
 use Rattle.ways.proofs.fill_counts.Statement.{statement}
 use Rattle.ways.proofs.fill_counts.Tie as tie
