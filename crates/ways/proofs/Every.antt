@@ -13,7 +13,7 @@ use Rattle.lists.specs.Ranges.{upFrom, table}
 use Rattle.lists.specs.Filters.{countIf}
 use Rattle.lists.specs.Numbers.{addUp, multiply, factorial, howMany, upward, Below}
 use Rattle.lot.specs.Lot.{Lot}
-use Rattle.lot.specs.Kept.{names, groups, keptCount, groupCount}
+use Rattle.lot.specs.Kept.{groups, keptCount, groupCount}
 use Rattle.lot.specs.Strata.{strata}
 use Rattle.lot.specs.Way.{δ, mark, tally, IsWay, relabelled, SameLot}
 use Rattle.ways.specs.Ways.{deal, waysOf, ways, sizeFactorials, labelFactorials, wayCountOf, wayCount}
@@ -165,14 +165,19 @@ module _ (lot : Lot) (grouped : length (groups (lot .labels)) ≡ keptCount (lot
   every-order walk e p = any-order walk (ways lot) (e .once) (every .once)
       (λ way m. every .complete way (e .sound way m)) (λ way m. e .complete way (every .sound way m)) p
 
-  -- a way handed in as the observed one has the same ways and the same M
+  -- the ways of a way are the same list
+  pub same-ways : (way : List ℕ) → IsWay lot way → waysOf (groupCount (lot .labels)) (strata lot) way ≡ ways lot
+  unfolding ways
+  same-ways way w = ways-same (groupCount (lot .labels)) (strata lot) (groups (lot .labels)) fits below way (way-of way w)
+
+  -- so a way handed in as the observed one has the same ways and the same M
   module _ (way : List ℕ) (is-way : IsWay lot way) (same : SameLot lot way) where
     pub relabelled-ways : ways (relabelled lot way) ≡ ways lot
     unfolding ways groupCount
     relabelled-ways =
         ap (λ (ns : List ℕ). waysOf (length ns) (strata (relabelled lot way)) (groups (relabelled lot way .labels))) (same .sameNames)
-        ∙ ap₂ (waysOf (length (names (lot .labels)))) (same .sameStrata) (same .groupsAre)
-        ∙ ways-same (length (names (lot .labels))) (strata lot) (groups (lot .labels)) fits below way (way-of way is-way)
+        ∙ ap₂ (waysOf (groupCount (lot .labels))) (same .sameStrata) (same .groupsAre)
+        ∙ same-ways way is-way
 
     pub relabelled-count : wayCount (relabelled lot way) ≡ wayCount lot
     unfolding wayCount

@@ -12,7 +12,7 @@ use Rattle.ways.specs.Ways.{deal}
 unfoldable pub leftIn : ℕ → List ℕ → ℕ → ℕ → ℕ
 leftIn g counts s j = getD counts (s * g + j) 0
 
--- there is a row for the stratum of every sample
+-- there is a row of g for the stratum of every sample
 unfoldable pub HasRows : ℕ → List ℕ → List ℕ → Type 0
 HasRows g ss counts = (i : ℕ) → i < length ss → getD ss i 0 * g + g ≤ length counts
 

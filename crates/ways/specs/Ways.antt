@@ -11,38 +11,44 @@ use Rattle.lot.specs.Kept.{groups, groupCount}
 use Rattle.lot.specs.Strata.{strata}
 use Rattle.lot.specs.Way.{mark, tally}
 
--- what is left of each label for each stratum once a sample of stratum s₀ has the label j₀: one fewer of that label there
+-- what is left for each stratum of each label, once a sample of stratum s₀ has the label j₀: one fewer there
 unfoldable pub spend : (ℕ → ℕ → ℕ) → ℕ → ℕ → ℕ → ℕ → ℕ
 spend left s₀ j₀ s j = left s j - mark s₀ j₀ s j
 
--- Ways are walked by placing a label on one sample, each in turn of which one is left for its stratum, and going on with the rest, one fewer each time.
+-- Ways are walked by placing a label on one sample and going on with the rest, one fewer each time. Each label below g has its turn of which one is left
+-- for the sample's stratum: `left s j` are left of the label j for the stratum s.
 unfoldable pub deal : ℕ → List ℕ → (ℕ → ℕ → ℕ) → List (List ℕ)
 deal g [] left = [] ∷ []
 deal g (s ∷ ss) left = rows g (λ j. let placed = map (λ way. j ∷ way) (deal g ss (spend left s j)) in cond (ltb 0 (left s j)) placed [])
 
--- All ways of the labels, by the counts alone: the same list, in the same order, for each of the ways.
+-- All ways of the labels, by the counts alone: one list, in one order, whichever of the ways the labels are.
 unfoldable pub waysOf : ℕ → List ℕ → List ℕ → List (List ℕ)
 waysOf g ss labels = deal g ss (tally ss labels)
 
+-- the ways of a lot's kept samples
 unfoldable pub ways : Lot → List (List ℕ)
 ways lot = waysOf (groupCount (lot .labels)) (strata lot) (groups (lot .labels))
 
--- M = product over strata of size!/(product of label counts!), as one quotient of two products over the strata that there are
+-- the product over strata of size!
 unfoldable pub sizeFactorials : List ℕ → ℕ
 sizeFactorials ss = multiply (map (λ s. factorial (howMany s ss)) (upward ss))
 
+-- the product over strata of the product of label counts!
 unfoldable pub labelFactorials : List ℕ → List ℕ → ℕ
 labelFactorials ss labels = multiply (map (λ s. multiply (map (λ j. factorial (tally ss labels s j)) (upward labels))) (upward ss))
 
+-- M = product over strata of size!/(product of label counts!), as one quotient
 unfoldable pub wayCountOf : List ℕ → List ℕ → ℕ
 wayCountOf ss labels = sizeFactorials ss / labelFactorials ss labels
 
+-- M of a lot
 unfoldable pub wayCount : Lot → ℕ
 wayCount lot = wayCountOf (strata lot) (groups (lot .labels))
 
--- line 8: M above 20,000. A count of the ways stops one past it.
+-- M above this is line 8 of the table
 abbrev pub mostWays : ℕ
 mostWays = 20000
 
+-- M, or 20,001 where it is above 20,000
 unfoldable pub capped : ℕ → ℕ
 capped m = cond (ltb mostWays m) 20001 m
