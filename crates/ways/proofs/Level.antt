@@ -68,14 +68,14 @@ module _ {A : Type 0} (counted : A → Bool) (rank : A → A → Bool) (order : 
         (leb-true _ _ (and-right (counted (w .0)) _ (w .1))))
         (lowest few ok xs)
 
--- all count
-abbrev pub all : {A : Type 0} → A → Bool
-all x = true
+-- all are counted
+abbrev pub always : {A : Type 0} → A → Bool
+always x = true
 
-module _ {A : Type 0} (rank : A → A → Bool) (order : Ranks all rank) where
+module _ {A : Type 0} (rank : A → A → Bool) (order : Ranks always rank) where
   -- the ranks themselves as hits: at most k members have k or fewer that rank as high
   pub level-rank : (xs : List A) (k : ℕ) → countIf (λ x. leb (countIf (rank x) xs) k) xs ≤ k
-  level-rank xs = level all rank order rank (λ x y _ _ r. r) xs
+  level-rank xs = level always rank order rank (λ x y _ _ r. r) xs
 
   -- hits that are coarser than the ranks
   module _ (hit : A → A → Bool) (coarser : (x y : A) → rank x y ≡ true → hit x y ≡ true) where
@@ -83,4 +83,4 @@ module _ {A : Type 0} (rank : A → A → Bool) (order : Ranks all rank) where
     rank-le-hits x xs = countIf-mono (rank x) (hit x) xs (λ y _. coarser x y)
 
     pub level-hits : (xs : List A) (k : ℕ) → countIf (λ x. leb (countIf (hit x) xs) k) xs ≤ k
-    level-hits xs = level all rank order hit (λ x y _ _. coarser x y) xs
+    level-hits xs = level always rank order hit (λ x y _ _. coarser x y) xs
