@@ -21,4 +21,4 @@ pub mod Cases
 mod Signs
 mod Branches
 mod Normal
-mod Halves
+mod Certificate
