@@ -1,5 +1,5 @@
 -- Products. `mul` of two finite values is their exact product, rounded once (`mul-values`), and 1 is neutral (`one-times`). Assumes nothing.
-use mathlib.Core.Path.{_≡_, refl, sym, ap, _∙_}
+use mathlib.Core.Path.{_≡_, refl, ap, _∙_}
 use mathlib.Core.Bool.{Bool, true, false}
 use Prim.Native.Nat.{ℕ, _*_, _<_}
 use native.Mathlib.Nat.{zero-lt-suc, one-mul, mul-mul-mul-comm, mul-pos}
