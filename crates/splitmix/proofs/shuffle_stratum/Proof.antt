@@ -1,6 +1,6 @@
 -- `splitmix::shuffle_stratum` meets its contract. The invariant: the swaps from the last position down to i are made. Assumes nothing.
 use mathlib.Core.Path.{sym, subst}
-use Prim.Native.Nat.{ℕ, _-_}
+use Prim.Native.Nat.{ℕ}
 use native.Mathlib.Omega.{arith}
 use denote.Ref.{now}
 use Rattle.lists.specs.Numbers.{Below}

@@ -1,5 +1,5 @@
 -- `splitmix::swap_drawn` meets its contract. The position drawn is at most i, so both places are labels. Assumes nothing.
-use Prim.Native.Nat.{_+_, _-_, _<_}
+use Prim.Native.Nat.{_+_, _<_}
 use native.Mathlib.Nat.{mod-lt}
 use native.Mathlib.Omega.{arith}
 use borrow.Author.Needs.{needs}
