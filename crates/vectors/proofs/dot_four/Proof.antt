@@ -14,7 +14,7 @@ abbrev μ-loop : tie.MeasureT-loop
 μ-loop a b c d x s₀ t₀ u₀ v₀ i₀ i-end s t u v i = length x - i
 
 loop-holds : tie.Need-loop-holds Inv-loop μ-loop
-loop-holds c = 
+loop-holds c =
     let s = c in
     let x = now (s .args .x) in
     let p = s .pre in
@@ -57,12 +57,11 @@ loop-less : tie.Need-loop-less Inv-loop μ-loop
 loop-less c = omega arith
 
 loop-again : tie.Need-loop-again Inv-loop μ-loop
-loop-again c = 
+loop-again c =
     let s = c .before .before .before .before .before .before .before in
     let p = s .pre in
     let x = now (s .args .x) in
-    let sums = c .before .before .before .before .before .before .loop .inv in
-    (
+    let sums = c .before .before .before .before .before .before .loop .inv in (
       summing-next (now (s .args .a)) x (omega (arith, p .0)) (sums .0),
       summing-next (now (s .args .b)) x (omega (arith, p .1)) (sums .1),
       summing-next (now (s .args .c)) x (omega (arith, p .2)) (sums .2),
@@ -70,7 +69,7 @@ loop-again c =
     )
 
 returns : tie.Need-returns Inv-loop μ-loop
-returns c = 
+returns c =
     let s = c .before .before in
     let p = s .pre in
     let x = now (s .args .x) in

@@ -18,7 +18,7 @@ same-length c = search needs
 
 returns : tie.Need-returns
 unfolding projectedOff
-returns c = 
+returns c =
     let a = c .before .before .before .before .before .before .before .before .args in
     c .before .before .less-times .ensures ∙ ap (λ (d : Float). lessTimes d (now (a .x)) (now (a .y))) (c .before .before .before .before .dot .ensures)
 

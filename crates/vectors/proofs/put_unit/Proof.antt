@@ -23,7 +23,7 @@ same-length c = search needs
 
 returns : tie.Need-returns
 unfolding unit
-returns c = 
+returns c =
     let y = now (c .before .before .before .before .before .before .before .before .args .y) in
     c .before .before .put-divided .ensures ∙ ap (λ (d : Float). divided d y) (c .before .before .before .before .max .ensures ∙ ap (λ (l : Float). larger l 1e-300) (c .before .before .before .before .before .norm .ensures))
 
