@@ -31,22 +31,22 @@ pub fn dot_four(a: &[f64], b: &[f64], c: &[f64], d: &[f64], x: &[f64]) -> Four
     requires { ⌜ (length (now a) ≡ length (now x)) × (length (now b) ≡ length (now x)) × (length (now c) ≡ length (now x)) × (length (now d) ≡ length (now x)) ⌝ }
     ensures { λ r. ⌜ r ≡ dotFour (now (a .entry)) (now (b .entry)) (now (c .entry)) (now (d .entry)) (now (x .entry)) ⌝ }
 {
-    let mut s = -0.0;
     let mut t = -0.0;
     let mut u = -0.0;
     let mut v = -0.0;
-    for i in 0..x.len() {
-        let e = x[i];
-        s = s + a[i] * e;
-        t = t + b[i] * e;
-        u = u + c[i] * e;
-        v = v + d[i] * e;
+    let mut w = -0.0;
+    for k in 0..x.len() {
+        let e = x[k];
+        t = t + a[k] * e;
+        u = u + b[k] * e;
+        v = v + c[k] * e;
+        w = w + d[k] * e;
     }
     Four {
-        a: s,
-        b: t,
-        c: u,
-        d: v,
+        a: t,
+        b: u,
+        c: v,
+        d: w,
     }
 }
 

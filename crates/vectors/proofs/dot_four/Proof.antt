@@ -1,4 +1,4 @@
--- `vectors::dot_four` meets its contract. The invariant: with the products from entry i on, each of the four sums is the whole. Assumes nothing.
+-- `vectors::dot_four` meets its contract. The invariant: with the products from entry k on, each of the four sums is the whole. Assumes nothing.
 use Prim.Native.Nat.{_-_}
 use native.Mathlib.Omega.{arith}
 use denote.Ref.{now}
@@ -8,10 +8,10 @@ use Rattle.vectors.proofs.dot_four.Statement.{statement}
 use Rattle.vectors.proofs.dot_four.Tie as tie
 
 abbrev Inv-loop : tie.InvT-loop
-Inv-loop a b c d x s₀ t₀ u₀ v₀ i₀ i-end s t u v i = Summing a x s i × Summing b x t i × Summing c x u i × Summing d x v i
+Inv-loop a b c d x t₀ u₀ v₀ w₀ k₀ k-end t u v w k = Summing a x t k × Summing b x u k × Summing c x v k × Summing d x w k
 
 abbrev μ-loop : tie.MeasureT-loop
-μ-loop a b c d x s₀ t₀ u₀ v₀ i₀ i-end s t u v i = length x - i
+μ-loop a b c d x t₀ u₀ v₀ w₀ k₀ k-end t u v w k = length x - k
 
 loop-holds : tie.Need-loop-holds Inv-loop μ-loop
 loop-holds c =
@@ -25,12 +25,6 @@ mul-e c = omega arith
 
 shared-slice-read-e : tie.Need-shared-slice-read-e Inv-loop μ-loop
 shared-slice-read-e c = omega arith
-
-mul-s : tie.Need-mul-s Inv-loop μ-loop
-mul-s c = omega arith
-
-shared-slice-read-s : tie.Need-shared-slice-read-s Inv-loop μ-loop
-shared-slice-read-s c = omega arith
 
 mul-t : tie.Need-mul-t Inv-loop μ-loop
 mul-t c = omega arith
@@ -50,8 +44,14 @@ mul-v c = omega arith
 shared-slice-read-v : tie.Need-shared-slice-read-v Inv-loop μ-loop
 shared-slice-read-v c = omega arith
 
-add-i : tie.Need-add-i Inv-loop μ-loop
-add-i c = omega arith
+mul-w : tie.Need-mul-w Inv-loop μ-loop
+mul-w c = omega arith
+
+shared-slice-read-w : tie.Need-shared-slice-read-w Inv-loop μ-loop
+shared-slice-read-w c = omega arith
+
+add-k : tie.Need-add-k Inv-loop μ-loop
+add-k c = omega arith
 
 loop-less : tie.Need-loop-less Inv-loop μ-loop
 loop-less c = omega arith
@@ -89,15 +89,15 @@ dot-four-spec =
     loop-holds
     mul-e
     shared-slice-read-e
-    mul-s
-    shared-slice-read-s
     mul-t
     shared-slice-read-t
     mul-u
     shared-slice-read-u
     mul-v
     shared-slice-read-v
-    add-i
+    mul-w
+    shared-slice-read-w
+    add-k
     loop-less
     loop-again
     returns)
