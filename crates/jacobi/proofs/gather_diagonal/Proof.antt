@@ -1,0 +1,75 @@
+-- `jacobi::gather_diagonal` meets its contract. After i turns the first i entries are written.
+-- Assumes nothing.
+use mathlib.Core.Path.{refl, ap, _∙_}
+use Prim.Native.Nat.{ℕ, _-_}
+use native.Mathlib.Omega.{arith}
+use Rattle.lists.specs.Ranges.{table}
+use Rattle.lists.specs.Rows.{entry}
+use Rattle.lists.proofs.Rows.{cell-below}
+use Rattle.lists.proofs.Writes.{Writing, writing-none, writing-next, writing-all}
+use Rattle.jacobi.specs.Eigen.{diagonal}
+use Rattle.jacobi.proofs.gather_diagonal.Statement.{statement}
+use Rattle.jacobi.proofs.gather_diagonal.Tie as tie
+
+abbrev Inv-loop : tie.InvT-loop
+Inv-loop d₀ m n i₀ d i = Writing (λ k. entry n m k k) d₀ d i
+
+abbrev μ-loop : tie.MeasureT-loop
+μ-loop d₀ m n i₀ d i = n - i
+
+loop-holds : tie.Need-loop-holds Inv-loop μ-loop
+loop-holds c = writing-none (λ k. entry (c .args .n) (c .args .m .now) k k) _
+
+mul-d : tie.Need-mul-d Inv-loop μ-loop
+mul-d c = omega (arith, cell-below (c .before .before .args .n) (c .before .before .args .n) (c .before .loop .i) (c .before .loop .i) (c .loop-test .taken) (c .loop-test .taken))
+
+add-d : tie.Need-add-d Inv-loop μ-loop
+add-d c = omega (arith, cell-below (c .before .before .args .n) (c .before .before .args .n) (c .before .loop .i) (c .before .loop .i) (c .loop-test .taken) (c .loop-test .taken))
+
+mul-d-2 : tie.Need-mul-d-2 Inv-loop μ-loop
+mul-d-2 c = omega (arith, cell-below (c .before .before .args .n) (c .before .before .args .n) (c .before .loop .i) (c .before .loop .i) (c .loop-test .taken) (c .loop-test .taken))
+
+shared-slice-read-d : tie.Need-shared-slice-read-d Inv-loop μ-loop
+shared-slice-read-d c = omega (arith, cell-below (c .before .before .before .args .n) (c .before .before .before .args .n) (c .before .before .loop .i) (c .before .before .loop .i) (c .before .loop-test .taken) (c .before .loop-test .taken))
+
+mul-d-3 : tie.Need-mul-d-3 Inv-loop μ-loop
+mul-d-3 c = omega arith
+
+slice-write-d : tie.Need-slice-write-d Inv-loop μ-loop
+slice-write-d c = omega (arith, c .before .before .loop .inv .long)
+
+add-i : tie.Need-add-i Inv-loop μ-loop
+add-i c = omega arith
+
+loop-less : tie.Need-loop-less Inv-loop μ-loop
+loop-less c = omega arith
+
+loop-again : tie.Need-loop-again Inv-loop μ-loop
+unfolding entry
+loop-again c = writing-next (λ k. entry (c .before .before .before .args .n) (c .before .before .before .args .m .now) k k) _ (c .before .before .loop .inv) (omega arith) refl
+
+same-length : tie.Need-same-length Inv-loop μ-loop
+same-length c = c .before .loop .inv .long
+
+returns : tie.Need-returns Inv-loop μ-loop
+unfolding diagonal
+returns c = writing-all (λ k. entry (c .before .before .args .n) (c .before .before .args .m .now) k k) _ (c .before .loop .inv) (omega arith) ∙ ap (λ (k : ℕ). table k (λ i. entry (c .before .before .args .n) (c .before .before .args .m .now) i i)) (c .before .before .pre .0)
+
+pub gather-diagonal-spec : {M : Type 1} → statement M
+gather-diagonal-spec =
+    tie.close
+    (tie.spec
+    Inv-loop
+    μ-loop
+    loop-holds
+    mul-d
+    add-d
+    mul-d-2
+    shared-slice-read-d
+    mul-d-3
+    slice-write-d
+    add-i
+    loop-less
+    loop-again
+    same-length
+    returns)
