@@ -1,18 +1,16 @@
--- Laws of lists, of sums over rows and of NaN that no section owns. Assumes nothing.
-use mathlib.Core.Path.{_≡_, refl, sym, ap, ap₂, _∙_, subst}
-use mathlib.Core.Bool.{Bool, true, false, not, _&&_, cond}
-use mathlib.Core.List.{List, [], _∷_, _++_, zipWith}
-use Prim.Native.Nat.{ℕ, zero, suc, _+_, _*_, _<_, _≤_, zero-le, suc-le-suc}
+-- Laws of lists and of sums over rows that no section owns. Assumes nothing.
+use mathlib.Core.Path.{_≡_, refl, sym, ap, _∙_, subst}
+use mathlib.Core.Bool.{Bool, true, false, cond}
+use mathlib.Core.List.{List, [], _∷_, zipWith}
+use Prim.Native.Nat.{ℕ, zero, suc, _+_, _<_, _≤_, zero-le, suc-le-suc}
 use native.Mathlib.Nat.{not-suc-le-zero, le-of-suc-le-suc, suc-inj}
 use native.Mathlib.Omega.{arith}
 use lib.ListN.{length, getD}
 use lib.Seq.{ext-getD}
-use lib.Ieee.{Float, nan, inf, fin, ne, isNan, up, down}
-use borrow.Author.Tests.{eq-eqb}
+use lib.Ieee.{Float}
 use Rattle.lists.specs.Ranges.{table, rows}
 use Rattle.lists.specs.Filters.{firstAt}
 use Rattle.lists.specs.Sums.{sumFrom}
-use Rattle.lists.specs.Writes.{over}
 use Rattle.lists.proofs.Ranges.{length-table, getD-table, rows-last}
 use Rattle.lists.proofs.Sums.{sum-append}
 use Rattle.lists.proofs.Writes.{Writing, getD-behind}
@@ -72,13 +70,3 @@ sum-rows-none s f = refl
 pub sum-rows-next : (s : Float) (f : ℕ → List Float) (k : ℕ) {t t′ : Float} → t ≡ sumFrom s (rows k f) → t′ ≡ sumFrom t (f k) → t′ ≡ sumFrom s (rows (k + 1) f)
 sum-rows-next s f k e h =
     h ∙ ap (λ (x : Float). sumFrom x (f k)) e ∙ sym (sum-append s (rows k f) (f k)) ∙ ap (sumFrom s) (sym (rows-last f k))
-
--- ---- a NaN, and nothing else, differs from itself
-
-pub nan-ne : (x : Float) → ne x x ≡ isNan x
-unfolding ne isNan
-nan-ne nan = refl
-nan-ne (inf true) = refl
-nan-ne (inf false) = refl
-nan-ne (fin true m e) = ap (λ (b : Bool). not (b && true)) (eq-eqb (m * up e * down e) _ refl)
-nan-ne (fin false m e) = ap (λ (b : Bool). not (b && true)) (eq-eqb (m * up e * down e) _ refl)

@@ -1,6 +1,6 @@
 -- The calls of a rotation leave what its definitions say. Assumes nothing.
 use mathlib.Core.Path.{_≡_, sym, ap, ap₂, _∙_}
-use mathlib.Core.Bool.{true, false}
+use mathlib.Core.Bool.{Bool, true, false}
 use mathlib.Core.List.{List, zipWith}
 use Prim.Native.Nat.{ℕ, _+_, _*_, _-_}
 use lib.ListN.{take, drop}
@@ -27,11 +27,16 @@ turn-rows n p q c s l {y} {x′} {y′} {r} a b d =
 
 -- z is the magnitude of the pair's entry, t and c the tangent and the cosine
 module _ (n p q : ℕ) (m v : List Float) {z : Float} (h : z ≡ magnitude (entry n m p q)) where
+  test : {b : Bool} → lt z 1e-300 ≡ b → lt (magnitude (entry n m p q)) 1e-300 ≡ b
+  test e = ap (λ (x : Float). lt x 1e-300) (sym h) ∙ e
+
   pub rotate-skips : lt z 1e-300 ≡ true → turned m v ≡ rotate n p q (turned m v)
   unfolding rotate
-  rotate-skips e = rw (← h, e)
+  rotate-skips e = rw (test e, rotate)
 
   pub rotate-turns : {t c : Float} {m′ v′ : List Float} → lt z 1e-300 ≡ false → t ≡ tangent (entry n m p p) (entry n m q q) (entry n m p q) → c ≡ cosine t
       → turned m′ v′ ≡ turnPair n p q c (t ⊗ c) (turned m v) → turned m′ v′ ≡ rotate n p q (turned m v)
   unfolding rotate
-  rotate-turns e ht hc f = rw (← h, e, ← ht, ← hc) f
+  rotate-turns {t} {c} e ht hc f =
+      let c-is : c ≡ cosine (tangent (entry n m p p) (entry n m q q) (entry n m p q)) = hc ∙ ap cosine ht in
+      rw (test e, rotate) (f ∙ ap₂ (λ (x y : Float). turnPair n p q y (x ⊗ y) (turned m v)) ht c-is)

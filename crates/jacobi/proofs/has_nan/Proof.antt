@@ -7,7 +7,7 @@ use lib.ListN.{length, drop}
 use lib.Ieee.{nan, isNan}
 use Rattle.lists.specs.Filters.{any}
 use Rattle.lists.proofs.Filters.{any-here, any-later, any-none}
-use Rattle.jacobi.proofs.Extra.{nan-ne}
+use Rattle.float.proofs.Nan.{nan-ne}
 use Rattle.jacobi.proofs.has_nan.Statement.{statement}
 use Rattle.jacobi.proofs.has_nan.Tie as tie
 
