@@ -4,3 +4,4 @@ pub mod Rotation
 pub mod Sweeping
 pub mod Order
 pub mod Filling
+pub mod Call

@@ -20,12 +20,16 @@ use Rattle.jacobi.specs.Eigen.{Eigen, jacobi}
 unfoldable pub misfits : ℕ → List Float → ℕ → ℕ → ℕ → Bool
 misfits n a out m v = unfit a (n * n) || short ((out of n + n * n) ∷ (m of n * n) ∷ (v of n * n) ∷ [])
 
+-- line 3: an entry that is not finite
+abbrev pub notFinite : Float → Bool
+notFinite x = not (finite x)
+
 -- lines 1 to 3 of the table
 unfoldable pub jacobiLines : ℕ → List Float → ℕ → ℕ → ℕ → List Line
 jacobiLines n a out m v =
     (Length when misfits n a out m v)
     ∷ (Limit when ltb 256 n)
-    ∷ (Value when any (λ x. not (finite x)) a)
+    ∷ (Value when any notFinite a)
     ∷ []
 
 -- the sweeps made, of what is found

@@ -53,7 +53,7 @@ loop-less : tie.Need-loop-less Inv-loop μ-loop
 loop-less c = omega arith
 
 loop-again : tie.Need-loop-again Inv-loop μ-loop
-loop-again c = 
+loop-again c =
     let n = c .before .before .before .before .before .before .before .args .n in
     let i = c .before .before .before .before .before .loop .i in
     let e = row-end n i n (c .before .before .before .before .loop-test .taken) in
@@ -69,7 +69,7 @@ same-length c = c .before .loop .inv .1
 
 returns : tie.Need-returns Inv-loop μ-loop
 unfolding identity grid
-returns c = 
+returns c =
     let n = c .before .before .before .args .n in
     let e : c .before .loop .i ≡ n = omega arith in
     rows-all n (λ k. table n (unit k)) (λ k. length-table (unit k) n) _ n (rw e at (c .before .loop .inv .2)) (omega arith)

@@ -57,10 +57,10 @@ loop-less c = omega arith
 
 loop-again : tie.Need-loop-again Inv-loop μ-loop
 loop-again c = (
-      omega arith,
-      sum-rows-next _ (λ k. squaresBut k (row (c .before .before .before .before .before .args .n) k (c .before .before .before .before .before .args .m .now))) (c .before .before .before .loop .i) (c .before .before .before .loop .inv .1)
+  omega arith,
+  sum-rows-next _ (λ k. squaresBut k (row (c .before .before .before .before .before .args .n) k (c .before .before .before .before .before .args .m .now))) (c .before .before .before .loop .i) (c .before .before .before .loop .inv .1)
       (c .off-in-row .ensures ∙ ap (λ (l : List Float). sumFrom (c .before .before .before .loop .t) (squaresBut (c .before .before .before .loop .i) l)) (part-row (c .before .before .before .before .before .args .n) (c .before .before .before .loop .i) _)),
-    )
+)
 
 returns : tie.Need-returns Inv-loop μ-loop
 unfolding offDiagonal

@@ -56,15 +56,15 @@ loop-less : tie.Need-loop-less Inv-loop μ-loop
 loop-less c = omega arith
 
 loop-again : tie.Need-loop-again Inv-loop μ-loop
-loop-again c = 
+loop-again c =
     let r = c .before .before .before .args .row .now in
     let i = c .before .before .before .args .i in
     let at-loop = c .before .before .loop in (
       omega arith,
       ⊎-elim
-      (λ w. kept-turn (square r) (at-loop .t) (at-loop .j) (length r) (other i) (omega arith) (ap not (ne-eqb _ _ (w .0 .taken))) refl (w .3) (at-loop .inv .1))
-      (λ w. rw (w .1) (kept-pass (square r) (at-loop .t) (at-loop .j) (length r) (other i) (omega arith) (ap not (eq-eqb _ _ (w .0 .left))) (at-loop .inv .1)))
-      (c .if1 .came),
+          (λ w. kept-turn (square r) (at-loop .t) (at-loop .j) (length r) (other i) (omega arith) (ap not (ne-eqb _ _ (w .0 .taken))) refl (w .3) (at-loop .inv .1))
+          (λ w. rw (w .1) (kept-pass (square r) (at-loop .t) (at-loop .j) (length r) (other i) (omega arith) (ap not (eq-eqb _ _ (w .0 .left))) (at-loop .inv .1)))
+          (c .if1 .came),
     )
 
 returns : tie.Need-returns Inv-loop μ-loop

@@ -73,7 +73,7 @@ same-length-3 c = search needs
 
 returns-2 : tie.Need-returns-2
 unfolding entry
-returns-2 c = 
+returns-2 c =
     let a = c .before .before .before .before .before .before .before .before .before .before .before .before .before .before .before .before .before .before .before .before .args in
     rotate-turns (a .n) (a .p) (a .q) (a .m .now) (a .v .now) (c .before .before .before .before .before .before .before .before .before .before .before .before .before .before .before .abs .ensures) (c .before .before .before .before .before .before .before .before .before .before .before .before .before .before .if1 .left) (c .before .before .before .before .before .before .before .before .before .before .before .tangent .ensures) (c .before .before .before .before .before .before .before .before .before .before .cosine .ensures) (c .before .before .before .before .before .before .turn .ensures)
 

@@ -53,10 +53,10 @@ loop-less c = omega arith
 
 loop-again : tie.Need-loop-again Inv-loop μ-loop
 loop-again c = (
-      omega arith,
-      length-on-row (c .before .before .before .before .before .before .before .args .n) (c .before .before .before .before .before .loop .i) (c .before .before .before .before .before .loop .m) (c .before .before .rotate-in-row .last .0) (c .before .before .rotate-in-row .kept .0) ∙ c .before .before .before .before .before .loop .inv .1,
-      inTurn-next _ _ _ (c .before .before .before .before .before .loop .inv .2) (on-row _ _ _ _ (c .before .before .rotate-in-row .ensures)),
-    )
+  omega arith,
+  length-on-row (c .before .before .before .before .before .before .before .args .n) (c .before .before .before .before .before .loop .i) (c .before .before .before .before .before .loop .m) (c .before .before .rotate-in-row .last .0) (c .before .before .rotate-in-row .kept .0) ∙ c .before .before .before .before .before .loop .inv .1,
+  inTurn-next _ _ _ (c .before .before .before .before .before .loop .inv .2) (on-row _ _ _ _ (c .before .before .rotate-in-row .ensures)),
+)
 
 same-length : tie.Need-same-length Inv-loop μ-loop
 same-length c = c .before .loop .inv .1

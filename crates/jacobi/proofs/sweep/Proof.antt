@@ -31,7 +31,7 @@ loop-less : tie.Need-loop-less Inv-loop μ-loop
 loop-less c = omega arith
 
 loop-again : tie.Need-loop-again Inv-loop μ-loop
-loop-again c = 
+loop-again c =
     let call = c .before .before .before .before .before .before .sweep-row in
     let inv = c .before .before .before .before .before .before .before .before .before .before .before .loop .inv in (
       omega arith,

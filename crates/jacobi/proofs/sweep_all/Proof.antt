@@ -35,7 +35,7 @@ same-length-3 : tie.Need-same-length-3 Inv-loop μ-loop
 same-length-3 c = c .before .before .before .before .loop .inv .3
 
 returns : tie.Need-returns Inv-loop μ-loop
-returns c = 
+returns c =
     sweeps-end _ _ _ (c .before .before .before .loop-test .taken) (ap (λ (t : Float). lt t 1e-22) (sym (c .before .off-diagonal .ensures)) ∙ c .if1 .taken) ∙ c .before .before .before .before .loop .inv .4
 
 sweep-requires : tie.Need-sweep-requires Inv-loop μ-loop
@@ -48,7 +48,7 @@ loop-less : tie.Need-loop-less Inv-loop μ-loop
 loop-less c = omega arith
 
 loop-again : tie.Need-loop-again Inv-loop μ-loop
-loop-again c = 
+loop-again c =
     let call = c .before .before .before .before .before .before .sweep in
     let inv = c .before .before .before .before .before .before .before .before .before .before .before .before .before .before .loop .inv in (
       omega arith,

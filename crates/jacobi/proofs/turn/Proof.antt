@@ -29,7 +29,7 @@ same-length-3 c = search needs
 
 returns : tie.Need-returns
 unfolding turnPair
-returns c = 
+returns c =
     let a = c .before .before .before .before .before .before .before .before .before .before .before .before .before .before .before .before .before .before .before .before .before .args in
     ap₂ turned (c .before .before .before .before .before .before .before .before .before .before .before .rotate-rows .ensures ∙ ap (turnRows (a .n) (a .p) (a .q) (a .c) (a .s)) (c .before .before .before .before .before .before .before .before .before .before .before .before .before .before .before .before .rotate-columns .ensures)) (c .before .before .before .before .rotate-rows2 .ensures)
 
