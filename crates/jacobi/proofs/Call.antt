@@ -23,8 +23,8 @@ use Rattle.outcome.specs.Outcome.{Outcome, answered, refused, judged, andThen}
 use Rattle.outcome.specs.Slices.{output, work, untouched}
 use Rattle.jacobi.specs.declared.Answer.{Answer}
 use Rattle.jacobi.specs.declared.Answer.the-variants.{Sweeps, Refused}
-use Rattle.jacobi.specs.Rotation.{turned}
-use Rattle.jacobi.specs.Sweeps.{Swept, swept, sweepsFrom}
+use Rattle.rotation.specs.Rotation.{turned}
+use Rattle.rotation.specs.Sweeps.{Swept, swept, sweepsFrom}
 use Rattle.jacobi.specs.Eigen.{identity, diagonal, descending, valuesIn, vectorsIn, Eigen, eigenpairs, jacobi}
 use Rattle.jacobi.specs.Call.{misfits, notFinite, jacobiLines, sweepsOf, written, Called, leaves, jacobiCall, outcomeOf, called, eigenOf, Solved, solved, solution}
 use Rattle.jacobi.proofs.Extra.{over-front, or-false, first-passed, first-untouched}

@@ -1,60 +1,19 @@
--- Laws of lists, of sums over rows and of the table that no section owns. Assumes nothing.
-use mathlib.Core.Path.{_≡_, refl, sym, ap, _∙_, subst}
+-- Laws of lists and of the table that no section owns. Assumes nothing.
+use mathlib.Core.Path.{_≡_, refl, ap, _∙_}
 use mathlib.Core.Bool.{Bool, true, false, _&&_, _||_, cond}
-use mathlib.Core.List.{List, [], _∷_, _++_, zipWith, append-assoc, append-nil}
-use Prim.Native.Nat.{ℕ, zero, suc, _+_, _-_, _<_, _≤_, zero-le, suc-le-suc}
-use native.Mathlib.Nat.{not-suc-le-zero, le-of-suc-le-suc, suc-inj}
+use mathlib.Core.List.{List, [], _∷_, _++_, append-assoc, append-nil}
+use Prim.Native.Nat.{ℕ, zero, suc, _-_, _≤_, zero-le, suc-le-suc}
+use native.Mathlib.Nat.{not-suc-le-zero, le-of-suc-le-suc}
 use native.Mathlib.Omega.{arith}
-use lib.ListN.{length, getD, take, drop, take-append-drop, length-append, length-drop, drop-of-length-le}
-use lib.Seq.{ext-getD, take-at, drop-at, length-take-le}
+use lib.ListN.{length, take, drop, take-append-drop, length-append, length-drop, drop-of-length-le}
+use lib.Seq.{take-at, drop-at, length-take-le}
 use borrow.Rule.Slice.PartMut.{putMid}
-use lib.Ieee.{Float}
-use Rattle.lists.specs.Ranges.{table, rows}
 use Rattle.lists.specs.Filters.{all, firstAt}
-use Rattle.lists.specs.Sums.{sumFrom}
 use Rattle.lists.specs.Writes.{over}
-use Rattle.lists.proofs.Ranges.{length-table, getD-table, rows-last}
-use Rattle.lists.proofs.Sums.{sum-append}
-use Rattle.lists.proofs.Writes.{Writing, getD-behind}
 use Rattle.outcome.specs.declared.Refusal.{Refusal}
 use Rattle.outcome.specs.declared.Check.the-variants.{Passed, Refused}
 use Rattle.outcome.specs.Refusals.{Line, _when_, first}
 use Rattle.outcome.specs.Slices.{untouched}
-
--- ---- two lists of one length, entry by entry
-
-module _ {A B C : Type 0} (f : A → B → C) where
-  pub length-zipWith : (xs : List A) (ys : List B) → length xs ≡ length ys → length (zipWith f xs ys) ≡ length xs
-  unfolding zipWith
-  length-zipWith [] ys e = refl
-  length-zipWith (x ∷ xs) [] e = sym e
-  length-zipWith (x ∷ xs) (y ∷ ys) e = ap suc (length-zipWith xs ys (suc-inj e))
-
-  pub getD-zipWith : (xs : List A) (ys : List B) (i : ℕ) (a : A) (b : B) (c : C) → i < length xs → i < length ys
-      → getD (zipWith f xs ys) i c ≡ f (getD xs i a) (getD ys i b)
-  unfolding zipWith
-  getD-zipWith [] ys i a b c h g = absurd (not-suc-le-zero h)
-  getD-zipWith (x ∷ xs) [] i a b c h g = absurd (not-suc-le-zero g)
-  getD-zipWith (x ∷ xs) (y ∷ ys) zero a b c h g = refl
-  getD-zipWith (x ∷ xs) (y ∷ ys) (suc i) a b c h g = getD-zipWith xs ys i a b c (le-of-suc-le-suc h) (le-of-suc-le-suc g)
-
-  pub zip-table : (xs : List A) (ys : List B) (a : A) (b : B) → length xs ≡ length ys → table (length xs) (λ i. f (getD xs i a) (getD ys i b)) ≡ zipWith f xs ys
-  zip-table xs ys a b e =
-      let len = length-table (λ i. f (getD xs i a) (getD ys i b)) (length xs) in
-      ext-getD (f a b) (table (length xs) (λ i. f (getD xs i a) (getD ys i b))) (zipWith f xs ys) (len ∙ sym (length-zipWith xs ys e))
-      (λ i h. at i (subst (λ (n : ℕ). i < n) len h))
-    where
-      at : (i : ℕ) → i < length xs → getD (table (length xs) (λ i. f (getD xs i a) (getD ys i b))) i (f a b) ≡ getD (zipWith f xs ys) i (f a b)
-      at i h =
-          getD-table (λ i. f (getD xs i a) (getD ys i b)) (length xs) i (f a b) h
-          ∙ sym (getD-zipWith xs ys i a b (f a b) h (subst (λ (n : ℕ). i < n) e h))
-
--- ---- what is written next is still as it was
-
-pub writing-here : {A : Type 0} (f : ℕ → A) (old : List A) {l : List A} {i : ℕ} (d : A) → Writing f old l i → getD l i d ≡ getD old i d
-writing-here f old {l} {i} d w =
-    let len = length-table f i in
-    ap (λ (t : List _). getD t i d) (w .held) ∙ getD-behind (table i f) old i d (omega arith)
 
 -- ---- a search ends within the list
 
@@ -66,16 +25,6 @@ first-le p (x ∷ xs) = by (p x) (first-le p xs)
     by : (b : Bool) → firstAt p xs ≤ length xs → cond b 0 (suc (firstAt p xs)) ≤ suc (length xs)
     by true h = zero-le
     by false h = suc-le-suc h
-
--- ---- a sum over rows, one row more
-
-pub sum-rows-none : (s : Float) (f : ℕ → List Float) → s ≡ sumFrom s (rows 0 f)
-unfolding sumFrom rows
-sum-rows-none s f = refl
-
-pub sum-rows-next : (s : Float) (f : ℕ → List Float) (k : ℕ) {t t′ : Float} → t ≡ sumFrom s (rows k f) → t′ ≡ sumFrom t (f k) → t′ ≡ sumFrom s (rows (k + 1) f)
-sum-rows-next s f k e h =
-    h ∙ ap (λ (x : Float). sumFrom x (f k)) e ∙ sym (sum-append s (rows k f) (f k)) ∙ ap (sumFrom s) (sym (rows-last f k))
 
 -- ---- a list written over the front of a part, and over the front of the whole
 

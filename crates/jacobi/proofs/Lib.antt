@@ -1,7 +1,5 @@
 -- What the proofs of the functions share.
 pub mod Extra
-pub mod Rotation
-pub mod Sweeping
 pub mod Order
 pub mod Filling
 pub mod Call

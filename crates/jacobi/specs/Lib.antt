@@ -1,5 +1,3 @@
 -- Section 4 of document 01: `jacobi_eigen`.
-pub mod Rotation
-pub mod Sweeps
 pub mod Eigen
 pub mod Call

@@ -4,8 +4,8 @@
 use mathlib.Core.Path.{ap, ap₂, _∙_}
 use Prim.Native.Nat.{_-_}
 use borrow.Author.Needs.{needs}
-use Rattle.jacobi.specs.Rotation.{turned}
-use Rattle.jacobi.specs.Sweeps.{sweepsFrom}
+use Rattle.rotation.specs.Rotation.{turned}
+use Rattle.rotation.specs.Sweeps.{sweepsFrom}
 use Rattle.jacobi.proofs.diagonalise.Statement.{statement}
 use Rattle.jacobi.proofs.diagonalise.Tie as tie
 
