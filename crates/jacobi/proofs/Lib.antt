@@ -3,3 +3,4 @@ pub mod Extra
 pub mod Order
 pub mod Filling
 pub mod Call
+pub mod Cases
