@@ -1,6 +1,4 @@
--- `rotation::cosine` meets its contract. The root is that of `float::sqrt`.
--- Assumes nothing.
-use Prim.Native.Nat.{_-_}
+-- `rotation::cosine` meets its contract. The root is that of `float::sqrt`. Assumes nothing.
 use borrow.Author.Needs.{needs}
 use Rattle.rotation.specs.Rotation.{cosine}
 use Rattle.rotation.proofs.cosine.Statement.{statement}

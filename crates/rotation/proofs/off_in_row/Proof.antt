@@ -1,5 +1,4 @@
--- `rotation::off_in_row` meets its contract. What is left to add from entry j on gives the whole sum.
--- Assumes nothing.
+-- `rotation::off_in_row` meets its contract. What is left to add from entry j on gives the whole sum. Assumes nothing.
 use mathlib.Core.Path.{_≡_, refl, ap}
 use mathlib.Core.Logic.{⊎-elim}
 use mathlib.Core.Bool.{Bool, not}
@@ -28,7 +27,8 @@ abbrev other : ℕ → ℕ → Bool
 other i j = not (eqb j i)
 
 abbrev Inv-loop : tie.InvT-loop
-Inv-loop row i sum t₀ j₀ j-end t j = (j ≤ length row) × (sumFrom t (map (square row) (keep (other i) (range j (length row)))) ≡ sumFrom sum (squaresBut i row))
+Inv-loop row i sum t₀ j₀ j-end t j =
+    (j ≤ length row) × (sumFrom t (map (square row) (keep (other i) (range j (length row)))) ≡ sumFrom sum (squaresBut i row))
 
 abbrev μ-loop : tie.MeasureT-loop
 μ-loop row i sum t₀ j₀ j-end t j = length row - j
@@ -59,16 +59,18 @@ loop-again : tie.Need-loop-again Inv-loop μ-loop
 loop-again c =
     let r = c .before .before .before .args .row .now in
     let i = c .before .before .before .args .i in
-    let at-loop = c .before .before .loop in (
+    let at = c .before .before .loop in (
       omega arith,
       ⊎-elim
-          (λ w. kept-turn (square r) (at-loop .t) (at-loop .j) (length r) (other i) (omega arith) (ap not (ne-eqb _ _ (w .0 .taken))) refl (w .3) (at-loop .inv .1))
-          (λ w. rw (w .1) (kept-pass (square r) (at-loop .t) (at-loop .j) (length r) (other i) (omega arith) (ap not (eq-eqb _ _ (w .0 .left))) (at-loop .inv .1)))
+          (λ w. kept-turn (square r) (at .t) (at .j) (length r) (other i) (omega arith) (ap not (ne-eqb _ _ (w .0 .taken))) refl (w .3) (at .inv .1))
+          (λ w. rw (w .1) (kept-pass (square r) (at .t) (at .j) (length r) (other i) (omega arith) (ap not (eq-eqb _ _ (w .0 .left))) (at .inv .1)))
           (c .if1 .came),
     )
 
 returns : tie.Need-returns Inv-loop μ-loop
-returns c = kept-end (square (c .before .before .args .row .now)) (c .before .loop .t) (c .before .loop .j) _ (other (c .before .before .args .i)) (omega arith) (c .before .loop .inv .1)
+returns c =
+    let at = c .before .loop in
+    kept-end (square (c .before .before .args .row .now)) (at .t) (at .j) _ (other (c .before .before .args .i)) (omega arith) (at .inv .1)
 
 pub off-in-row-spec : {M : Type 1} → statement M
 off-in-row-spec =

@@ -1,7 +1,5 @@
--- `rotation::rotate_in_row` meets its contract. The two stores are the definition.
--- Assumes nothing.
+-- `rotation::rotate_in_row` meets its contract. The two stores are the definition. Assumes nothing.
 use mathlib.Core.Path.{refl}
-use Prim.Native.Nat.{_-_}
 use borrow.Author.Needs.{needs}
 use Rattle.rotation.specs.Rotation.{turnEntries}
 use Rattle.rotation.proofs.rotate_in_row.Statement.{statement}

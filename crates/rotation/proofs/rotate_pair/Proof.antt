@@ -1,5 +1,4 @@
--- `rotation::rotate_pair` meets its contract. After k turns the first k entries of both rows are turned, and the rest are as they were.
--- Assumes nothing.
+-- `rotation::rotate_pair` meets its contract. After k turns the first k entries of both rows are turned, and the rest are as they were. Assumes nothing.
 use mathlib.Core.Path.{sym, ap, ap₂, _∙_}
 use mathlib.Core.List.{List}
 use Prim.Native.Nat.{ℕ, _-_}
@@ -7,7 +6,6 @@ use native.Mathlib.Omega.{arith}
 use lib.ListN.{length, getD}
 use lib.Ieee.{Float, nan}
 use Rattle.lists.specs.Ranges.{table}
-use Rattle.lists.specs.Rows.{row}
 use Rattle.lists.proofs.Writes.{Writing, writing-none, writing-next, writing-all}
 use Rattle.rotation.specs.Rotation.{turnFirst, turnSecond}
 use Rattle.rotation.proofs.Extra.{zip-table, writing-here}
@@ -28,37 +26,39 @@ abbrev μ-loop : tie.MeasureT-loop
 μ-loop x₀ y₀ c s k₀ k-end x y k = length x₀ - k
 
 loop-holds : tie.Need-loop-holds Inv-loop μ-loop
-loop-holds c = (writing-none (first (c .args .c) (c .args .s) (c .args .x .now) (c .args .y .now)) _, writing-none (second (c .args .c) (c .args .s) (c .args .x .now) (c .args .y .now)) _)
+loop-holds c =
+    let a = c .args in
+    (writing-none (first (a .c) (a .s) (a .x .now) (a .y .now)) _, writing-none (second (a .c) (a .s) (a .x .now) (a .y .now)) _)
 
 mul-a : tie.Need-mul-a Inv-loop μ-loop
-mul-a c = omega (arith, c .before .loop .inv .0 .long, c .before .loop .inv .1 .long)
+mul-a c = omega arith
 
 slice-read-a : tie.Need-slice-read-a Inv-loop μ-loop
-slice-read-a c = omega (arith, c .before .before .loop .inv .0 .long, c .before .before .loop .inv .1 .long)
+slice-read-a c = omega arith
 
 mul-b : tie.Need-mul-b Inv-loop μ-loop
-mul-b c = omega (arith, c .before .before .loop .inv .0 .long, c .before .before .loop .inv .1 .long)
+mul-b c = omega arith
 
 slice-read-b : tie.Need-slice-read-b Inv-loop μ-loop
-slice-read-b c = omega (arith, c .before .before .before .loop .inv .0 .long, c .before .before .before .loop .inv .1 .long)
+slice-read-b c = omega arith
 
 mul-x : tie.Need-mul-x Inv-loop μ-loop
-mul-x c = omega (arith, c .before .before .before .loop .inv .0 .long, c .before .before .before .loop .inv .1 .long)
+mul-x c = omega arith
 
 slice-write-x : tie.Need-slice-write-x Inv-loop μ-loop
-slice-write-x c = omega (arith, c .before .before .before .loop .inv .0 .long, c .before .before .before .loop .inv .1 .long)
+slice-write-x c = omega arith
 
 mul-y : tie.Need-mul-y Inv-loop μ-loop
-mul-y c = omega (arith, c .before .before .before .loop .inv .0 .long, c .before .before .before .loop .inv .1 .long)
+mul-y c = omega arith
 
 slice-write-y : tie.Need-slice-write-y Inv-loop μ-loop
-slice-write-y c = omega (arith, c .before .before .before .loop .inv .0 .long, c .before .before .before .loop .inv .1 .long)
+slice-write-y c = omega arith
 
 add-k : tie.Need-add-k Inv-loop μ-loop
-add-k c = omega (arith, c .before .before .before .loop .inv .0 .long, c .before .before .before .loop .inv .1 .long)
+add-k c = omega arith
 
 loop-less : tie.Need-loop-less Inv-loop μ-loop
-loop-less c = omega (arith, c .before .before .before .loop .inv .0 .long, c .before .before .before .loop .inv .1 .long)
+loop-less c = omega arith
 
 loop-again : tie.Need-loop-again Inv-loop μ-loop
 loop-again c =

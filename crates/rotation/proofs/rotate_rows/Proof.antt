@@ -1,6 +1,4 @@
--- `rotation::rotate_rows` meets its contract. Row q is copied out, turned against row p, and copied back.
--- Assumes nothing.
-use Prim.Native.Nat.{_-_}
+-- `rotation::rotate_rows` meets its contract. Row q is copied out, turned against row p, and copied back. Assumes nothing.
 use borrow.Author.Needs.{needs}
 use Rattle.rotation.proofs.Rotation.{turn-rows}
 use Rattle.rotation.proofs.rotate_rows.Statement.{statement}
@@ -86,8 +84,12 @@ same-length-2 c = search needs
 
 returns : tie.Need-returns
 returns c =
-    let a = c .before .before .before .before .before .before .before .before .before .before .before .before .before .before .before .before .before .before .before .before .args in
-    turn-rows (a .n) (a .p) (a .q) (a .c) (a .s) (a .m .now) (c .before .before .before .before .before .before .before .before .before .before .before .before .before .before .copy .ensures) (c .before .before .before .before .before .before .before .before .before .rotate-pair .ensures) (c .before .before .copy2 .ensures)
+    let at-copy2 = c .before .before in
+    let at-rotate-pair = at-copy2 .before .before .before .before .before .before .before in
+    let at-copy = at-rotate-pair .before .before .before .before .before in
+    let at-start = at-copy .before .before .before .before .before .before in
+    let a = at-start .args in
+    turn-rows (a .n) (a .p) (a .q) (a .c) (a .s) (a .m .now) (at-copy .copy .ensures) (at-rotate-pair .rotate-pair .ensures) (at-copy2 .copy2 .ensures)
 
 pub rotate-rows-spec : {M : Type 1} → statement M
 rotate-rows-spec =

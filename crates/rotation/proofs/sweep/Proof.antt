@@ -1,5 +1,4 @@
--- `rotation::sweep` meets its contract. At p the rows before p are swept.
--- Assumes nothing.
+-- `rotation::sweep` meets its contract. At p the rows before p are swept. Assumes nothing.
 use mathlib.Core.Path.{_≡_, refl, _∙_}
 use Prim.Native.Nat.{_-_, _≤_}
 use native.Mathlib.Omega.{arith}
@@ -13,7 +12,8 @@ use Rattle.rotation.proofs.sweep.Statement.{statement}
 use Rattle.rotation.proofs.sweep.Tie as tie
 
 abbrev Inv-loop : tie.InvT-loop
-Inv-loop m₀ v₀ row₀ n p₀ m v row p = (p ≤ n) × (length m ≡ length m₀) × (length v ≡ length v₀) × (length row ≡ length row₀) × (turned m v ≡ inTurn (sweepRow n) p (turned m₀ v₀))
+Inv-loop m₀ v₀ row₀ n p₀ m v row p =
+    (p ≤ n) × (length m ≡ length m₀) × (length v ≡ length v₀) × (length row ≡ length row₀) × (turned m v ≡ inTurn (sweepRow n) p (turned m₀ v₀))
 
 abbrev μ-loop : tie.MeasureT-loop
 μ-loop m₀ v₀ row₀ n p₀ m v row p = n - p
@@ -52,7 +52,7 @@ same-length-3 c = c .before .loop .inv .3
 
 returns : tie.Need-returns Inv-loop μ-loop
 unfolding sweep
-returns c = let e : c .before .loop .p ≡ c .before .before .before .before .before .args .n = omega arith in rw e at (c .before .loop .inv .4)
+returns c = let all : c .before .loop .p ≡ c .before .before .before .before .before .args .n = omega arith in rw all at (c .before .loop .inv .4)
 
 pub sweep-spec : {M : Type 1} → statement M
 sweep-spec =

@@ -1,5 +1,4 @@
--- `rotation::sweep_all` meets its contract. What is left to do after the sweeps made gives what was to be done at the start.
--- Assumes nothing.
+-- `rotation::sweep_all` meets its contract. What is left to do after the sweeps made gives what was to be done at the start. Assumes nothing.
 use mathlib.Core.Path.{_≡_, refl, sym, ap, _∙_}
 use Prim.Native.Nat.{_-_, _≤_}
 use native.Mathlib.Omega.{arith}
@@ -14,7 +13,9 @@ use Rattle.rotation.proofs.sweep_all.Statement.{statement}
 use Rattle.rotation.proofs.sweep_all.Tie as tie
 
 abbrev Inv-loop : tie.InvT-loop
-Inv-loop m₀ v₀ row₀ n made₀ m v row made = (made ≤ 100) × (length m ≡ length m₀) × (length v ≡ length v₀) × (length row ≡ length row₀) × (sweepsFrom (100 - made) n made (turned m v) ≡ sweepsFrom 100 n 0 (turned m₀ v₀))
+Inv-loop m₀ v₀ row₀ n made₀ m v row made =
+    (made ≤ 100) × (length m ≡ length m₀) × (length v ≡ length v₀) × (length row ≡ length row₀)
+    × (sweepsFrom (100 - made) n made (turned m v) ≡ sweepsFrom 100 n 0 (turned m₀ v₀))
 
 abbrev μ-loop : tie.MeasureT-loop
 μ-loop m₀ v₀ row₀ n made₀ m v row made = 100 - made
@@ -49,14 +50,19 @@ loop-less c = omega arith
 
 loop-again : tie.Need-loop-again Inv-loop μ-loop
 loop-again c =
-    let call = c .before .before .before .before .before .before .sweep in
-    let inv = c .before .before .before .before .before .before .before .before .before .before .before .before .before .before .loop .inv in (
+    let at-sweep = c .before .before .before .before .before .before in
+    let at-if1 = at-sweep .before .before .before .before in
+    let at-off-diagonal = at-if1 .before in
+    let at-loop-test = at-off-diagonal .before .before in
+    let at-loop = at-loop-test .before in
+    let call = at-sweep .sweep in
+    let inv = at-loop .loop .inv in (
       omega arith,
       call .kept .0 ∙ inv .1,
       call .kept .1 .0 ∙ inv .2,
       call .kept .1 .1 .0 ∙ inv .3,
       ap (sweepsFrom _ _ _) (call .ensures)
-          ∙ sweeps-on _ _ _ (c .before .before .before .before .before .before .before .before .before .before .before .before .before .loop-test .taken) (ap (λ (t : Float). lt t 1e-22) (sym (c .before .before .before .before .before .before .before .before .before .before .before .off-diagonal .ensures)) ∙ c .before .before .before .before .before .before .before .before .before .before .if1 .left)
+          ∙ sweeps-on _ _ _ (at-loop-test .loop-test .taken) (ap (λ (t : Float). lt t 1e-22) (sym (at-off-diagonal .off-diagonal .ensures)) ∙ at-if1 .if1 .left)
           ∙ inv .4,
     )
 

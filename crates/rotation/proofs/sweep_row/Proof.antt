@@ -1,5 +1,4 @@
--- `rotation::sweep_row` meets its contract. At q the rotations with p + 1 up to q - 1 are made.
--- Assumes nothing.
+-- `rotation::sweep_row` meets its contract. At q the rotations with p + 1 up to q - 1 are made. Assumes nothing.
 use mathlib.Core.Path.{_≡_, refl, _∙_}
 use Prim.Native.Nat.{_+_, _-_, _≤_}
 use native.Mathlib.Omega.{arith}
@@ -13,7 +12,9 @@ use Rattle.rotation.proofs.sweep_row.Statement.{statement}
 use Rattle.rotation.proofs.sweep_row.Tie as tie
 
 abbrev Inv-loop : tie.InvT-loop
-Inv-loop m₀ v₀ row₀ n p q₀ m v row q = (p + 1 ≤ q) × (q ≤ n) × (length m ≡ length m₀) × (length v ≡ length v₀) × (length row ≡ length row₀) × (turned m v ≡ fromTo (rotate n p) (p + 1) q (turned m₀ v₀))
+Inv-loop m₀ v₀ row₀ n p q₀ m v row q =
+    (p + 1 ≤ q) × (q ≤ n) × (length m ≡ length m₀) × (length v ≡ length v₀) × (length row ≡ length row₀)
+    × (turned m v ≡ fromTo (rotate n p) (p + 1) q (turned m₀ v₀))
 
 abbrev μ-loop : tie.MeasureT-loop
 μ-loop m₀ v₀ row₀ n p q₀ m v row q = n - q
@@ -56,7 +57,7 @@ same-length-3 c = c .before .loop .inv .4
 
 returns : tie.Need-returns Inv-loop μ-loop
 unfolding sweepRow
-returns c = let e : c .before .loop .q ≡ c .before .before .before .before .before .args .n = omega arith in rw e at (c .before .loop .inv .5)
+returns c = let all : c .before .loop .q ≡ c .before .before .before .before .before .args .n = omega arith in rw all at (c .before .loop .inv .5)
 
 pub sweep-row-spec : {M : Type 1} → statement M
 sweep-row-spec =

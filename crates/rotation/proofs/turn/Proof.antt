@@ -1,7 +1,6 @@
--- `rotation::turn` meets its contract. The three calls are the definition.
--- Assumes nothing.
+-- `rotation::turn` meets its contract. The three calls are the definition. Assumes nothing.
 use mathlib.Core.Path.{ap, ap₂, _∙_}
-use Prim.Native.Nat.{_-_}
+use Prim.Native.Nat.{_+_, _*_, _≤_}
 use native.Mathlib.Omega.{arith}
 use borrow.Author.Needs.{needs}
 use Rattle.lists.proofs.Rows.{row-end}
@@ -9,14 +8,18 @@ use Rattle.rotation.specs.Rotation.{turnRows, turned, turnPair}
 use Rattle.rotation.proofs.turn.Statement.{statement}
 use Rattle.rotation.proofs.turn.Tie as tie
 
+-- rows p and q end within the n rows
+ends : (s : tie.Start) → (s .args .p * s .args .n + s .args .n ≤ s .args .n * s .args .n) × (s .args .q * s .args .n + s .args .n ≤ s .args .n * s .args .n)
+ends s = (row-end (s .args .n) _ _ (s .pre .3), row-end (s .args .n) _ _ (s .pre .4))
+
 rotate-columns-requires : tie.Need-rotate-columns-requires
 rotate-columns-requires c κs = search needs
 
 rotate-rows-requires : tie.Need-rotate-rows-requires
-rotate-rows-requires c κs = let n = c .before .before .before .before .before .before .before .before .before .args .n in let e = row-end n (c .before .before .before .before .before .before .before .before .before .args .p) n (c .before .before .before .before .before .before .before .before .before .pre .3) in let f = row-end n (c .before .before .before .before .before .before .before .before .before .args .q) n (c .before .before .before .before .before .before .before .before .before .pre .4) in omega arith
+rotate-rows-requires c κs = omega (arith, ends (c .before .before .before .before .before .before .before .before .before))
 
 rotate-rows-requires-2 : tie.Need-rotate-rows-requires-2
-rotate-rows-requires-2 c κs = let n = c .before .before .before .before .before .before .before .before .before .before .before .before .before .before .before .before .args .n in let e = row-end n (c .before .before .before .before .before .before .before .before .before .before .before .before .before .before .before .before .args .p) n (c .before .before .before .before .before .before .before .before .before .before .before .before .before .before .before .before .pre .3) in let f = row-end n (c .before .before .before .before .before .before .before .before .before .before .before .before .before .before .before .before .args .q) n (c .before .before .before .before .before .before .before .before .before .before .before .before .before .before .before .before .pre .4) in omega arith
+rotate-rows-requires-2 c κs = omega (arith, ends (c .before .before .before .before .before .before .before .before .before .before .before .before .before .before .before .before))
 
 same-length : tie.Need-same-length
 same-length c = search needs
@@ -30,8 +33,12 @@ same-length-3 c = search needs
 returns : tie.Need-returns
 unfolding turnPair
 returns c =
-    let a = c .before .before .before .before .before .before .before .before .before .before .before .before .before .before .before .before .before .before .before .before .before .args in
-    ap₂ turned (c .before .before .before .before .before .before .before .before .before .before .before .rotate-rows .ensures ∙ ap (turnRows (a .n) (a .p) (a .q) (a .c) (a .s)) (c .before .before .before .before .before .before .before .before .before .before .before .before .before .before .before .before .rotate-columns .ensures)) (c .before .before .before .before .rotate-rows2 .ensures)
+    let at-rotate-rows2 = c .before .before .before .before in
+    let at-rotate-rows = at-rotate-rows2 .before .before .before .before .before .before .before in
+    let at-rotate-columns = at-rotate-rows .before .before .before .before .before in
+    let at-start = at-rotate-columns .before .before .before .before .before in
+    let a = at-start .args in
+    ap₂ turned (at-rotate-rows .rotate-rows .ensures ∙ ap (turnRows (a .n) (a .p) (a .q) (a .c) (a .s)) (at-rotate-columns .rotate-columns .ensures)) (at-rotate-rows2 .rotate-rows2 .ensures)
 
 pub turn-spec : {M : Type 1} → statement M
 turn-spec =
