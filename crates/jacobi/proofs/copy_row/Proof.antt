@@ -1,7 +1,5 @@
--- `jacobi::copy_row` meets its contract. The part that is copied is row i.
--- Assumes nothing.
+-- `jacobi::copy_row` meets its contract. The part that is copied is row i. Assumes nothing.
 use mathlib.Core.Path.{_∙_}
-use Prim.Native.Nat.{_-_}
 use borrow.Author.Needs.{needs}
 use Rattle.lists.proofs.Rows.{part-row}
 use Rattle.jacobi.proofs.copy_row.Statement.{statement}
@@ -35,7 +33,10 @@ same-length : tie.Need-same-length
 same-length c = search needs
 
 returns : tie.Need-returns
-returns c = c .before .before .copy .ensures ∙ part-row (c .before .before .before .before .before .before .before .args .n) (c .before .before .before .before .before .before .before .args .i) _
+returns c =
+    let at-copy = c .before .before in
+    let at-start = at-copy .before .before .before .before .before in
+    at-copy .copy .ensures ∙ part-row (at-start .args .n) (at-start .args .i) (at-start .args .v .now)
 
 pub copy-row-spec : {M : Type 1} → statement M
 copy-row-spec =

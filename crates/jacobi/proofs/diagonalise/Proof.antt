@@ -1,8 +1,5 @@
--- `jacobi::diagonalise` meets its contract. The sweeps begin at a and the identity.
--- Assumes nothing.
-
+-- `jacobi::diagonalise` meets its contract. The sweeps begin at a and the identity. Assumes nothing.
 use mathlib.Core.Path.{ap, ap₂, _∙_}
-use Prim.Native.Nat.{_-_}
 use borrow.Author.Needs.{needs}
 use Rattle.rotation.specs.Rotation.{turned}
 use Rattle.rotation.specs.Sweeps.{sweepsFrom}
@@ -31,7 +28,14 @@ same-length-3 : tie.Need-same-length-3
 same-length-3 c = search needs
 
 returns : tie.Need-returns
-returns c = (c .before .before .before .before .before .before .before .before .before .before .before .sweep-all .ensures ∙ ap (sweepsFrom 100 (c .before .before .before .before .before .before .before .before .before .before .before .before .before .before .before .before .before .before .before .before .before .before .before .before .before .before .before .args .n) 0) (ap₂ turned (c .before .before .before .before .before .before .before .before .before .before .before .before .before .before .before .before .before .before .before .before .before .copy .ensures) (c .before .before .before .before .before .before .before .before .before .before .before .before .before .before .before .before .before .fill-identity .ensures)), c .before .before .gather-diagonal .ensures)
+returns c =
+    let at-gather-diagonal = c .before .before in
+    let at-sweep-all = at-gather-diagonal .before .before .before .before .before .before .before .before .before in
+    let at-fill-identity = at-sweep-all .before .before .before .before .before .before in
+    let at-copy = at-fill-identity .before .before .before .before in
+    let at-start = at-copy .before .before .before .before .before .before in
+    let start = ap₂ turned (at-copy .copy .ensures) (at-fill-identity .fill-identity .ensures) in
+    (at-sweep-all .sweep-all .ensures ∙ ap (sweepsFrom 100 (at-start .args .n) 0) start, at-gather-diagonal .gather-diagonal .ensures)
 
 pub diagonalise-spec : {M : Type 1} → statement M
 diagonalise-spec =

@@ -1,8 +1,5 @@
--- `jacobi::eigen` meets its contract. By whether a NaN stands on the diagonal.
--- Assumes nothing.
-
+-- `jacobi::eigen` meets its contract. By whether a NaN stands on the diagonal. Assumes nothing.
 use mathlib.Core.Path.{sym, _∙_}
-use Prim.Native.Nat.{_-_}
 use borrow.Author.Needs.{needs}
 use Rattle.jacobi.proofs.Call.{solved-unordered, solved-ordered}
 use Rattle.jacobi.proofs.eigen.Statement.{statement}
@@ -31,9 +28,14 @@ same-length-4 c = search needs
 
 returns : tie.Need-returns
 returns c =
-    let a = c .before .before .before .before .before .before .before .before .before .before .before .before .before .before .before .before .before .before .before .before .before .before .before .args in
-    let swept = c .before .before .before .before .before .before .before .before .before .before .before .before .before .diagonalise .ensures in
-    solved-unordered (a .n) (a .a .now) (swept .0) (swept .1) (a .out .now) (c .before .before .before .before .before .before .before .before .before .before .before .before .before .before .before .before .before .before .before .before .before .before .before .pre .0 .1) (sym (c .before .before .before .before .before .has-nan .ensures) ∙ c .before .before .before .before .if1 .taken) (c .before .before .clear .ensures)
+    let at-clear = c .before .before in
+    let at-if1 = at-clear .before .before in
+    let at-has-nan = at-if1 .before in
+    let at-diagonalise = at-has-nan .before .before .before .before .before .before .before .before in
+    let at-start = at-diagonalise .before .before .before .before .before .before .before .before .before .before in
+    let a = at-start .args in
+    let done = at-diagonalise .diagonalise .ensures in
+    solved-unordered (a .n) (a .a .now) (done .0) (done .1) (a .out .now) (at-start .pre .0 .1) (sym (at-has-nan .has-nan .ensures) ∙ at-if1 .if1 .taken) (at-clear .clear .ensures)
 
 arrange-requires : tie.Need-arrange-requires
 arrange-requires c κs = search needs
@@ -55,10 +57,15 @@ same-length-9 c = search needs
 
 returns-2 : tie.Need-returns-2
 returns-2 c =
-    let a = c .before .before .before .before .before .before .before .before .before .before .before .before .before .before .before .before .before .before .before .before .before .before .before .before .before .before .before .before .args in
-    let swept = c .before .before .before .before .before .before .before .before .before .before .before .before .before .before .before .before .before .before .diagonalise in
-    solved-ordered (a .n) (a .a .now) (swept .ensures .0) (swept .ensures .1) (a .out .now) (c .before .before .before .before .before .before .before .before .before .before .before .before .before .before .before .before .before .before .before .before .before .before .before .before .before .before .before .before .pre .0 .1)
-    (swept .kept .1 .1 .0 ∙ c .before .before .before .before .before .before .before .before .before .before .before .before .before .before .before .before .before .before .before .before .before .before .before .before .before .before .before .before .pre .1 .0) (swept .kept .1 .0 ∙ c .before .before .before .before .before .before .before .before .before .before .before .before .before .before .before .before .before .before .before .before .before .before .before .before .before .before .before .before .pre .0 .3) (sym (c .before .before .before .before .before .before .before .before .before .before .has-nan .ensures) ∙ c .before .before .before .before .before .before .before .before .before .if1 .left) (c .before .before .before .before .arrange .ensures)
+    let at-arrange = c .before .before .before .before in
+    let at-if1 = at-arrange .before .before .before .before .before in
+    let at-has-nan = at-if1 .before in
+    let at-diagonalise = at-has-nan .before .before .before .before .before .before .before .before in
+    let at-start = at-diagonalise .before .before .before .before .before .before .before .before .before .before in
+    let a = at-start .args in
+    let done = at-diagonalise .diagonalise in
+    solved-ordered (a .n) (a .a .now) (done .ensures .0) (done .ensures .1) (a .out .now) (at-start .pre .0 .1)
+    (done .kept .1 .1 .0 ∙ at-start .pre .1 .0) (done .kept .1 .0 ∙ at-start .pre .0 .3) (sym (at-has-nan .has-nan .ensures) ∙ at-if1 .if1 .left) (at-arrange .arrange .ensures)
 
 pub eigen-spec : {M : Type 1} → statement M
 eigen-spec =

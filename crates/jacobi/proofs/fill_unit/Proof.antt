@@ -1,6 +1,4 @@
--- `jacobi::fill_unit` meets its contract. Zeros, and a 1 at place i.
--- Assumes nothing.
-use Prim.Native.Nat.{_-_}
+-- `jacobi::fill_unit` meets its contract. Zeros, and a 1 at place i. Assumes nothing.
 use borrow.Author.Needs.{needs}
 use lib.ListN.{length}
 use Rattle.lists.specs.Rows.{row}
@@ -23,7 +21,10 @@ same-length c = search needs
 
 returns : tie.Need-returns
 unfolding cleared
-returns c = simp (c .before .before .clear .ensures) (unit-row (length (c .before .before .before .before .before .args .row .now)) (c .before .before .before .before .before .args .i) (c .before .before .before .before .before .pre))
+returns c =
+    let at-clear = c .before .before in
+    let at-start = at-clear .before .before .before in
+    simp (at-clear .clear .ensures) (unit-row (length (at-start .args .row .now)) (at-start .args .i) (at-start .pre))
 
 pub fill-unit-spec : {M : Type 1} → statement M
 fill-unit-spec = tie.close (tie.spec clear-requires mul-row slice-write-row same-length returns)

@@ -1,8 +1,8 @@
--- `jacobi::gather_diagonal` meets its contract. After i turns the first i entries are written.
--- Assumes nothing.
+-- `jacobi::gather_diagonal` meets its contract. After i turns the first i entries are written. Assumes nothing.
 use mathlib.Core.Path.{refl, ap, _∙_}
-use Prim.Native.Nat.{ℕ, _-_}
+use Prim.Native.Nat.{ℕ, _+_, _*_, _-_, _≤_}
 use native.Mathlib.Omega.{arith}
+use lib.ListN.{length}
 use Rattle.lists.specs.Ranges.{table}
 use Rattle.lists.specs.Rows.{entry}
 use Rattle.lists.proofs.Rows.{cell-below}
@@ -17,20 +17,24 @@ Inv-loop d₀ m n i₀ d i = Writing (λ k. entry n m k k) d₀ d i
 abbrev μ-loop : tie.MeasureT-loop
 μ-loop d₀ m n i₀ d i = n - i
 
+-- the entry that is read lies within the matrix
+within : (c : tie.In-loop Inv-loop μ-loop) → c .before .loop .i * c .before .before .args .n + c .before .loop .i + 1 ≤ length (c .before .before .args .m .now)
+within c = omega (arith, cell-below (c .before .before .args .n) (c .before .before .args .n) _ _ (c .loop-test .taken) (c .loop-test .taken))
+
 loop-holds : tie.Need-loop-holds Inv-loop μ-loop
 loop-holds c = writing-none (λ k. entry (c .args .n) (c .args .m .now) k k) _
 
 mul-d : tie.Need-mul-d Inv-loop μ-loop
-mul-d c = omega (arith, cell-below (c .before .before .args .n) (c .before .before .args .n) (c .before .loop .i) (c .before .loop .i) (c .loop-test .taken) (c .loop-test .taken))
+mul-d c = omega (arith, within c)
 
 add-d : tie.Need-add-d Inv-loop μ-loop
-add-d c = omega (arith, cell-below (c .before .before .args .n) (c .before .before .args .n) (c .before .loop .i) (c .before .loop .i) (c .loop-test .taken) (c .loop-test .taken))
+add-d c = omega (arith, within c)
 
 mul-d-2 : tie.Need-mul-d-2 Inv-loop μ-loop
-mul-d-2 c = omega (arith, cell-below (c .before .before .args .n) (c .before .before .args .n) (c .before .loop .i) (c .before .loop .i) (c .loop-test .taken) (c .loop-test .taken))
+mul-d-2 c = omega (arith, within c)
 
 shared-slice-read-d : tie.Need-shared-slice-read-d Inv-loop μ-loop
-shared-slice-read-d c = omega (arith, cell-below (c .before .before .before .args .n) (c .before .before .before .args .n) (c .before .before .loop .i) (c .before .before .loop .i) (c .before .loop-test .taken) (c .before .loop-test .taken))
+shared-slice-read-d c = omega (arith, within (c .before))
 
 mul-d-3 : tie.Need-mul-d-3 Inv-loop μ-loop
 mul-d-3 c = omega arith
@@ -46,14 +50,21 @@ loop-less c = omega arith
 
 loop-again : tie.Need-loop-again Inv-loop μ-loop
 unfolding entry
-loop-again c = writing-next (λ k. entry (c .before .before .before .args .n) (c .before .before .before .args .m .now) k k) _ (c .before .before .loop .inv) (omega arith) refl
+loop-again c =
+    let at-loop = c .before .before in
+    let at-start = at-loop .before in
+    writing-next (λ k. entry (at-start .args .n) (at-start .args .m .now) k k) _ (at-loop .loop .inv) (omega arith) refl
 
 same-length : tie.Need-same-length Inv-loop μ-loop
 same-length c = c .before .loop .inv .long
 
 returns : tie.Need-returns Inv-loop μ-loop
 unfolding diagonal
-returns c = writing-all (λ k. entry (c .before .before .args .n) (c .before .before .args .m .now) k k) _ (c .before .loop .inv) (omega arith) ∙ ap (λ (k : ℕ). table k (λ i. entry (c .before .before .args .n) (c .before .before .args .m .now) i i)) (c .before .before .pre .0)
+returns c =
+    let at-loop = c .before in
+    let at-start = at-loop .before in
+    let a = at-start .args in
+    writing-all (λ k. entry (a .n) (a .m .now) k k) _ (at-loop .loop .inv) (omega arith) ∙ ap (λ (k : ℕ). table k (λ i. entry (a .n) (a .m .now) i i)) (at-start .pre .0)
 
 pub gather-diagonal-spec : {M : Type 1} → statement M
 gather-diagonal-spec =

@@ -1,6 +1,4 @@
--- `jacobi::has_not_finite` meets its contract. Each of the first i is finite.
--- Assumes nothing.
-
+-- `jacobi::has_not_finite` meets its contract. Each of the first i is finite. Assumes nothing.
 use mathlib.Core.Path.{_≡_, refl, sym, ap, _∙_}
 use mathlib.Core.Bool.{not}
 use Prim.Native.Nat.{_-_, _≤_}
@@ -33,7 +31,12 @@ is-finite-requires : tie.Need-is-finite-requires Inv-loop μ-loop
 is-finite-requires c κs = search needs
 
 returns : tie.Need-returns Inv-loop μ-loop
-returns c = sym (any-here notFinite (c .before .before .before .before .before .before .args .a .now) (c .before .before .before .before .loop .i) nan (c .before .before .before .loop-test .taken) (ap not (sym (c .before .is-finite .ensures)) ∙ c .if1 .taken)) ∙ c .before .before .before .before .loop .inv .1
+returns c =
+    let at-is-finite = c .before in
+    let at-loop-test = at-is-finite .before .before in
+    let at-loop = at-loop-test .before in
+    let at-start = at-loop .before .before in
+    sym (any-here notFinite (at-start .args .a .now) (at-loop .loop .i) nan (at-loop-test .loop-test .taken) (ap not (sym (at-is-finite .is-finite .ensures)) ∙ c .if1 .taken)) ∙ at-loop .loop .inv .1
 
 add-i : tie.Need-add-i Inv-loop μ-loop
 add-i c = omega arith
@@ -42,7 +45,12 @@ loop-less : tie.Need-loop-less Inv-loop μ-loop
 loop-less c = omega arith
 
 loop-again : tie.Need-loop-again Inv-loop μ-loop
-loop-again c = (omega arith, sym (any-later notFinite (c .before .before .before .before .before .before .args .a .now) (c .before .before .before .before .loop .i) nan (c .before .before .before .loop-test .taken) (ap not (sym (c .before .is-finite .ensures)) ∙ c .if1 .left)) ∙ c .before .before .before .before .loop .inv .1)
+loop-again c =
+    let at-is-finite = c .before in
+    let at-loop-test = at-is-finite .before .before in
+    let at-loop = at-loop-test .before in
+    let at-start = at-loop .before .before in
+    (omega arith, sym (any-later notFinite (at-start .args .a .now) (at-loop .loop .i) nan (at-loop-test .loop-test .taken) (ap not (sym (at-is-finite .is-finite .ensures)) ∙ c .if1 .left)) ∙ at-loop .loop .inv .1)
 
 returns-2 : tie.Need-returns-2 Inv-loop μ-loop
 returns-2 c = sym (any-none notFinite (c .before .before .before .args .a .now) (c .before .loop .i) (c .loop-test .left)) ∙ c .before .loop .inv .1

@@ -1,8 +1,5 @@
--- `jacobi::jacobi_eigen` meets its contract. By whether a line of the table holds.
--- Assumes nothing.
-
+-- `jacobi::jacobi_eigen` meets its contract. By whether a line of the table holds. Assumes nothing.
 use mathlib.Core.Path.{sym, _∙_}
-use Prim.Native.Nat.{_-_}
 use borrow.Author.Needs.{needs}
 use lib.ListN.{length}
 use Rattle.jacobi.proofs.Call.{call-refused, call-passed, passed-fits}
@@ -20,14 +17,21 @@ enum-told c = search needs
 
 with-scratch-requires : tie.Need-with-scratch-requires
 with-scratch-requires c κs =
-    let a = c .before .before .before .before .before .before .before .before .before .before .args in
-    let fits = passed-fits (a .n) (a .a .now) (length (a .out .now)) (length (a .m .now)) (length (a .v .now)) (sym (c .before .before .before .enum-told .given .1) ∙ c .before .before .before .before .before .check .ensures) in
+    let at-enum-told = c .before .before .before in
+    let at-check = at-enum-told .before .before in
+    let at-start = at-check .before .before .before .before .before in
+    let a = at-start .args in
+    let passed = sym (at-enum-told .enum-told .given .1) ∙ at-check .check .ensures in
+    let fits = passed-fits (a .n) (a .a .now) (length (a .out .now)) (length (a .m .now)) (length (a .v .now)) passed in
     (fits .a-fits, fits .out-fits, fits .m-fits, fits .v-fits, fits .n-fits)
 
 returns : tie.Need-returns
 returns c =
-    let a = c .before .before .before .before .before .before .before .before .args in
-    call-refused (a .n) (a .a .now) (a .out .now) (a .m .now) (a .v .now) (sym (c .before .c .given .1) ∙ c .before .before .before .check .ensures)
+    let at-c = c .before in
+    let at-check = at-c .before .before in
+    let at-start = at-check .before .before .before .before .before in
+    let a = at-start .args in
+    call-refused (a .n) (a .a .now) (a .out .now) (a .m .now) (a .v .now) (sym (at-c .c .given .1) ∙ at-check .check .ensures)
 
 same-length : tie.Need-same-length
 same-length c = search needs
@@ -40,8 +44,12 @@ same-length-3 c = search needs
 
 returns-2 : tie.Need-returns-2
 returns-2 c =
-    let a = c .before .before .before .before .before .before .before .before .before .before .before .before .before .before .before .before .before .args in
-    call-passed (a .n) (a .a .now) (a .out .now) (a .m .now) (a .v .now) (sym (c .before .before .before .before .before .before .before .before .before .before .enum-told .given .1) ∙ c .before .before .before .before .before .before .before .before .before .before .before .before .check .ensures) (c .before .before .before .before .before .before .with-scratch .ensures)
+    let at-with-scratch = c .before .before .before .before .before .before in
+    let at-enum-told = at-with-scratch .before .before .before .before in
+    let at-check = at-enum-told .before .before in
+    let at-start = at-check .before .before .before .before .before in
+    let a = at-start .args in
+    call-passed (a .n) (a .a .now) (a .out .now) (a .m .now) (a .v .now) (sym (at-enum-told .enum-told .given .1) ∙ at-check .check .ensures) (at-with-scratch .with-scratch .ensures)
 
 pub jacobi-eigen-spec : {M : Type 1} → statement M
 jacobi-eigen-spec =

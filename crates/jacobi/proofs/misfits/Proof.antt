@@ -1,14 +1,12 @@
--- `jacobi::misfits` meets its contract. From 2 ^ 32 on the square of n is above every length.
--- Assumes nothing.
-
+-- `jacobi::misfits` meets its contract. From 2 ^ 32 on the square of n is above every length. Assumes nothing.
 use mathlib.Core.Path.{_≡_, refl}
 use mathlib.Core.Bool.{Bool, true, false, _||_}
-use Prim.Native.Nat.{_*_, _-_, _≤_}
+use Prim.Native.Nat.{_*_, _≤_}
+use native.Mathlib.Nat.{mul-le-mul}
 use native.Mathlib.Omega.{arith}
 use borrow.Author.Tests.{lt-ltb, le-ltb, eq-eqb, ne-eqb}
 use lib.ListN.{length}
 use Rattle.lists.specs.Filters.{any}
-use native.Mathlib.Nat.{mul-le-mul}
 use Rattle.outcome.specs.Refusals.{short}
 use Rattle.jacobi.specs.Call.{misfits}
 use Rattle.jacobi.proofs.misfits.Statement.{statement}
