@@ -4,7 +4,6 @@ use native.Mathlib.Omega.{arith}
 use borrow.Author.Needs.{needs}
 use Rattle.lists.specs.Rows.{entry}
 use Rattle.lists.proofs.Rows.{cell-below}
-use Rattle.rotation.specs.Rotation.{tangent, cosine, rotate}
 use Rattle.rotation.proofs.Rotation.{rotate-skips, rotate-turns}
 use Rattle.rotation.proofs.rotate.Statement.{statement}
 use Rattle.rotation.proofs.rotate.Tie as tie

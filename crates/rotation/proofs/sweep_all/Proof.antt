@@ -7,7 +7,7 @@ use lib.Ieee.{Float, lt}
 use Rattle.float.specs.Floats.{1e-22}
 use Rattle.lists.specs.Rows.{row}
 use Rattle.rotation.specs.Rotation.{turned}
-use Rattle.rotation.specs.Sweeps.{sweep, sweepsFrom}
+use Rattle.rotation.specs.Sweeps.{sweepsFrom}
 use Rattle.rotation.proofs.Sweeping.{sweeps-end, sweeps-on, sweeps-none}
 use Rattle.rotation.proofs.sweep_all.Statement.{statement}
 use Rattle.rotation.proofs.sweep_all.Tie as tie
