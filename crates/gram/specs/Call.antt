@@ -1,0 +1,39 @@
+-- A whole call of `gram_matrix`: its answer, and what all that is lent holds afterwards. Definitions only.
+use Prim.Native.Nat.{ℕ, _*_}
+use mathlib.Core.Bool.{Bool, false}
+use mathlib.Core.List.{List, [], _∷_}
+use lib.ListN.{length}
+use lib.Ieee.{Float}
+use Rattle.float.specs.Floats.{zero⁺}
+use Rattle.outcome.specs.Refusals.{first, _of_, short}
+use Rattle.outcome.specs.Outcome.{Outcome, answered, refused, judged}
+use Rattle.outcome.specs.Slices.{output, work}
+use Rattle.gram.specs.declared.Answer.{Answer}
+use Rattle.gram.specs.declared.Answer.the-variants.{Features, Refused}
+use Rattle.gram.specs.Gram.{selected, gram}
+use Rattle.gram.specs.Lines.{gramLines}
+
+-- what is asked of the output, n by n, and of the work slice, 64 words of 64 bits for each sample
+unfoldable pub tooShort : ℕ → List Float → List ℕ → Bool
+tooShort n out words = short (length out of n * n ∷ length words of n * 64 ∷ [])
+
+-- the answer for any arguments: the number of selected hashes, or a refusal
+unfoldable pub features : ℕ → List ℕ → List ℕ → Bool → Bool → Outcome ℕ
+features n hashes offsets short beyond = judged (first (gramLines n hashes offsets short beyond)) (answered (length (selected n hashes)))
+
+-- the answer, the output and the work slice afterwards
+pub data Called : Type 0 where
+  leaves : Outcome ℕ → List Float → List ℕ → Called
+
+unfoldable pub gramCall : ℕ → List ℕ → List ℕ → List Float → List ℕ → Called
+gramCall n hashes offsets out words =
+    let o = features n hashes offsets (tooShort n out words) false in
+    leaves o (output zero⁺ (λ m. gram n hashes offsets) (n * n) o out) (work 0 o words)
+
+-- how a contract says it: what is returned, and what the slices hold
+abbrev pub outcomeOf : Answer → Outcome ℕ
+outcomeOf (Features m) = answered m
+outcomeOf (Refused r) = refused r
+
+abbrev pub called : Answer → List Float → List ℕ → Called
+called r out words = leaves (outcomeOf r) out words
