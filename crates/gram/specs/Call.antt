@@ -1,21 +1,17 @@
 -- A whole call of `gram_matrix`: its answer, and what all that is lent holds afterwards. Definitions only.
 use Prim.Native.Nat.{ℕ, _*_}
 use mathlib.Core.Bool.{Bool, false}
-use mathlib.Core.List.{List, [], _∷_}
+use mathlib.Core.List.{List}
 use lib.ListN.{length}
 use lib.Ieee.{Float}
 use Rattle.float.specs.Floats.{zero⁺}
-use Rattle.outcome.specs.Refusals.{first, _of_, short}
+use Rattle.outcome.specs.Refusals.{first}
 use Rattle.outcome.specs.Outcome.{Outcome, answered, refused, judged}
 use Rattle.outcome.specs.Slices.{output, work}
 use Rattle.gram.specs.declared.Answer.{Answer}
 use Rattle.gram.specs.declared.Answer.the-variants.{Features, Refused}
 use Rattle.gram.specs.Gram.{selected, gram}
-use Rattle.gram.specs.Lines.{gramLines}
-
--- what is asked of the output, n by n, and of the work slice, 64 words of 64 bits for each sample
-unfoldable pub tooShort : ℕ → List Float → List ℕ → Bool
-tooShort n out words = short (length out of n * n ∷ length words of n * 64 ∷ [])
+use Rattle.gram.specs.Lines.{tooShort, gramLines}
 
 -- the answer for any arguments: the number of selected hashes, or a refusal
 unfoldable pub features : ℕ → List ℕ → List ℕ → Bool → Bool → Outcome ℕ
@@ -27,7 +23,7 @@ pub data Called : Type 0 where
 
 unfoldable pub gramCall : ℕ → List ℕ → List ℕ → List Float → List ℕ → Called
 gramCall n hashes offsets out words =
-    let o = features n hashes offsets (tooShort n out words) false in
+    let o = features n hashes offsets (tooShort n (length out) (length words)) false in
     leaves o (output zero⁺ (λ m. gram n hashes offsets) (n * n) o out) (work 0 o words)
 
 -- how a contract says it: what is returned, and what the slices hold

@@ -19,7 +19,7 @@ unfoldable pub sets : ℕ → List ℕ → List ℕ → List (List ℕ)
 sets n hashes offsets = table n (setAt hashes offsets)
 
 -- a frequency of 2 to n - 1
-unfoldable pub within : ℕ → ℕ → Bool
+abbrev pub within : ℕ → ℕ → Bool
 within n f = leb 2 f && ltb f n
 
 -- the hashes with such a frequency, upward; every occurrence counts
