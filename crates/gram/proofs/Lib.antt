@@ -2,3 +2,4 @@
 pub mod Extra
 pub mod Bits
 pub mod Sets
+pub mod Matrix
