@@ -3,3 +3,6 @@ pub mod Extra
 pub mod Bits
 pub mod Sets
 pub mod Matrix
+pub mod Upward
+pub mod Runs
+pub mod Scans
