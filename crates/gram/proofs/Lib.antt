@@ -6,3 +6,4 @@ pub mod Matrix
 pub mod Upward
 pub mod Runs
 pub mod Scans
+pub mod Columns
