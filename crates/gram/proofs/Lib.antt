@@ -7,3 +7,4 @@ pub mod Upward
 pub mod Runs
 pub mod Scans
 pub mod Columns
+pub mod Accepted

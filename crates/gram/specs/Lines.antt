@@ -39,3 +39,7 @@ earlyLines n hashes offsets short beyond =
     ∷ (Limit when ltb 256 n || ltb 65536 hashes || beyond)
     ∷ (Ordination when ltb n 3)
     ∷ []
+
+-- and those that do, by the number of selected hashes
+unfoldable pub lateLines : ℕ → List Line
+lateLines m = (Ordination when eqb m 0) ∷ (Hashes when ltb 4096 m) ∷ []
