@@ -46,6 +46,7 @@ any-from p (suc k) lo e i g h = one (same-or-not lo i) (or-no (p lo) (any p (upF
   where
     later : (lo ≡ i → ⊥) → suc lo ≤ i
     later d = ⊎-elim (λ (q : suc lo ≤ i). q) (λ (q : i < suc lo). absurd (d (omega arith))) (order (suc lo) i)
+
     one : (lo ≡ i) ⊎ (lo ≡ i → ⊥) → (p lo ≡ false) × (any p (upFrom (suc lo) k) ≡ false) → ((lo ≡ i → ⊥) → any p (upFrom (suc lo) k) ≡ false → p i ≡ false) → p i ≡ false
     one (inl q) b r = ap p (sym q) ∙ b .0
     one (inr d) b r = r d (b .1)

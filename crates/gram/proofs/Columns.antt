@@ -111,11 +111,14 @@ module _ (chosen : List ℕ) (up : Upward chosen) (few : length chosen ≤ 4096)
     where
       at : drop c chosen ≡ getD chosen c 0 ∷ drop (c + 1) chosen
       at = drop-more chosen c 0 h
+
       stands-c : stands (getD chosen c 0) chosen ≡ true
       stands-c = stands-at c (getD chosen c 0) chosen (drop (c + 1) chosen) at
+
       other : (getD chosen c 0 ≡ x → ⊥) → (b : Bool) → stands x chosen ≡ b → c ≡ columnOf chosen x → ⊥
       other d true s e = let held = position-holds x chosen s in d (ap (λ (k : ℕ). getD chosen k 0) (e ∙ column-yes x s) ∙ held .1)
       other d false s e = let far = column-no x s in omega arith
+
       one : (getD chosen c 0 ≡ x) ⊎ (getD chosen c 0 ≡ x → ⊥) → eqb c (columnOf chosen x) ≡ eqb (getD chosen c 0) x
       one (inl e) =
           let same : columnOf chosen x ≡ c =
@@ -155,8 +158,10 @@ module _ (chosen : List ℕ) (up : Upward chosen) (few : length chosen ≤ 4096)
       where
         at : ℕ → Float
         at c = getD (map mean chosen) c nan
+
         has : ℕ → Bool
         has c = ltb c (length (map mean chosen))
+
         one : (b : Bool) → stands h chosen ≡ b → map at (keep has (map (columnOf chosen) s)) ≡ map mean (keep (λ x. stands x chosen) s)
             → map at (cond b (columnOf chosen h ∷ keep has (map (columnOf chosen) s)) (keep has (map (columnOf chosen) s))) ≡ map mean (cond b (h ∷ keep (λ x. stands x chosen) s) (keep (λ x. stands x chosen) s))
         one true e r = ap₂ (λ (x : Float) (l : List Float). x ∷ l) (ap (λ (c : ℕ). getD (map mean chosen) c nan) (column-yes h e) ∙ mean-at h chosen e) r

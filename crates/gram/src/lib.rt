@@ -3,10 +3,12 @@
 // halves, for an operation that goes on with the matrix.
 use outcome::Check;
 use outcome::Refusal;
+
 pub mod choose;
 pub mod fill;
 pub mod lines;
 pub mod rows;
+
 ghost use mathlib.Core.Path.{_≡_};
 ghost use Prim.Native.Nat.{_*_, _≤_, min};
 ghost use lib.ListN.{length};
@@ -136,4 +138,78 @@ fn gram_in(
     let k = hashes.len();
     fill_gram(out, words, sums, &columns[..k], &means[..m], offsets, n);
     a
+}
+
+// Room for up to 4,096 hashes.
+fn gram_small(
+    out: &mut [f64],
+    words: &mut [u64],
+    hashes: &[u64],
+    offsets: &[usize],
+    n: usize,
+) -> Answer
+    requires { ⌜ length (now hashes) ≤ 4096 ⌝ }
+    ensures { λ r. ⌜ called r (now (out .exit)) (now (words .exit))
+        ≡ gramCall n (now (hashes .entry)) (now (offsets .entry)) (now (out .entry)) (now (words .entry)) ⌝ }
+{
+    let mut order = [0u16; 4096];
+    let mut columns = [0u16; 4096];
+    let mut means = [0.0; 4096];
+    let mut sums = [0.0; 256];
+    gram_in(
+        out,
+        words,
+        &mut order,
+        &mut columns,
+        &mut means,
+        &mut sums,
+        hashes,
+        offsets,
+        n,
+    )
+}
+
+// Room for as many hashes as the table allows.
+fn gram_large(
+    out: &mut [f64],
+    words: &mut [u64],
+    hashes: &[u64],
+    offsets: &[usize],
+    n: usize,
+) -> Answer
+    ensures { λ r. ⌜ called r (now (out .exit)) (now (words .exit))
+        ≡ gramCall n (now (hashes .entry)) (now (offsets .entry)) (now (out .entry)) (now (words .entry)) ⌝ }
+{
+    let mut order = [0u16; 65536];
+    let mut columns = [0u16; 65536];
+    let mut means = [0.0; 4096];
+    let mut sums = [0.0; 256];
+    gram_in(
+        out,
+        words,
+        &mut order,
+        &mut columns,
+        &mut means,
+        &mut sums,
+        hashes,
+        offsets,
+        n,
+    )
+}
+
+// The centred Gram matrix of n sets, in front of `out`. The set i has the hashes from offsets[i] to offsets[i + 1]. `words` lends 64 words for each set.
+pub fn gram_matrix(
+    hashes: &[u64],
+    offsets: &[usize],
+    n: usize,
+    out: &mut [f64],
+    words: &mut [u64],
+) -> Answer
+    ensures { λ r. ⌜ called r (now (out .exit)) (now (words .exit))
+        ≡ gramCall n (now (hashes .entry)) (now (offsets .entry)) (now (out .entry)) (now (words .entry)) ⌝ }
+{
+    if hashes.len() <= 4096 {
+        return gram_small(out, words, hashes, offsets, n);
+    }
+    gram_large(out, words, hashes, offsets, n)
 }

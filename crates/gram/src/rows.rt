@@ -98,7 +98,14 @@ fn mark_set(row: &mut [u64], set: &[u16], m: usize)
 }
 
 // The bits of the n sets, a row of w words for each.
-pub fn mark_sets(words: &mut [u64], columns: &[u16], offsets: &[usize], n: usize, m: usize, w: usize)
+pub fn mark_sets(
+    words: &mut [u64],
+    columns: &[u16],
+    offsets: &[usize],
+    n: usize,
+    m: usize,
+    w: usize,
+)
     requires { ⌜ Offsets n (now offsets) (length (now columns)) × (n * w ≤ length (now words)) × (m ≤ w * 64) ⌝ }
     ensures { λ _. ⌜ now (words .exit)
         ≡ over (rows n (λ i. packed w (present m (setAt (now (columns .entry)) (now (offsets .entry)) i)))) (now (words .entry)) ⌝ }

@@ -25,7 +25,7 @@ mean-sums-requires : tie.Need-mean-sums-requires
 mean-sums-requires c κs = search needs
 
 mark-sets-requires : tie.Need-mark-sets-requires
-mark-sets-requires c κs = 
+mark-sets-requires c κs =
     let a = c .before .before .before .before .before .before .before .before .before .before .before .args in
     let r = room (a .n) (length (a .means .now)) (length (a .words .now)) (c .before .before .before .before .before .before .before .before .before .before .before .pre .0 .1) (c .before .before .before .before .before .before .before .before .before .before .before .pre .1 .1) in
     (c .before .before .before .before .before .before .before .before .before .before .before .pre .0 .0, r .0, r .1)
@@ -34,7 +34,7 @@ square-sum-requires : tie.Need-square-sum-requires
 square-sum-requires c κs = search needs
 
 fill-requires : tie.Need-fill-requires
-fill-requires c κs = 
+fill-requires c κs =
     let a = c .before .before .before .before .before .before .before .before .before .before .before .before .before .before .before .before .before .before .args in
     let r = room (a .n) (length (a .means .now)) (length (a .words .now)) (c .before .before .before .before .before .before .before .before .before .before .before .before .before .before .before .before .before .before .pre .0 .1) (c .before .before .before .before .before .before .before .before .before .before .before .before .before .before .before .before .before .before .pre .1 .1) in
     let words = c .before .before .before .before .before .before .mark-sets .kept .0 in
@@ -55,7 +55,7 @@ same-length-3 c = search needs
 
 returns : tie.Need-returns
 unfolding cleared
-returns c = 
+returns c =
     let a = c .before .before .before .before .before .before .before .before .before .before .before .before .before .before .before .before .before .before .before .before .before .before .before .before .before .args in
     let m = length (a .means .now) in
     let r = room (a .n) m (length (a .words .now)) (c .before .before .before .before .before .before .before .before .before .before .before .before .before .before .before .before .before .before .before .before .before .before .before .before .before .pre .0 .1) (c .before .before .before .before .before .before .before .before .before .before .before .before .before .before .before .before .before .before .before .before .before .before .before .before .before .pre .1 .1) in

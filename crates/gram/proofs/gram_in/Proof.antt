@@ -34,7 +34,7 @@ same-length-3 : tie.Need-same-length-3
 same-length-3 c = search needs
 
 returns : tie.Need-returns
-returns c = 
+returns c =
     let a = c .before .before .before .before .before .before .before .before .before .before .before .before .before .before .before .before .before .before .before .before .before .args in
     call-refused (a .n) (a .hashes .now) (a .offsets .now) (a .out .now) (a .words .now) (c .enum-told .given .0 .0) (c .enum-told .given .1)
     (c .before .before .before .before .before .before .before .before .check-gram .ensures .told ∙ ap (λ (s : Bool). features (a .n) (a .hashes .now) (a .offsets .now) s false) (c .before .before .before .before .before .before .before .before .before .before .before .before .too-short .ensures))
@@ -46,17 +46,17 @@ slice-aggregate-fill-gram : tie.Need-slice-aggregate-fill-gram
 slice-aggregate-fill-gram c = sym (length-take-le (length (c .before .before .before .before .before .before .before .before .before .before .before .before .before .before .before .before .before .before .before .before .before .before .before .before .before .before .args .hashes .now)) (c .before .before .before .before .before .before .before .before .before .before .before .before .before .check-gram .last .1 .0) (omega (arith, checked-answer (c .before .before .before .before .before .before .before .before .before .before .before .before .before .before .before .before .before .before .before .before .before .before .before .before .before .before .args .n) (c .before .before .before .before .before .before .before .before .before .before .before .before .before .before .before .before .before .before .before .before .before .before .before .before .before .before .args .hashes .now) (c .before .before .before .before .before .before .before .before .before .before .before .before .before .before .before .before .before .before .before .before .before .before .before .before .before .before .args .offsets .now) (c .before .before .before .before .before .before .before .before .before .before .before .before .before .before .before .before .before .too-short .result) false (c .before .before .before .before .before .before .before .before .before .before .before .before .before .check-gram .ensures) (c .before .before .before .before .before .a .given .1) .1 .bounded, c .before .before .before .before .before .before .before .before .before .before .before .before .before .check-gram .kept .1 .0, c .before .before .before .before .before .before .before .before .before .before .before .before .before .before .before .before .before .before .before .before .before .before .before .before .before .before .pre .0 .1)))
 
 slice-reshare-prefix-fill-gram-2 : tie.Need-slice-reshare-prefix-fill-gram-2
-slice-reshare-prefix-fill-gram-2 c = 
+slice-reshare-prefix-fill-gram-2 c =
     let t = checked-answer (c .before .before .before .before .before .before .before .before .before .before .before .before .before .before .before .before .before .before .before .before .before .before .before .before .before .before .args .n) (c .before .before .before .before .before .before .before .before .before .before .before .before .before .before .before .before .before .before .before .before .before .before .before .before .before .before .args .hashes .now) (c .before .before .before .before .before .before .before .before .before .before .before .before .before .before .before .before .before .before .before .before .before .before .before .before .before .before .args .offsets .now) (c .before .before .before .before .before .before .before .before .before .before .before .before .before .before .before .before .before .too-short .result) false (c .before .before .before .before .before .before .before .before .before .before .before .before .before .check-gram .ensures) (c .before .before .before .before .before .a .given .1) in
     omega (arith, t .0, t .1 .most, c .before .before .before .before .before .before .before .before .before .before .before .before .before .check-gram .kept .1 .1 .0, c .before .before .before .before .before .before .before .before .before .before .before .before .before .before .before .before .before .before .before .before .before .before .before .before .before .before .pre .1 .0)
 
 slice-aggregate-fill-gram-2 : tie.Need-slice-aggregate-fill-gram-2
-slice-aggregate-fill-gram-2 c = 
+slice-aggregate-fill-gram-2 c =
     let t = checked-answer (c .before .before .before .before .before .before .before .before .before .before .before .before .before .before .before .before .before .before .before .before .before .before .before .before .before .before .before .args .n) (c .before .before .before .before .before .before .before .before .before .before .before .before .before .before .before .before .before .before .before .before .before .before .before .before .before .before .before .args .hashes .now) (c .before .before .before .before .before .before .before .before .before .before .before .before .before .before .before .before .before .before .before .before .before .before .before .before .before .before .before .args .offsets .now) (c .before .before .before .before .before .before .before .before .before .before .before .before .before .before .before .before .before .before .too-short .result) false (c .before .before .before .before .before .before .before .before .before .before .before .before .before .before .check-gram .ensures) (c .before .before .before .before .before .before .a .given .1) in
     sym (length-take-le (c .before .before .before .before .before .before .a .given .0 .0) (c .before .before .before .before .before .before .before .before .before .before .before .before .before .before .check-gram .last .1 .1 .0) (omega (arith, t .0, t .1 .most, c .before .before .before .before .before .before .before .before .before .before .before .before .before .before .check-gram .kept .1 .1 .0, c .before .before .before .before .before .before .before .before .before .before .before .before .before .before .before .before .before .before .before .before .before .before .before .before .before .before .before .pre .1 .0)))
 
 fill-gram-requires : tie.Need-fill-gram-requires
-fill-gram-requires c κs = 
+fill-gram-requires c κs =
     let a = c .before .before .before .before .before .before .before .before .before .before .before .before .before .before .before .before .before .before .before .before .before .before .before .before .before .before .before .args in
     let t = checked-answer (c .before .before .before .before .before .before .before .before .before .before .before .before .before .before .before .before .before .before .before .before .before .before .before .before .before .before .before .args .n) (c .before .before .before .before .before .before .before .before .before .before .before .before .before .before .before .before .before .before .before .before .before .before .before .before .before .before .before .args .hashes .now) (c .before .before .before .before .before .before .before .before .before .before .before .before .before .before .before .before .before .before .before .before .before .before .before .before .before .before .before .args .offsets .now) (c .before .before .before .before .before .before .before .before .before .before .before .before .before .before .before .before .before .before .too-short .result) false (c .before .before .before .before .before .before .before .before .before .before .before .before .before .before .check-gram .ensures) (c .before .before .before .before .before .before .a .given .1) in
     let k = length-take-le (length (a .hashes .now)) (c .before .before .before .before .before .before .before .before .before .before .before .before .before .before .check-gram .last .1 .0) (omega (arith, t .1 .bounded, c .before .before .before .before .before .before .before .before .before .before .before .before .before .before .check-gram .kept .1 .0, c .before .before .before .before .before .before .before .before .before .before .before .before .before .before .before .before .before .before .before .before .before .before .before .before .before .before .before .pre .0 .1)) in
@@ -83,7 +83,7 @@ same-length-9 : tie.Need-same-length-9
 same-length-9 c = search needs
 
 returns-2 : tie.Need-returns-2
-returns-2 c = 
+returns-2 c =
     let a = c .before .before .before .before .before .before .before .before .before .before .before .before .before .before .before .before .before .before .before .before .before .before .before .before .before .before .before .before .before .before .before .before .before .before .args in
     let told = subst (λ (s : Bool). Checked (a .n) (a .hashes .now) (a .offsets .now) s false (c .before .before .before .before .before .before .before .before .before .before .before .before .before .before .before .before .before .before .before .before .before .check-gram .result) (c .before .before .before .before .before .before .before .before .before .before .before .before .before .before .before .before .before .before .before .before .before .check-gram .last .1 .0) (c .before .before .before .before .before .before .before .before .before .before .before .before .before .before .before .before .before .before .before .before .before .check-gram .last .1 .1 .0)) (c .before .before .before .before .before .before .before .before .before .before .before .before .before .before .before .before .before .before .before .before .before .before .before .before .before .too-short .ensures) (c .before .before .before .before .before .before .before .before .before .before .before .before .before .before .before .before .before .before .before .before .before .check-gram .ensures) in
     sym (ap (λ (r : Answer). called r (c .before .before .before .before .before .before .fill-gram .last .0) (c .before .before .before .before .before .before .fill-gram .last .1 .0)) (c .before .before .before .before .before .before .before .before .before .before .before .before .before .a .given .1))

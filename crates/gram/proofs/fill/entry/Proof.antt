@@ -56,7 +56,7 @@ part-common-bits-end-2 : tie.Need-part-common-bits-end-2
 part-common-bits-end-2 c = search needs
 
 common-bits-requires : tie.Need-common-bits-requires
-common-bits-requires c κs = 
+common-bits-requires c κs =
     let a = c .before .before .before .before .args in
     let one = length-part (a .w) (a .i) (a .words .now) (omega arith) in
     let two = length-part (a .w) (a .j) (a .words .now) (omega arith) in
@@ -80,7 +80,7 @@ shared-slice-read-result-2 c = search needs
 
 returns : tie.Need-returns
 unfolding entryAt
-returns c = 
+returns c =
     let a = c .before .before .before .before .before .before .before .before .args in
     let bits = c .before .before .before .common-bits .ensures .0 ∙ ap₂ common (part-row (a .w) (a .i) (a .words .now)) (part-row (a .w) (a .j) (a .words .now)) in
     ap (λ (k : ℕ). num k ⊖ getD (a .sums .now) (a .i) nan ⊖ getD (a .sums .now) (a .j) nan ⊕ a .t) bits

@@ -48,7 +48,7 @@ part-fill-row-end : tie.Need-part-fill-row-end Inv-loop μ-loop
 part-fill-row-end c = omega (arith, row-end (c .before .before .before .before .before .before .before .before .before .args .n) (c .before .before .before .before .before .loop .i) (c .before .before .before .before .before .before .before .before .before .args .n) (omega arith), c .before .before .mirror-row .kept .0)
 
 fill-row-requires : tie.Need-fill-row-requires Inv-loop μ-loop
-fill-row-requires c κs = 
+fill-row-requires c κs =
     let a = c .before .before .before .before .before .before .before .before .before .before .args in
     let ends = row-end (a .n) (c .before .before .before .before .before .before .loop .i) (a .n) (omega arith) in
     let same = c .before .before .before .mirror-row .kept .0 in
@@ -62,7 +62,7 @@ loop-less : tie.Need-loop-less Inv-loop μ-loop
 loop-less c = omega arith
 
 loop-again : tie.Need-loop-again Inv-loop μ-loop
-loop-again c = 
+loop-again c =
     let a = c .before .before .before .before .before .before .before .before .before .before .before .before .before .args in
     let here = c .before .before .before .before .before .before .before .before .before .loop in
     let m = c .before .before .before .before .before .before .mirror-row in
@@ -77,7 +77,7 @@ same-length c = c .before .loop .inv .1
 
 returns : tie.Need-returns Inv-loop μ-loop
 unfolding grid
-returns c = 
+returns c =
     let a = c .before .before .before .before .before .args in
     let done : c .before .loop .i ≡ a .n = omega arith in
     c .before .loop .inv .2 ∙ ap (λ (k : ℕ). over (rows k (full (entryAt (a .w) (a .words .now) (a .sums .now) (a .t)) nan (a .n))) (a .out .now)) done

@@ -22,7 +22,7 @@ loop-holds : tie.Need-loop-holds Inv-loop μ-loop
 loop-holds c = (omega arith, omega arith, refl, upper-none (entryAt (c .before .before .before .args .w) (c .before .before .before .args .words .now) (c .before .before .before .args .sums .now) (c .before .before .before .args .t) (c .before .before .before .args .i)) (c .before .before .before .args .row .now) (c .before .before .before .args .i) (omega arith))
 
 entry-requires : tie.Need-entry-requires Inv-loop μ-loop
-entry-requires c κs = 
+entry-requires c κs =
     let a = c .before .before .before .before .before .args in
     let one = row-end (a .w) (a .i) (length (a .row .now)) (omega arith) in
     let two = row-end (a .w) (c .before .loop .j) (length (a .row .now)) (omega arith) in
@@ -41,7 +41,7 @@ loop-less : tie.Need-loop-less Inv-loop μ-loop
 loop-less c = omega arith
 
 loop-again : tie.Need-loop-again Inv-loop μ-loop
-loop-again c = 
+loop-again c =
     let a = c .before .before .before .before .before .before .args in
     (omega arith, omega arith, length-set (c .before .before .loop .row) _ _ ∙ c .before .before .loop .inv .2, upper-next (entryAt (a .w) (a .words .now) (a .sums .now) (a .t) (a .i)) (a .row .now) (a .i) (omega arith) (c .before .before .loop .j) (omega arith) (omega arith) (c .before .before .loop .inv .3) (c .entry .ensures))
 
@@ -49,7 +49,7 @@ same-length : tie.Need-same-length Inv-loop μ-loop
 same-length c = c .before .loop .inv .2
 
 returns : tie.Need-returns Inv-loop μ-loop
-returns c = 
+returns c =
     let a = c .before .before .before .before .before .args in
     upper-all (entryAt (a .w) (a .words .now) (a .sums .now) (a .t) (a .i)) (a .row .now) (a .i) (omega arith) (c .before .loop .j) (omega arith) (c .before .loop .inv .3)
 

@@ -59,7 +59,7 @@ loop-less : tie.Need-loop-less Inv-loop μ-loop
 loop-less c = omega arith
 
 loop-again : tie.Need-loop-again Inv-loop μ-loop
-loop-again c = 
+loop-again c =
     let a = c .before .before .before .args in
     let step : ℕ → List Float → List Float = λ k l. set l (a .i * a .n + k) (getD l (k * a .n + a .i) nan) in
     (omega arith, length-set (c .before .before .loop .out) _ _ ∙ c .before .before .loop .inv .1, inTurn-next step (c .before .before .loop .j) (a .out .now) (c .before .before .loop .inv .2) refl)
@@ -68,7 +68,7 @@ same-length : tie.Need-same-length Inv-loop μ-loop
 same-length c = c .before .loop .inv .1
 
 returns : tie.Need-returns Inv-loop μ-loop
-returns c = 
+returns c =
     let a = c .before .before .args in
     let step : ℕ → List Float → List Float = λ k l. set l (a .i * a .n + k) (getD l (k * a .n + a .i) nan) in
     let done : c .before .loop .j ≡ a .i = omega arith in

@@ -15,13 +15,13 @@ use Rattle.gram.proofs.lines.too_short.Tie as tie
 
 returns : tie.Need-returns
 unfolding tooShort short any
-returns c = 
+returns c =
     let n = c .before .args .n in
     let past : 4294967296 * 4294967296 ≤ n * n = mul-le-mul (c .if1 .taken) (c .if1 .taken) in
     rw (lt-ltb (c .before .args .out) (n * n) (omega arith))
 
 mul-if2 : tie.Need-mul-if2
-mul-if2 c = 
+mul-if2 c =
     let n = c .before .args .n in
     let below : n ≤ 4294967295 = omega arith in
     let most : n * n ≤ 4294967295 * 4294967295 = mul-le-mul below below in

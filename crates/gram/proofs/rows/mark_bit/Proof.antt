@@ -27,7 +27,7 @@ same-length : tie.Need-same-length
 same-length c = search needs
 
 returns : tie.Need-returns
-returns c = 
+returns c =
     let k = c .before .args .c % 64 in
     rw (shl-exact {a = 1} 1 k 64 (omega arith) (omega arith), one-mul (2 ^ k))
 

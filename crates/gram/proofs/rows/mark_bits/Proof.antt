@@ -43,7 +43,7 @@ loop-less : tie.Need-loop-less Inv-loop μ-loop
 loop-less c = omega arith
 
 loop-again : tie.Need-loop-again Inv-loop μ-loop
-loop-again c = 
+loop-again c =
     let set = c .before .before .before .before .before .before .before .before .before .before .args .set .now in
     let k = length (c .before .before .before .before .before .before .before .before .before .before .args .row .now) in
     let l = present (c .before .before .before .before .before .before .before .before .before .before .args .m) (take (c .before .before .before .before .before .before .before .loop .i) set) in
@@ -60,7 +60,7 @@ loop-less-2 : tie.Need-loop-less-2 Inv-loop μ-loop
 loop-less-2 c = omega arith
 
 loop-again-2 : tie.Need-loop-again-2 Inv-loop μ-loop
-loop-again-2 c = 
+loop-again-2 c =
     (omega arith, c .before .before .before .loop .inv .1, c .before .before .before .loop .inv .2 ∙ ap (packed (length (c .before .before .before .before .before .before .args .row .now))) (present-same (c .before .before .before .before .before .before .args .m) (c .before .before .before .before .before .before .args .set .now) (c .before .before .before .loop .i) (omega arith) (omega arith)))
 
 same-length : tie.Need-same-length Inv-loop μ-loop

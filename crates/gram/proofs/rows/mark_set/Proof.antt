@@ -16,7 +16,7 @@ clear-requires c κs = search needs
 
 mark-bits-requires : tie.Need-mark-bits-requires
 unfolding cleared
-mark-bits-requires c κs = 
+mark-bits-requires c κs =
     let same = c .before .before .before .clear .kept .0 in
     (omega arith, c .before .before .before .clear .ensures ∙ ap (λ (k : ℕ). replicate k 0) (sym same))
 

@@ -23,7 +23,7 @@ abbrev μ-loop : tie.MeasureT-loop
 μ-loop words₀ columns offsets n m w i₀ words i = n - i
 
 loop-holds : tie.Need-loop-holds Inv-loop μ-loop
-loop-holds c = 
+loop-holds c =
     let a = c .before .before .before .args in
     (omega arith, refl, rows-none (a .w) (λ k. packed (a .w) (present (a .m) (setAt (a .columns .now) (a .offsets .now) k))) (λ k. length-packed (a .w) _) (a .words .now))
 
@@ -76,7 +76,7 @@ part-mark-set-end-2 : tie.Need-part-mark-set-end-2 Inv-loop μ-loop
 part-mark-set-end-2 c = omega (arith, c .before .before .before .before .before .before .before .before .pre .0 .climb (c .before .before .before .before .loop .i) (omega arith), c .before .before .before .before .before .before .before .before .pre .0 .bound (c .before .before .before .before .loop .i) (omega arith))
 
 mark-set-requires : tie.Need-mark-set-requires Inv-loop μ-loop
-mark-set-requires c κs = 
+mark-set-requires c κs =
     let a = c .before .before .before .before .before .before .before .before .before .args in
     let long = length-part (a .w) (c .before .before .before .before .before .loop .i) (c .before .before .before .before .before .loop .words) (omega (arith, row-end (c .before .before .before .before .before .before .before .before .before .args .w) (c .before .before .before .before .before .loop .i) (c .before .before .before .before .before .before .before .before .before .args .n) (omega arith))) in
     omega arith
@@ -89,7 +89,7 @@ loop-less c = omega arith
 
 loop-again : tie.Need-loop-again Inv-loop μ-loop
 unfolding setAt
-loop-again c = 
+loop-again c =
     let a = c .before .before .before .before .before .before .before .before .before .before .before .before .args in
     let here = c .before .before .before .before .before .before .before .before .loop in
     let call = c .before .before .mark-set in
@@ -106,7 +106,7 @@ same-length : tie.Need-same-length Inv-loop μ-loop
 same-length c = c .before .loop .inv .1
 
 returns : tie.Need-returns Inv-loop μ-loop
-returns c = 
+returns c =
     let a = c .before .before .before .before .before .args in
     let done : c .before .loop .i ≡ a .n = omega arith in
     c .before .loop .inv .2 ∙ ap (λ (k : ℕ). over (rows k (λ j. packed (a .w) (present (a .m) (setAt (a .columns .now) (a .offsets .now) j)))) (a .words .now)) done

@@ -69,7 +69,7 @@ same-length : tie.Need-same-length Inv-loop μ-loop
 same-length c = c .before .loop .inv .1 .long
 
 returns : tie.Need-returns Inv-loop μ-loop
-returns c = 
+returns c =
     let a = c .before .before .before .before .before .before .args in
     let done : c .before .loop .i ≡ a .n = omega arith in
     c .before .loop .inv .1 .held ∙ ap (λ (k : ℕ). over (table k (λ j. columnSum (a .means .now) (setAt (a .columns .now) (a .offsets .now) j))) (a .sums .now)) done
