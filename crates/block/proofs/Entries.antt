@@ -14,8 +14,8 @@ use Rattle.lists.specs.Filters.{all}
 use Rattle.lists.specs.Writes.{over}
 use Rattle.lists.proofs.Loops.{inTurn-more, fromTo-none, fromTo-next}
 use Rattle.lists.proofs.Ranges.{map-last, table-last, length-table, getD-table, table-ext}
-use Rattle.lists.proofs.Writes.{Writing, writing-next, writing-none, writing-all, over-none, over-next, over-all}
-use Rattle.vectors.proofs.Extra.{zip-table, writing-here}
+use Rattle.lists.proofs.Writes.{Writing, writing-next, writing-here, writing-none, writing-all, over-none, over-next, over-all}
+use Rattle.vectors.proofs.Extra.{zip-table}
 use Rattle.splitmix.specs.SplitMix.{advance, uniform}
 use Rattle.block.specs.Block.{states}
 use Rattle.block.specs.Rounds.{settledAt, settled}

@@ -9,10 +9,10 @@ use Rattle.lists.specs.Ranges.{range, table}
 use Rattle.lists.specs.Sums.{sumFrom, sum⁻}
 use Rattle.lists.proofs.Ranges.{map-table}
 use Rattle.lists.proofs.Sums.{sum-turn, sum-end, sum-table}
-use Rattle.lists.proofs.Writes.{Writing, writing-next, writing-all, writing-table}
+use Rattle.lists.proofs.Writes.{Writing, writing-next, writing-here, writing-all, writing-table}
 use Rattle.vectors.specs.declared.Four.{Four}
 use Rattle.vectors.specs.Vectors.{dot}
-use Rattle.vectors.proofs.Extra.{zip-table, writing-here}
+use Rattle.vectors.proofs.Extra.{zip-table}
 
 -- ---- an inner product: with the products from entry i on, s is the whole
 

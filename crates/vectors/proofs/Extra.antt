@@ -3,12 +3,10 @@ use mathlib.Core.Path.{_≡_, refl, sym, ap, _∙_, subst}
 use mathlib.Core.List.{List, [], _∷_, zipWith}
 use Prim.Native.Nat.{ℕ, zero, suc, _<_}
 use native.Mathlib.Nat.{not-suc-le-zero, le-of-suc-le-suc, suc-inj}
-use native.Mathlib.Omega.{arith}
 use lib.ListN.{length, getD}
 use lib.Seq.{ext-getD}
 use Rattle.lists.specs.Ranges.{table}
 use Rattle.lists.proofs.Ranges.{length-table, getD-table}
-use Rattle.lists.proofs.Writes.{Writing, getD-behind}
 
 -- ---- two lists of one length, entry by entry
 
@@ -37,10 +35,3 @@ module _ {A B C : Type 0} (f : A → B → C) where
       at i h =
           getD-table (λ i. f (getD xs i a) (getD ys i b)) (length xs) i (f a b) h
           ∙ sym (getD-zipWith xs ys i a b (f a b) h (subst (λ (n : ℕ). i < n) e h))
-
--- ---- what is written next is still as it was
-
-pub writing-here : {A : Type 0} (f : ℕ → A) (old : List A) {l : List A} {i : ℕ} (d : A) → Writing f old l i → getD l i d ≡ getD old i d
-writing-here f old {l} {i} d w =
-    let len = length-table f i in
-    ap (λ (t : List _). getD t i d) (w .held) ∙ getD-behind (table i f) old i d (omega arith)

@@ -45,7 +45,7 @@ returns c =
     let a = c .before .before .before .before .before .before .before .before .before .before .before .before .before .before .before .before .before .args in
     let at-loop = c .before .before .before .before .before .before .before .before .before .before .before .before in
     let made = c .before .before .before .before .before .before .before .round .ensures in (
-      rounds-end (a .n) (now (a .a)) (a .b) (length (now (a .before))) (a .shift) (at-loop .loop .t) (at-loop .loop .before) (at-loop .loop .q) (c .before .before .before .before .before .before .before .before .before .before .before .loop-test .taken) (made .0) (as-many (a .n) _ _ (at-loop .loop .inv .2) (made .2)) (sym (made .3) ∙ c .if1 .taken) ∙ at-loop .loop .inv .4,
+      rounds-end (a .n) (now (a .a)) (a .b) (length (now (a .before))) (a .shift) (at-loop .loop .t) (at-loop .loop .before) (at-loop .loop .q) (omega (arith, c .before .before .before .before .before .before .before .before .before .before .before .loop-test .taken)) (made .0) (as-many (a .n) _ _ (at-loop .loop .inv .2) (made .2)) (sym (made .3) ∙ c .if1 .taken) ∙ at-loop .loop .inv .4,
       made .1,
     )
 
@@ -64,7 +64,7 @@ loop-again c =
       c .before .before .before .before .before .before .before .round .kept .1 .0 ∙ at-loop .loop .inv .1,
       c .before .before .before .before .before .before .before .round .kept .1 .1 .0 ∙ at-loop .loop .inv .2,
       made .1,
-      rounds-on (a .n) (now (a .a)) (a .b) (length (now (a .before))) (a .shift) (at-loop .loop .t) (at-loop .loop .before) (at-loop .loop .q) (c .before .before .before .before .before .before .before .before .before .before .before .loop-test .taken) (made .0) (as-many (a .n) _ _ (at-loop .loop .inv .2) (made .2)) (sym (made .3) ∙ c .if1 .left) ∙ at-loop .loop .inv .4,
+      rounds-on (a .n) (now (a .a)) (a .b) (length (now (a .before))) (a .shift) (at-loop .loop .t) (at-loop .loop .before) (at-loop .loop .q) (omega (arith, c .before .before .before .before .before .before .before .before .before .before .before .loop-test .taken)) (made .0) (as-many (a .n) _ _ (at-loop .loop .inv .2) (made .2)) (sym (made .3) ∙ c .if1 .left) ∙ at-loop .loop .inv .4,
     )
 
 same-length-4 : tie.Need-same-length-4 Inv-loop μ-loop
@@ -79,7 +79,7 @@ same-length-6 c = c .before .loop .inv .2
 returns-2 : tie.Need-returns-2 Inv-loop μ-loop
 returns-2 c =
     let a = c .before .before .before .before .before .before .args in
-    (rounds-none (a .n) (now (a .a)) (a .b) (length (now (a .before))) (a .shift) (c .before .loop .t) (c .before .loop .before) (c .before .loop .q) (c .loop-test .left) ∙ c .before .loop .inv .4, c .before .loop .inv .3)
+    (rounds-none (a .n) (now (a .a)) (a .b) (length (now (a .before))) (a .shift) (c .before .loop .t) (c .before .loop .before) (c .before .loop .q) (omega (arith, c .loop-test .left)) ∙ c .before .loop .inv .4, c .before .loop .inv .3)
 
 pub iterate-spec : {M : Type 1} → statement M
 iterate-spec =

@@ -34,7 +34,7 @@ returns : tie.Need-returns Inv-loop μ-loop
 returns c =
     let a = c .before .before .before .before .before .before .before .before .before .before .before .args in
     let at-loop = c .before .before .before .before .before .before .before in
-    power-end (a .n) (now (a .a)) (at-loop .loop .k) (at-loop .loop .rho) (at-loop .loop .x) (c .before .before .before .before .before .before .loop-test .taken) (c .before .before .before .power-step .ensures .1) (c .if1 .taken) ∙ at-loop .loop .inv .2
+    power-end (a .n) (now (a .a)) (at-loop .loop .k) (at-loop .loop .rho) (at-loop .loop .x) (omega (arith, c .before .before .before .before .before .before .loop-test .taken)) (c .before .before .before .power-step .ensures .1) (c .if1 .taken) ∙ at-loop .loop .inv .2
 
 put-divided-requires : tie.Need-put-divided-requires Inv-loop μ-loop
 put-divided-requires c κs = search needs
@@ -53,7 +53,7 @@ loop-again c =
     let r = c .before .before .before .before .before .before .before .before .power-step .result in (
       c .before .before .put-divided .kept .0 ∙ at-loop .loop .inv .0,
       c .before .before .before .before .before .before .before .before .power-step .kept .0 ∙ at-loop .loop .inv .1,
-      power-on (a .n) (now (a .a)) (at-loop .loop .k) (at-loop .loop .rho) (at-loop .loop .x) (c .before .before .before .before .before .before .before .before .before .before .before .loop-test .taken) (step .1) (c .before .before .before .before .before .if1 .left) (c .before .before .put-divided .ensures ∙ ap (divided r) (step .0)) ∙ at-loop .loop .inv .2,
+      power-on (a .n) (now (a .a)) (at-loop .loop .k) (at-loop .loop .rho) (at-loop .loop .x) (omega (arith, c .before .before .before .before .before .before .before .before .before .before .before .loop-test .taken)) (step .1) (c .before .before .before .before .before .if1 .left) (c .before .before .put-divided .ensures ∙ ap (divided r) (step .0)) ∙ at-loop .loop .inv .2,
     )
 
 same-length-3 : tie.Need-same-length-3 Inv-loop μ-loop
@@ -63,7 +63,7 @@ same-length-4 : tie.Need-same-length-4 Inv-loop μ-loop
 same-length-4 c = c .before .loop .inv .1
 
 returns-2 : tie.Need-returns-2 Inv-loop μ-loop
-returns-2 c = let a = c .before .before .before .before .before .args in power-none (a .n) (now (a .a)) (c .before .loop .k) (c .before .loop .rho) (c .before .loop .x) (c .loop-test .left) ∙ c .before .loop .inv .2
+returns-2 c = let a = c .before .before .before .before .before .args in power-none (a .n) (now (a .a)) (c .before .loop .k) (c .before .loop .rho) (c .before .loop .x) (omega (arith, c .loop-test .left)) ∙ c .before .loop .inv .2
 
 pub power-bound-spec : {M : Type 1} → statement M
 power-bound-spec =
