@@ -32,8 +32,11 @@ module _ {A : Type 0} (w i : ℕ) (r l : List A) (fits : i * w + w ≤ length l)
   pub put-put : (s : List A) → putRow w i s (putRow w i r l) ≡ putRow w i s l
   unfolding putRow
   put-put s =
-      rw (take-at (take (i * w) l) (r ++ drop w (drop (i * w) l)) (i * w) front, drop-at (take (i * w) l) (r ++ drop w (drop (i * w) l)) (i * w) front,
-      drop-at r (drop w (drop (i * w) l)) w whole)
+      rw (
+        take-at (take (i * w) l) (r ++ drop w (drop (i * w) l)) (i * w) front,
+        drop-at (take (i * w) l) (r ++ drop w (drop (i * w) l)) (i * w) front,
+        drop-at r (drop w (drop (i * w) l)) w whole,
+      )
 
   -- an entry before the row, in it, and behind it
   before-row : (k : ℕ) (d : A) → k < i * w → getD (putRow w i r l) k d ≡ getD l k d
