@@ -2,6 +2,7 @@
 use mathlib.Core.Path.{sym, ap, _∙_}
 use Prim.Native.Nat.{ℕ, _+_, _*_}
 use native.Mathlib.Omega.{arith}
+use borrow.Author.Needs.{needs}
 use lib.ListN.{replicate}
 use lib.Seq.{length-take-le, length-front}
 use Rattle.float.specs.Floats.{zero⁺}
@@ -11,103 +12,91 @@ use Rattle.jacobi.proofs.solve.Statement.{statement}
 use Rattle.jacobi.proofs.solve.Tie as tie
 
 mul-k : tie.Need-mul-k
-mul-k c = omega arith
+mul-k c = search needs
 
 add-eigen : tie.Need-add-eigen
-add-eigen c = omega arith
+add-eigen c = search needs
 
 slice-relend-prefix-eigen : tie.Need-slice-relend-prefix-eigen
-slice-relend-prefix-eigen c = omega arith
+slice-relend-prefix-eigen c = search needs
 
 slice-aggregate-eigen : tie.Need-slice-aggregate-eigen
 slice-aggregate-eigen c =
-    let a = c .before .before .before .before .before .before .before .before .args in
+    let a = c .before .before .before .before .before .before .before .args in
     sym (length-take-le (a .n + a .n * a .n) (a .out .now) (omega arith))
 
 slice-relend-prefix-eigen-2 : tie.Need-slice-relend-prefix-eigen-2
-slice-relend-prefix-eigen-2 c = omega arith
+slice-relend-prefix-eigen-2 c = search needs
 
 slice-aggregate-eigen-2 : tie.Need-slice-aggregate-eigen-2
 slice-aggregate-eigen-2 c =
-    let a = c .before .before .before .before .before .before .before .before .before .args in
+    let a = c .before .before .before .before .before .before .before .before .args in
     sym (length-take-le (a .n * a .n) (a .m .now) (omega arith))
 
 slice-relend-prefix-eigen-3 : tie.Need-slice-relend-prefix-eigen-3
-slice-relend-prefix-eigen-3 c = omega arith
+slice-relend-prefix-eigen-3 c = search needs
 
 slice-aggregate-eigen-3 : tie.Need-slice-aggregate-eigen-3
 slice-aggregate-eigen-3 c =
-    let a = c .before .before .before .before .before .before .before .before .before .before .args in
+    let a = c .before .before .before .before .before .before .before .before .before .args in
     sym (length-take-le (a .n * a .n) (a .v .now) (omega arith))
 
 slice-relend-prefix-eigen-4 : tie.Need-slice-relend-prefix-eigen-4
-slice-relend-prefix-eigen-4 c = omega arith
+slice-relend-prefix-eigen-4 c = search needs
 
 slice-aggregate-eigen-4 : tie.Need-slice-aggregate-eigen-4
 slice-aggregate-eigen-4 c =
-    let a = c .before .before .before .before .before .before .before .before .before .before .before .args in
-    sym (length-take-le (a .n) (a .x .now) (omega arith))
+    let a = c .before .before .before .before .before .before .before .before .before .before .args in
+    sym (length-take-le (a .n) (a .row .now) (omega arith))
 
 slice-relend-prefix-eigen-5 : tie.Need-slice-relend-prefix-eigen-5
-slice-relend-prefix-eigen-5 c = omega arith
+slice-relend-prefix-eigen-5 c = search needs
 
 slice-aggregate-eigen-5 : tie.Need-slice-aggregate-eigen-5
 slice-aggregate-eigen-5 c =
-    let a = c .before .before .before .before .before .before .before .before .before .before .before .before .args in
-    sym (length-take-le (a .n) (a .y .now) (omega arith))
-
-slice-relend-prefix-eigen-6 : tie.Need-slice-relend-prefix-eigen-6
-slice-relend-prefix-eigen-6 c = omega arith
-
-slice-aggregate-eigen-6 : tie.Need-slice-aggregate-eigen-6
-slice-aggregate-eigen-6 c =
-    let a = c .before .before .before .before .before .before .before .before .before .before .before .before .before .args in
+    let a = c .before .before .before .before .before .before .before .before .before .before .before .args in
     sym (length-take-le (a .n) (a .order .now) (omega arith))
 
 eigen-requires : tie.Need-eigen-requires
 eigen-requires c κs =
-    let at-start = c .before .before .before .before .before .before .before .before .before .before .before .before .before in
+    let at-start = c .before .before .before .before .before .before .before .before .before .before .before in
     let a = at-start .args in
     let n = a .n in
     let e₁ = length-take-le (n + n * n) (a .out .now) (omega arith) in
     let e₂ = length-take-le (n * n) (a .m .now) (omega arith) in
     let e₃ = length-take-le (n * n) (a .v .now) (omega arith) in
-    let e₄ = length-take-le n (a .x .now) (omega arith) in
-    let e₅ = length-take-le n (a .y .now) (omega arith) in
-    let e₆ = length-take-le n (a .order .now) (omega arith) in
-    ((at-start .pre .0 .0, e₁, e₂, e₃), (e₄, e₅, e₆, at-start .pre .1 .3))
+    let e₄ = length-take-le n (a .row .now) (omega arith) in
+    let e₅ = length-take-le n (a .order .now) (omega arith) in
+    ((at-start .pre .0 .0, e₁, e₂, e₃), (e₄, e₅, at-start .pre .1 .2))
 
 clear-requires : tie.Need-clear-requires
-clear-requires c κs = omega arith
+clear-requires c κs = search needs
 
 clear-requires-2 : tie.Need-clear-requires-2
-clear-requires-2 c κs = omega arith
+clear-requires-2 c κs = search needs
 
 same-length : tie.Need-same-length
-same-length c = omega arith
+same-length c = search needs
 
 same-length-2 : tie.Need-same-length-2
-same-length-2 c = omega arith
+same-length-2 c = search needs
 
 same-length-3 : tie.Need-same-length-3
-same-length-3 c = omega arith
+same-length-3 c = search needs
 
 same-length-4 : tie.Need-same-length-4
-same-length-4 c = omega arith
+same-length-4 c = search needs
 
 same-length-5 : tie.Need-same-length-5
-same-length-5 c = omega arith
-
-same-length-6 : tie.Need-same-length-6
-same-length-6 c = omega arith
+same-length-5 c = search needs
 
 returns : tie.Need-returns
 unfolding cleared
 returns c =
     let at-clear2 = c .before .before in
     let at-clear = at-clear2 .before .before .before .before in
-    let at-eigen = at-clear .before .before .before .before .before .before .before .before .before .before .before .before .before .before in
-    let at-start = at-eigen .before .before .before .before .before .before .before .before .before .before .before .before .before .before in
+    let at-eigen = at-clear .before .before .before .before .before .before .before .before .before .before .before .before in
+    let at-start = at-eigen .before .before .before .before .before .before .before .before .before .before .before .before in
     let a = at-start .args in
     let n = a .n in
     let done = at-eigen .eigen in
@@ -134,8 +123,6 @@ solve-spec =
     slice-aggregate-eigen-4
     slice-relend-prefix-eigen-5
     slice-aggregate-eigen-5
-    slice-relend-prefix-eigen-6
-    slice-aggregate-eigen-6
     eigen-requires
     clear-requires
     clear-requires-2
@@ -144,5 +131,4 @@ solve-spec =
     same-length-3
     same-length-4
     same-length-5
-    same-length-6
     returns)
