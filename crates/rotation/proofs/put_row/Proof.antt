@@ -1,9 +1,12 @@
--- `jacobi::copy_row` meets its contract. The part that is copied is row i. Assumes nothing.
-use mathlib.Core.Path.{_∙_}
+-- `rotation::put_row` meets its contract. The part that is written is row i. Assumes nothing.
+use mathlib.Core.Path.{ap, _∙_}
+use mathlib.Core.List.{List}
 use borrow.Author.Needs.{needs}
-use Rattle.lists.proofs.Rows.{part-row}
-use Rattle.jacobi.proofs.copy_row.Statement.{statement}
-use Rattle.jacobi.proofs.copy_row.Tie as tie
+use lib.Ieee.{Float}
+use Rattle.lists.specs.Rows.{putRow}
+use Rattle.lists.proofs.Rows.{put-row}
+use Rattle.rotation.proofs.put_row.Statement.{statement}
+use Rattle.rotation.proofs.put_row.Tie as tie
 
 mul-copy : tie.Need-mul-copy
 mul-copy c = search needs
@@ -35,11 +38,12 @@ same-length c = search needs
 returns : tie.Need-returns
 returns c =
     let at-copy = c .before .before in
-    let at-start = at-copy .before .before .before .before .before in
-    at-copy .copy .ensures ∙ part-row (at-start .args .n) (at-start .args .i) (at-start .args .v .now)
+    let at-start = at-copy .before .before .before .before in
+    let a = at-start .args in
+    put-row (a .n) (a .i) (a .m .now) _ ∙ ap (λ (r : List Float). putRow (a .n) (a .i) r (a .m .now)) (at-copy .copy .ensures)
 
-pub copy-row-spec : {M : Type 1} → statement M
-copy-row-spec =
+pub put-row-spec : {M : Type 1} → statement M
+put-row-spec =
     tie.close
     (tie.spec
     mul-copy
