@@ -1,8 +1,8 @@
 -- The lines of the table: what holds of sets that no line turns away, and that the lines may be asked in two parts. Assumes nothing.
 use mathlib.Core.Path.{_≡_, refl, sym, ap, ap₂, _∙_, subst}
-use mathlib.Core.Bool.{Bool, true, false, not, _&&_, _||_, cond}
+use mathlib.Core.Bool.{Bool, true, false, not, _||_, cond}
 use mathlib.Core.Logic.{_⊎_, inl, inr, ⊎-elim}
-use mathlib.Core.List.{List, [], _∷_, map}
+use mathlib.Core.List.{List, _∷_, map}
 use Prim.Native.Nat.{ℕ, zero, suc, _+_, _-_, _*_, _<_, _≤_}
 use native.Mathlib.Nat.{le-refl}
 use native.Mathlib.Omega.{arith}
@@ -27,7 +27,7 @@ use Rattle.gram.specs.declared.Answer.{Answer}
 use Rattle.gram.specs.declared.Answer.the-variants as answer
 use Rattle.gram.specs.Gram.{selected, frequency, gram}
 use Rattle.gram.specs.Lines.{falls, badOffsets, tooShort, gramLines, earlyLines, lateLines}
-use Rattle.gram.specs.Columns.{columnOf, Chosen, Offsets, columnGram}
+use Rattle.gram.specs.Columns.{Chosen, Offsets, columnGram}
 use Rattle.gram.specs.Call.{features, outcomeOf, Checked, Called, leaves, gramCall, called}
 use Rattle.sorting.proofs.Extra.{order}
 use Rattle.gram.proofs.Extra.{same-or-not}

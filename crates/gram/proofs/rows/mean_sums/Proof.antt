@@ -2,7 +2,7 @@
 use mathlib.Core.Path.{_≡_, ap, _∙_}
 use Prim.Native.Nat.{ℕ, _-_, _≤_}
 use native.Mathlib.Omega.{arith}
-use Rattle.lists.specs.Ranges.{table, rows}
+use Rattle.lists.specs.Ranges.{table}
 use Rattle.lists.specs.Writes.{over}
 use Rattle.lists.proofs.Writes.{Writing, writing-none, writing-next}
 use Rattle.gram.specs.Gram.{setAt}
