@@ -15,7 +15,7 @@ use Rattle.outcome.specs.Refusals.{first, short}
 use Rattle.outcome.specs.Outcome.{answered}
 use Rattle.outcome.specs.Slices.{output, work}
 use Rattle.gram.specs.Gram.{setAt, sets, selected, frequency, meanSum, shared, gram}
-use Rattle.gram.specs.Lines.{falls, badOffsets, tooShort, gramLines}
+use Rattle.gram.specs.Lines.{falls, badOffsets, tooShort, earlyLines, lateLines, gramLines}
 use Rattle.gram.specs.Call.{features, leaves, gramCall}
 
 abbrev hashes : List ℕ
@@ -37,5 +37,5 @@ case-j = refl
 -- the whole call: one selected hash, the matrix in front of what was lent, the rest as it was, and the words cleared
 pub case-j-call : (out : List Float) (words : List ℕ) → 16 ≤ length out → 256 ≤ length words
     → gramCall 4 hashes offsets out words ≡ leaves (answered 1) (over (gram 4 hashes offsets) out) (cleared 0 words)
-unfolding gramCall features output work first gramLines badOffsets falls tooShort short upFrom range keep countIf any howMany insertUp upward selected
+unfolding gramCall features output work first earlyLines lateLines gramLines badOffsets falls tooShort short upFrom range keep countIf any howMany insertUp upward selected
 case-j-call out words h k = rw (le-ltb (length out) 16 h, le-ltb (length words) 256 k)
