@@ -1,8 +1,8 @@
 -- The lines of the table: what holds of sets that no line turns away, and that the lines may be asked in two parts. Assumes nothing.
 use mathlib.Core.Path.{_≡_, refl, sym, ap, ap₂, _∙_, subst}
-use mathlib.Core.Bool.{Bool, true, false, not, _&&_, _||_, cond}
+use mathlib.Core.Bool.{Bool, true, false, not, _||_, cond}
 use mathlib.Core.Logic.{_⊎_, inl, inr, ⊎-elim}
-use mathlib.Core.List.{List, [], _∷_, map}
+use mathlib.Core.List.{List, [], _∷_, _++_, map}
 use Prim.Native.Nat.{ℕ, zero, suc, _+_, _-_, _*_, _<_, _≤_}
 use native.Mathlib.Nat.{le-refl}
 use native.Mathlib.Omega.{arith}
@@ -27,7 +27,7 @@ use Rattle.gram.specs.declared.Answer.{Answer}
 use Rattle.gram.specs.declared.Answer.the-variants as answer
 use Rattle.gram.specs.Gram.{selected, frequency, gram}
 use Rattle.gram.specs.Lines.{falls, badOffsets, tooShort, gramLines, earlyLines, lateLines}
-use Rattle.gram.specs.Columns.{columnOf, Chosen, Offsets, columnGram}
+use Rattle.gram.specs.Columns.{Chosen, Offsets, columnGram}
 use Rattle.gram.specs.Call.{features, outcomeOf, Checked, Called, leaves, gramCall, called}
 use Rattle.sorting.proofs.Extra.{order}
 use Rattle.gram.proofs.Extra.{same-or-not}
@@ -91,14 +91,49 @@ passed (Refused r) = false
 wrong : {A : Type 0} (r : Refusal) → Refused r ≡ Passed → A
 wrong r e = let z : _≡_ {A = ℕ} 0 1 = ap (λ (t : Check). cond (passed t) 1 0) e in absurd (omega arith)
 
-no-line : (b : Bool) (r : Refusal) (rest : Check) → cond b (Refused r) rest ≡ Passed → (b ≡ false) × (rest ≡ Passed)
-no-line true r rest e = wrong r e
-no-line false r rest e = (refl, e)
-
 -- the first line does not hold, and neither does any other
-pub lines-pass : (line : Line) (lines : List Line) → first (line ∷ lines) ≡ Passed → (line .holds ≡ false) × (first lines ≡ Passed)
+lines-pass : (line : Line) (lines : List Line) → first (line ∷ lines) ≡ Passed → (line .holds ≡ false) × (first lines ≡ Passed)
 unfolding first
-lines-pass line lines e = no-line (line .holds) (line .returned) (first lines) e
+lines-pass line lines e = one (line .holds) e
+  where
+    one : (b : Bool) → cond b (Refused (line .returned)) (first lines) ≡ Passed → (b ≡ false) × (first lines ≡ Passed)
+    one true q = wrong (line .returned) q
+    one false q = (refl, q)
+
+-- lines asked in two parts: the first refuses, or leaves it to the second
+early-refuses : (xs ys : List Line) (r : Refusal) → first xs ≡ Refused r → first (xs ++ ys) ≡ Refused r
+unfolding first
+early-refuses [] ys r e = wrong r (sym e)
+early-refuses (line ∷ xs) ys r e = one (line .holds) e (λ q. early-refuses xs ys r q)
+  where
+    one : (b : Bool) → cond b (Refused (line .returned)) (first xs) ≡ Refused r → (first xs ≡ Refused r → first (xs ++ ys) ≡ Refused r)
+        → cond b (Refused (line .returned)) (first (xs ++ ys)) ≡ Refused r
+    one true q f = q
+    one false q f = f q
+
+early-passes : (xs ys : List Line) → first xs ≡ Passed → first (xs ++ ys) ≡ first ys
+unfolding first
+early-passes [] ys e = refl
+early-passes (line ∷ xs) ys e =
+    let p = lines-pass line xs e in
+    ap (λ (b : Bool). cond b (Refused (line .returned)) (first (xs ++ ys))) (p .0) ∙ early-passes xs ys (p .1)
+
+-- where each line leaves everything untouched, so does the refusal
+abbrev Untouched : List Line → Type 0
+Untouched [] = Unit
+Untouched (line ∷ lines) = (untouched (line .returned) ≡ true) × Untouched lines
+
+refusal-untouched : (lines : List Line) (r : Refusal) → Untouched lines → first lines ≡ Refused r → untouched r ≡ true
+unfolding first
+refusal-untouched [] r u e = wrong r (sym e)
+refusal-untouched (line ∷ lines) r u e = one (line .holds) e (λ q. refusal-untouched lines r (u .1) q)
+  where
+    refusalOf : Check → Refusal
+    refusalOf Passed = r
+    refusalOf (Refused q) = q
+    one : (b : Bool) → cond b (Refused (line .returned)) (first lines) ≡ Refused r → (first lines ≡ Refused r → untouched r ≡ true) → untouched r ≡ true
+    one true q f = ap (λ (c : Check). untouched (refusalOf c)) (sym q) ∙ u .0
+    one false q f = f q
 
 pub record Accepted (n : ℕ) (hashes offsets : List ℕ) (short beyond : Bool) : Type 0 where
   pub sets : Offsets n offsets (length hashes)
@@ -111,50 +146,29 @@ pub record Accepted (n : ℕ) (hashes offsets : List ℕ) (short beyond : Bool) 
   pub most : length (selected n hashes) ≤ 4096
 
 pub accepted : (n : ℕ) (hashes offsets : List ℕ) (short beyond : Bool) → first (gramLines n hashes offsets short beyond) ≡ Passed → Accepted n hashes offsets short beyond
-unfolding gramLines
+unfolding gramLines earlyLines lateLines
 accepted n hashes offsets short beyond e =
     let m = length (selected n hashes) in
     let l₁ = lines-pass (Length when badOffsets n (length hashes) offsets || short) _ e in
     let l₂ = lines-pass (Limit when ltb 256 n || ltb 65536 (length hashes) || beyond) _ (l₁ .1) in
-    let l₆ = lines-pass (Ordination when ltb n 3 || eqb m 0) _ (l₂ .1) in
+    let l₃ = lines-pass (Ordination when ltb n 3) _ (l₂ .1) in
+    let l₆ = lines-pass (Ordination when eqb m 0) _ (l₃ .1) in
     let l₇ = lines-pass (Hashes when ltb 4096 m) _ (l₆ .1) in
     let a = or-no (badOffsets n (length hashes) offsets) short (l₁ .0) in
     let b = or-no (ltb 256 n || ltb 65536 (length hashes)) beyond (l₂ .0) in
     let c = or-no (ltb 256 n) (ltb 65536 (length hashes)) (b .0) in
-    let d = or-no (ltb n 3) (eqb m 0) (l₆ .0) in
     record {
       sets = offsets-fit n (length hashes) offsets (a .0);
       enough = a .1;
       limited = b .1;
       few = ltb-false _ _ (c .0);
       bounded = ltb-false _ _ (c .1);
-      three = ltb-false _ _ (d .0);
-      some = eqb-false _ _ (d .1);
+      three = ltb-false _ _ (l₃ .0);
+      some = eqb-false _ _ (l₆ .0);
       most = ltb-false _ _ (l₇ .0);
     }
 
--- ---- in two parts: a, b and c do not look at the hashes, d and e do
-
-abbrev early : Bool → Bool → Bool → Check
-early a b c = cond a (Refused Length) (cond b (Refused Limit) (cond c (Refused Ordination) Passed))
-
-abbrev late : Bool → Bool → Check
-late d e = cond d (Refused Ordination) (cond e (Refused Hashes) Passed)
-
-abbrev whole : Bool → Bool → Bool → Bool → Bool → Check
-whole a b c d e = cond a (Refused Length) (cond b (Refused Limit) (cond (c || d) (Refused Ordination) (cond e (Refused Hashes) Passed)))
-
-whole-early : (a b c d e : Bool) (r : Refusal) → early a b c ≡ Refused r → whole a b c d e ≡ Refused r
-whole-early true b c d e r q = q
-whole-early false true c d e r q = q
-whole-early false false true d e r q = q
-whole-early false false false d e r q = wrong r (sym q)
-
-whole-late : (a b c d e : Bool) → early a b c ≡ Passed → whole a b c d e ≡ late d e
-whole-late true b c d e q = wrong Length q
-whole-late false true c d e q = wrong Limit q
-whole-late false false true d e q = wrong Ordination q
-whole-late false false false d e q = refl
+-- ---- the answer, in two parts
 
 module _ (n : ℕ) (hashes offsets : List ℕ) (short beyond : Bool) where
   abbrev count : ℕ
@@ -174,16 +188,14 @@ module _ (n : ℕ) (hashes offsets : List ℕ) (short beyond : Bool) where
       (ltb-false _ _ (c .0), ltb-false _ _ (c .1))
 
   pub features-early : (r : Refusal) → asked ≡ Refused r → refused r ≡ features n hashes offsets short beyond
-  unfolding features first gramLines earlyLines
+  unfolding features gramLines
   features-early r e =
-      ap (λ (t : Check). judged t (answered count))
-      (sym (whole-early (badOffsets n (length hashes) offsets || short) (ltb 256 n || ltb 65536 (length hashes) || beyond) (ltb n 3) (eqb count 0) (ltb 4096 count) r e))
+      ap (λ (t : Check). judged t (answered count)) (sym (early-refuses (earlyLines n (length hashes) offsets short beyond) (lateLines count) r e))
 
   pub features-late : asked ≡ Passed → judged (first (lateLines count)) (answered count) ≡ features n hashes offsets short beyond
-  unfolding features first gramLines earlyLines lateLines
+  unfolding features gramLines
   features-late e =
-      ap (λ (t : Check). judged t (answered count))
-      (sym (whole-late (badOffsets n (length hashes) offsets || short) (ltb 256 n || ltb 65536 (length hashes) || beyond) (ltb n 3) (eqb count 0) (ltb 4096 count) e))
+      ap (λ (t : Check). judged t (answered count)) (sym (early-passes (earlyLines n (length hashes) offsets short beyond) (lateLines count) e))
 
 -- ---- an answer is a number of hashes only where the lines pass
 
@@ -254,18 +266,13 @@ module _ (n : ℕ) (hashes offsets : List ℕ) (short beyond : Bool) where
 
 -- ---- `gram_matrix`
 
--- the refusals of these lines leave everything untouched
-abbrev refusalOf : Outcome ℕ → Refusal
-refusalOf (answered m) = Length
-refusalOf (refused r) = r
-
-lines-untouched : (a b c d e : Bool) (m : ℕ) (r : Refusal) → refused r ≡ judged (whole a b c d e) (answered m) → untouched r ≡ true
-lines-untouched true b c d e m r q = ap (λ (o : Outcome ℕ). untouched (refusalOf o)) q
-lines-untouched false true c d e m r q = ap (λ (o : Outcome ℕ). untouched (refusalOf o)) q
-lines-untouched false false true d e m r q = ap (λ (o : Outcome ℕ). untouched (refusalOf o)) q
-lines-untouched false false false true e m r q = ap (λ (o : Outcome ℕ). untouched (refusalOf o)) q
-lines-untouched false false false false true m r q = ap (λ (o : Outcome ℕ). untouched (refusalOf o)) q
-lines-untouched false false false false false m r q = let z : _≡_ {A = ℕ} 0 1 = ap (λ (o : Outcome ℕ). cond (answers o) 1 0) q in absurd (omega arith)
+judged-refused : (c : Check) (r : Refusal) (m : ℕ) → refused r ≡ judged c (answered m) → c ≡ Refused r
+judged-refused Passed r m e = let z : _≡_ {A = ℕ} 0 1 = ap (λ (o : Outcome ℕ). cond (answers o) 1 0) e in absurd (omega arith)
+judged-refused (Refused q) r m e = ap Refused (ap (refusalOr q) (sym e))
+  where
+    refusalOr : Refusal → Outcome ℕ → Refusal
+    refusalOr d (answered k) = d
+    refusalOr d (refused k) = k
 
 pub long-enough : (n out words : ℕ) → tooShort n out words ≡ false → (n * n ≤ out) × (n * 64 ≤ words)
 unfolding tooShort short any
@@ -284,11 +291,12 @@ module _ (n : ℕ) (hashes offsets : List ℕ) (out : List Float) (words : List 
   abbrev left : Outcome ℕ → Called
   left o = leaves o (output zero⁺ (λ m. gram n hashes offsets) (n * n) o out) (work 0 o words)
 
+  -- the refusals of these lines leave everything untouched
   keeps : (r : Refusal) → refused r ≡ outcome → untouched r ≡ true
-  unfolding features first gramLines
+  unfolding features gramLines earlyLines lateLines
   keeps r e =
-      let m = length (selected n hashes) in
-      lines-untouched (badOffsets n (length hashes) offsets || tight) (ltb 256 n || ltb 65536 (length hashes) || false) (ltb n 3) (eqb m 0) (ltb 4096 m) m r e
+      let lines = gramLines n hashes offsets tight false in
+      refusal-untouched lines r (refl, (refl, (refl, (refl, (refl, tt))))) (judged-refused (first lines) r (length (selected n hashes)) e)
 
   pub call-refused : {a : Answer} (r : Refusal) → a ≡ answer.Refused r → outcomeOf a ≡ outcome → called a out words ≡ gramCall n hashes offsets out words
   unfolding gramCall output work

@@ -1,15 +1,15 @@
 -- The matrix depends on columns alone: what the loops leave is the matrix of columns, and that is the Gram matrix of the hashes. Assumes nothing.
-use mathlib.Core.Path.{_≡_, refl, sym, ap, ap₂, _∙_, subst}
+use mathlib.Core.Path.{_≡_, refl, sym, ap, ap₂, _∙_}
 use mathlib.Core.Bool.{Bool, true, false, _&&_, _||_, cond}
 use mathlib.Core.Logic.{_⊎_, inl, inr}
-use mathlib.Core.List.{List, [], _∷_, _++_, map}
+use mathlib.Core.List.{List, [], _∷_, map}
 use Prim.Native.Nat.{ℕ, zero, suc, _+_, _-_, _*_, _<_, _≤_, min, max}
 use native.Mathlib.Omega.{arith}
 use borrow.Author.Tests.{eq-eqb, ne-eqb, lt-ltb, le-ltb}
 use lib.Dec.{eqb, ltb}
 use lib.ListN.{length, getD, take, drop, length-map}
 use lib.Ieee.{Float, nan}
-use Rattle.float.specs.Floats.{_⊕_, _⊖_, _⊗_, num, zero⁻}
+use Rattle.float.specs.Floats.{_⊕_, _⊖_, num, zero⁻}
 use Rattle.lists.specs.Ranges.{upFrom, range, table, rows, grid}
 use Rattle.lists.specs.Filters.{keep, countIf, any, firstAt}
 use Rattle.lists.specs.Numbers.{stands, position}

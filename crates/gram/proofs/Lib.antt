@@ -8,3 +8,4 @@ pub mod Runs
 pub mod Scans
 pub mod Columns
 pub mod Accepted
+pub mod Cases

@@ -2,18 +2,17 @@
 use mathlib.Core.Path.{_≡_, refl, sym, ap, ap₂, _∙_}
 use mathlib.Core.List.{List, [], _∷_, _++_, map, append-assoc, append-nil}
 use Prim.Native.Nat.{ℕ, zero, suc, _+_, _-_, _*_, _<_, _≤_, min, max}
-use native.Mathlib.Nat.{add-sub-cancel-left, sub-self, add-zero}
+use native.Mathlib.Nat.{add-sub-cancel-left}
 use native.Mathlib.Numerals.{add-one}
 use native.Mathlib.Omega.{arith}
 use borrow.Rule.Slice.PartMut.{putMid}
 use lib.ListN.{length, getD, take, drop, set, length-append, length-map, length-drop, take-append-drop}
-use lib.Seq.{length-take-le, take-at, drop-at, drop-drop, take-take, take-append-le, drop-append-le}
-use Rattle.lists.specs.Ranges.{upFrom, range, table, rows, grid}
+use lib.Seq.{length-take-le, take-at, drop-at, drop-drop, take-take}
+use Rattle.lists.specs.Ranges.{upFrom, range, table, rows}
 use Rattle.lists.specs.Loops.{inTurn}
 use Rattle.lists.specs.Writes.{over}
-use Rattle.lists.proofs.Ranges.{range-more, range-none, range-last, length-range, map-last, length-table, getD-table, table-last, table-range, table-ext, rows-last, rows-ext, length-rows}
+use Rattle.lists.proofs.Ranges.{range-none, range-last, length-range, map-last, length-table, getD-table, table-last, rows-last, length-rows}
 use Rattle.lists.proofs.Rows.{row-end, cell-below, getD-row}
-use Rattle.lists.proofs.Loops.{inTurn-more}
 use Rattle.lists.proofs.Writes.{over-next, over-all, length-over, drop-over}
 use Rattle.gram.proofs.Extra.{row-rows}
 

@@ -1,7 +1,7 @@
 -- Lines 1, 2, 6 and 7 of the table for sets of hashes (document 01, "What a turned-away lot returns"). Definitions only.
 use Prim.Native.Nat.{ℕ, _+_, _*_}
 use mathlib.Core.Bool.{Bool, not, _||_}
-use mathlib.Core.List.{List, [], _∷_}
+use mathlib.Core.List.{List, [], _∷_, _++_}
 use lib.Dec.{eqb, ltb}
 use lib.ListN.{length, getD}
 use Rattle.lists.specs.Ranges.{range}
@@ -23,16 +23,8 @@ badOffsets n hashes offsets =
 unfoldable pub tooShort : ℕ → ℕ → ℕ → Bool
 tooShort n out words = short ((out of n * n) ∷ (words of n * 64) ∷ [])
 
--- `short` says that an output or work slice is short, `beyond` that another argument is beyond its limit.
-unfoldable pub gramLines : ℕ → List ℕ → List ℕ → Bool → Bool → List Line
-gramLines n hashes offsets short beyond =
-    (Length when badOffsets n (length hashes) offsets || short)
-    ∷ (Limit when ltb 256 n || ltb 65536 (length hashes) || beyond)
-    ∷ (Ordination when ltb n 3 || eqb (length (selected n hashes)) 0)
-    ∷ (Hashes when ltb 4096 (length (selected n hashes)))
-    ∷ []
-
--- those that do not look at the hashes, of which there are so many
+-- The lines that do not look at the hashes, of which there are so many. `short` says that an output or work slice is short, `beyond` that another
+-- argument is beyond its limit.
 unfoldable pub earlyLines : ℕ → ℕ → List ℕ → Bool → Bool → List Line
 earlyLines n hashes offsets short beyond =
     (Length when badOffsets n hashes offsets || short)
@@ -40,6 +32,9 @@ earlyLines n hashes offsets short beyond =
     ∷ (Ordination when ltb n 3)
     ∷ []
 
--- and those that do, by the number of selected hashes
+-- and those that do, by the number of hashes with frequency 2 to n - 1
 unfoldable pub lateLines : ℕ → List Line
 lateLines m = (Ordination when eqb m 0) ∷ (Hashes when ltb 4096 m) ∷ []
+
+unfoldable pub gramLines : ℕ → List ℕ → List ℕ → Bool → Bool → List Line
+gramLines n hashes offsets short beyond = earlyLines n (length hashes) offsets short beyond ++ lateLines (length (selected n hashes))

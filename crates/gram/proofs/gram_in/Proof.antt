@@ -1,16 +1,32 @@
 -- `gram::gram_in` meets its contract: a refusal leaves everything as it was, and an answer the matrix and cleared words. Assumes nothing.
 use mathlib.Core.Path.{sym, ap, _∙_, subst}
 use mathlib.Core.Bool.{Bool, false}
+use Prim.Native.Nat.{_≤_}
 use native.Mathlib.Omega.{arith}
 use lib.ListN.{length}
 use lib.Seq.{length-take-le}
 use Rattle.gram.specs.Columns.{Offsets}
 use Rattle.gram.specs.declared.Answer.{Answer}
 use Rattle.gram.specs.Call.{features, Checked, called}
-use Rattle.gram.proofs.Accepted.{checked-answer, long-enough, call-refused, call-answered}
+use Rattle.gram.proofs.Accepted.{Accepted, checked-answer, long-enough, call-refused, call-answered}
 use borrow.Author.Needs.{needs}
 use Rattle.gram.proofs.gram_in.Statement.{statement}
 use Rattle.gram.proofs.gram_in.Tie as tie
+
+-- where the answer is a number of hashes, no line holds, and there is room for their columns and means
+told : (c : tie.After-known-told) →
+    let a = c .before .before .before .before .before .before .before .before .before .before .before .before .before .before .before .before .before .before .before .before .before .before .args in
+    let call = c .before .before .before .before .before .before .before .before .before .check-gram in
+    Accepted (a .n) (a .hashes .now) (a .offsets .now) (c .before .before .before .before .before .before .before .before .before .before .before .before .before .too-short .result) false
+    × (c .before .a .given .0 .0 ≤ 4096) × (length (a .hashes .now) ≤ length (call .last .1 .0)) × (c .before .a .given .0 .0 ≤ length (call .last .1 .1 .0))
+told c =
+    let s = c .before .before .before .before .before .before .before .before .before .before .before .before .before .before .before .before .before .before .before .before .before .before in
+    let a = s .args in
+    let call = c .before .before .before .before .before .before .before .before .before .check-gram in
+    let t = checked-answer (a .n) (a .hashes .now) (a .offsets .now) _ false (call .ensures) (c .before .a .given .1) in
+    let few = t .1 .bounded in
+    let most = t .1 .most in
+    (t .1, omega (arith, t .0), omega (arith, s .pre .0 .1, call .kept .1 .0), omega (arith, t .0, s .pre .1 .0, call .kept .1 .1 .0))
 
 too-short-requires : tie.Need-too-short-requires
 too-short-requires c κs = search needs
@@ -40,29 +56,25 @@ returns c =
     (c .before .before .before .before .before .before .before .before .check-gram .ensures .told ∙ ap (λ (s : Bool). features (a .n) (a .hashes .now) (a .offsets .now) s false) (c .before .before .before .before .before .before .before .before .before .before .before .before .too-short .ensures))
 
 slice-reshare-prefix-fill-gram : tie.Need-slice-reshare-prefix-fill-gram
-slice-reshare-prefix-fill-gram c = omega (arith, checked-answer (c .before .before .before .before .before .before .before .before .before .before .before .before .before .before .before .before .before .before .before .before .before .before .before .before .before .args .n) (c .before .before .before .before .before .before .before .before .before .before .before .before .before .before .before .before .before .before .before .before .before .before .before .before .before .args .hashes .now) (c .before .before .before .before .before .before .before .before .before .before .before .before .before .before .before .before .before .before .before .before .before .before .before .before .before .args .offsets .now) (c .before .before .before .before .before .before .before .before .before .before .before .before .before .before .before .before .too-short .result) false (c .before .before .before .before .before .before .before .before .before .before .before .before .check-gram .ensures) (c .before .before .before .before .a .given .1) .1 .bounded, c .before .before .before .before .before .before .before .before .before .before .before .before .check-gram .kept .1 .0, c .before .before .before .before .before .before .before .before .before .before .before .before .before .before .before .before .before .before .before .before .before .before .before .before .before .pre .0 .1)
+slice-reshare-prefix-fill-gram c = told (c .before .before .before) .2
 
 slice-aggregate-fill-gram : tie.Need-slice-aggregate-fill-gram
-slice-aggregate-fill-gram c = sym (length-take-le (length (c .before .before .before .before .before .before .before .before .before .before .before .before .before .before .before .before .before .before .before .before .before .before .before .before .before .before .args .hashes .now)) (c .before .before .before .before .before .before .before .before .before .before .before .before .before .check-gram .last .1 .0) (omega (arith, checked-answer (c .before .before .before .before .before .before .before .before .before .before .before .before .before .before .before .before .before .before .before .before .before .before .before .before .before .before .args .n) (c .before .before .before .before .before .before .before .before .before .before .before .before .before .before .before .before .before .before .before .before .before .before .before .before .before .before .args .hashes .now) (c .before .before .before .before .before .before .before .before .before .before .before .before .before .before .before .before .before .before .before .before .before .before .before .before .before .before .args .offsets .now) (c .before .before .before .before .before .before .before .before .before .before .before .before .before .before .before .before .before .too-short .result) false (c .before .before .before .before .before .before .before .before .before .before .before .before .before .check-gram .ensures) (c .before .before .before .before .before .a .given .1) .1 .bounded, c .before .before .before .before .before .before .before .before .before .before .before .before .before .check-gram .kept .1 .0, c .before .before .before .before .before .before .before .before .before .before .before .before .before .before .before .before .before .before .before .before .before .before .before .before .before .before .pre .0 .1)))
+slice-aggregate-fill-gram c = sym (length-take-le (length (c .before .before .before .before .before .before .before .before .before .before .before .before .before .before .before .before .before .before .before .before .before .before .before .before .before .before .args .hashes .now)) (c .before .before .before .before .before .before .before .before .before .before .before .before .before .check-gram .last .1 .0) (told (c .before .before .before .before) .2))
 
 slice-reshare-prefix-fill-gram-2 : tie.Need-slice-reshare-prefix-fill-gram-2
-slice-reshare-prefix-fill-gram-2 c =
-    let t = checked-answer (c .before .before .before .before .before .before .before .before .before .before .before .before .before .before .before .before .before .before .before .before .before .before .before .before .before .before .args .n) (c .before .before .before .before .before .before .before .before .before .before .before .before .before .before .before .before .before .before .before .before .before .before .before .before .before .before .args .hashes .now) (c .before .before .before .before .before .before .before .before .before .before .before .before .before .before .before .before .before .before .before .before .before .before .before .before .before .before .args .offsets .now) (c .before .before .before .before .before .before .before .before .before .before .before .before .before .before .before .before .before .too-short .result) false (c .before .before .before .before .before .before .before .before .before .before .before .before .before .check-gram .ensures) (c .before .before .before .before .before .a .given .1) in
-    omega (arith, t .0, t .1 .most, c .before .before .before .before .before .before .before .before .before .before .before .before .before .check-gram .kept .1 .1 .0, c .before .before .before .before .before .before .before .before .before .before .before .before .before .before .before .before .before .before .before .before .before .before .before .before .before .before .pre .1 .0)
+slice-reshare-prefix-fill-gram-2 c = told (c .before .before .before .before) .3
 
 slice-aggregate-fill-gram-2 : tie.Need-slice-aggregate-fill-gram-2
-slice-aggregate-fill-gram-2 c =
-    let t = checked-answer (c .before .before .before .before .before .before .before .before .before .before .before .before .before .before .before .before .before .before .before .before .before .before .before .before .before .before .before .args .n) (c .before .before .before .before .before .before .before .before .before .before .before .before .before .before .before .before .before .before .before .before .before .before .before .before .before .before .before .args .hashes .now) (c .before .before .before .before .before .before .before .before .before .before .before .before .before .before .before .before .before .before .before .before .before .before .before .before .before .before .before .args .offsets .now) (c .before .before .before .before .before .before .before .before .before .before .before .before .before .before .before .before .before .before .too-short .result) false (c .before .before .before .before .before .before .before .before .before .before .before .before .before .before .check-gram .ensures) (c .before .before .before .before .before .before .a .given .1) in
-    sym (length-take-le (c .before .before .before .before .before .before .a .given .0 .0) (c .before .before .before .before .before .before .before .before .before .before .before .before .before .before .check-gram .last .1 .1 .0) (omega (arith, t .0, t .1 .most, c .before .before .before .before .before .before .before .before .before .before .before .before .before .before .check-gram .kept .1 .1 .0, c .before .before .before .before .before .before .before .before .before .before .before .before .before .before .before .before .before .before .before .before .before .before .before .before .before .before .before .pre .1 .0)))
+slice-aggregate-fill-gram-2 c = sym (length-take-le (c .before .before .before .before .before .before .a .given .0 .0) (c .before .before .before .before .before .before .before .before .before .before .before .before .before .before .check-gram .last .1 .1 .0) (told (c .before .before .before .before .before) .3))
 
 fill-gram-requires : tie.Need-fill-gram-requires
 fill-gram-requires c κs =
     let a = c .before .before .before .before .before .before .before .before .before .before .before .before .before .before .before .before .before .before .before .before .before .before .before .before .before .before .before .args in
-    let t = checked-answer (c .before .before .before .before .before .before .before .before .before .before .before .before .before .before .before .before .before .before .before .before .before .before .before .before .before .before .before .args .n) (c .before .before .before .before .before .before .before .before .before .before .before .before .before .before .before .before .before .before .before .before .before .before .before .before .before .before .before .args .hashes .now) (c .before .before .before .before .before .before .before .before .before .before .before .before .before .before .before .before .before .before .before .before .before .before .before .before .before .before .before .args .offsets .now) (c .before .before .before .before .before .before .before .before .before .before .before .before .before .before .before .before .before .before .too-short .result) false (c .before .before .before .before .before .before .before .before .before .before .before .before .before .before .check-gram .ensures) (c .before .before .before .before .before .before .a .given .1) in
-    let k = length-take-le (length (a .hashes .now)) (c .before .before .before .before .before .before .before .before .before .before .before .before .before .before .check-gram .last .1 .0) (omega (arith, t .1 .bounded, c .before .before .before .before .before .before .before .before .before .before .before .before .before .before .check-gram .kept .1 .0, c .before .before .before .before .before .before .before .before .before .before .before .before .before .before .before .before .before .before .before .before .before .before .before .before .before .before .before .pre .0 .1)) in
-    let m = length-take-le (c .before .before .before .before .before .before .a .given .0 .0) (c .before .before .before .before .before .before .before .before .before .before .before .before .before .before .check-gram .last .1 .1 .0) (omega (arith, t .0, t .1 .most, c .before .before .before .before .before .before .before .before .before .before .before .before .before .before .check-gram .kept .1 .1 .0, c .before .before .before .before .before .before .before .before .before .before .before .before .before .before .before .before .before .before .before .before .before .before .before .before .before .before .before .pre .1 .0)) in
-    let room = long-enough (a .n) (length (a .out .now)) (length (a .words .now)) (sym (c .before .before .before .before .before .before .before .before .before .before .before .before .before .before .before .before .before .before .too-short .ensures) ∙ t .1 .enough) in
-    ((subst (Offsets (a .n) (a .offsets .now)) (sym k) (t .1 .sets), omega (arith, t .0, t .1 .most)), (room .0, room .1, omega (arith, t .1 .few, c .before .before .before .before .before .before .before .before .before .before .before .before .before .before .before .before .before .before .before .before .before .before .before .before .before .before .before .pre .1 .1)))
+    let t = told (c .before .before .before .before .before) in
+    let k = length-take-le (length (a .hashes .now)) (c .before .before .before .before .before .before .before .before .before .before .before .before .before .before .check-gram .last .1 .0) (t .2) in
+    let m = length-take-le (c .before .before .before .before .before .before .a .given .0 .0) (c .before .before .before .before .before .before .before .before .before .before .before .before .before .before .check-gram .last .1 .1 .0) (t .3) in
+    let room = long-enough (a .n) (length (a .out .now)) (length (a .words .now)) (sym (c .before .before .before .before .before .before .before .before .before .before .before .before .before .before .before .before .before .before .too-short .ensures) ∙ t .0 .enough) in
+    ((subst (Offsets (a .n) (a .offsets .now)) (sym k) (t .0 .sets), omega (arith, t .1)), (room .0, room .1, omega (arith, t .0 .few, c .before .before .before .before .before .before .before .before .before .before .before .before .before .before .before .before .before .before .before .before .before .before .before .before .before .before .before .pre .1 .1)))
 
 same-length-4 : tie.Need-same-length-4
 same-length-4 c = search needs
@@ -85,9 +97,10 @@ same-length-9 c = search needs
 returns-2 : tie.Need-returns-2
 returns-2 c =
     let a = c .before .before .before .before .before .before .before .before .before .before .before .before .before .before .before .before .before .before .before .before .before .before .before .before .before .before .before .before .before .before .before .before .before .before .args in
-    let told = subst (λ (s : Bool). Checked (a .n) (a .hashes .now) (a .offsets .now) s false (c .before .before .before .before .before .before .before .before .before .before .before .before .before .before .before .before .before .before .before .before .before .check-gram .result) (c .before .before .before .before .before .before .before .before .before .before .before .before .before .before .before .before .before .before .before .before .before .check-gram .last .1 .0) (c .before .before .before .before .before .before .before .before .before .before .before .before .before .before .before .before .before .before .before .before .before .check-gram .last .1 .1 .0)) (c .before .before .before .before .before .before .before .before .before .before .before .before .before .before .before .before .before .before .before .before .before .before .before .before .before .too-short .ensures) (c .before .before .before .before .before .before .before .before .before .before .before .before .before .before .before .before .before .before .before .before .before .check-gram .ensures) in
+    let call = c .before .before .before .before .before .before .before .before .before .before .before .before .before .before .before .before .before .before .before .before .before .check-gram in
+    let checked = subst (λ (s : Bool). Checked (a .n) (a .hashes .now) (a .offsets .now) s false (call .result) (call .last .1 .0) (call .last .1 .1 .0)) (c .before .before .before .before .before .before .before .before .before .before .before .before .before .before .before .before .before .before .before .before .before .before .before .before .before .too-short .ensures) (call .ensures) in
     sym (ap (λ (r : Answer). called r (c .before .before .before .before .before .before .fill-gram .last .0) (c .before .before .before .before .before .before .fill-gram .last .1 .0)) (c .before .before .before .before .before .before .before .before .before .before .before .before .before .a .given .1))
-    ∙ call-answered (a .n) (a .hashes .now) (a .offsets .now) (a .out .now) (a .words .now) (c .before .before .before .before .before .before .before .before .before .before .before .before .before .a .given .0 .0) told (c .before .before .before .before .before .before .before .before .before .before .before .before .before .a .given .1) (c .before .before .before .before .before .before .fill-gram .ensures .0) (c .before .before .before .before .before .before .fill-gram .ensures .1)
+    ∙ call-answered (a .n) (a .hashes .now) (a .offsets .now) (a .out .now) (a .words .now) (c .before .before .before .before .before .before .before .before .before .before .before .before .before .a .given .0 .0) checked (c .before .before .before .before .before .before .before .before .before .before .before .before .before .a .given .1) (c .before .before .before .before .before .before .fill-gram .ensures .0) (c .before .before .before .before .before .before .fill-gram .ensures .1)
 
 pub gram-in-spec : {M : Type 1} → statement M
 gram-in-spec =

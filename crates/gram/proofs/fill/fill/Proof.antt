@@ -8,6 +8,7 @@ use lib.Ieee.{nan}
 use Rattle.lists.specs.Ranges.{rows, grid}
 use Rattle.lists.specs.Writes.{over}
 use Rattle.lists.proofs.Rows.{row-end, length-part}
+use Rattle.gram.specs.Gram.{within}
 use Rattle.gram.specs.Columns.{entryAt}
 use Rattle.gram.proofs.Matrix.{full, row-filled}
 use Rattle.gram.proofs.fill.fill.Statement.{statement}
@@ -19,6 +20,14 @@ Inv-loop out₀ n words w sums t i₀ out i = (i ≤ n) × (length out ≡ lengt
 abbrev μ-loop : tie.MeasureT-loop
 μ-loop out₀ n words w sums t i₀ out i = n - i
 
+-- row i lies within the matrix
+fits : (c : tie.After-mirror-row Inv-loop μ-loop) →
+    let a = c .before .before .before .before .before .before .before .args in
+    c .before .before .before .loop .i * a .n + a .n ≤ length (c .mirror-row .last .0)
+fits c =
+    let a = c .before .before .before .before .before .before .before .args in
+    omega (arith, row-end (a .n) (c .before .before .before .loop .i) (a .n) (omega arith), c .mirror-row .kept .0)
+
 loop-holds : tie.Need-loop-holds Inv-loop μ-loop
 unfolding over rows
 loop-holds c = (omega arith, refl, refl)
@@ -27,32 +36,30 @@ mirror-row-requires : tie.Need-mirror-row-requires Inv-loop μ-loop
 mirror-row-requires c κs = (omega arith, omega arith)
 
 mul-fill-row : tie.Need-mul-fill-row Inv-loop μ-loop
-mul-fill-row c = omega (arith, row-end (c .before .before .before .before .before .before .before .before .before .args .n) (c .before .before .before .before .before .loop .i) (c .before .before .before .before .before .before .before .before .before .args .n) (omega arith), c .before .before .mirror-row .kept .0)
+mul-fill-row c = omega (arith, fits (c .before .before))
 
 mul-fill-row-2 : tie.Need-mul-fill-row-2 Inv-loop μ-loop
-mul-fill-row-2 c = omega (arith, row-end (c .before .before .before .before .before .before .before .before .before .args .n) (c .before .before .before .before .before .loop .i) (c .before .before .before .before .before .before .before .before .before .args .n) (omega arith), c .before .before .mirror-row .kept .0)
+mul-fill-row-2 c = omega (arith, fits (c .before .before))
 
 add-fill-row : tie.Need-add-fill-row Inv-loop μ-loop
-add-fill-row c = omega (arith, row-end (c .before .before .before .before .before .before .before .before .before .args .n) (c .before .before .before .before .before .loop .i) (c .before .before .before .before .before .before .before .before .before .args .n) (omega arith), c .before .before .mirror-row .kept .0)
+add-fill-row c = omega (arith, fits (c .before .before))
 
 mul-fill-row-3 : tie.Need-mul-fill-row-3 Inv-loop μ-loop
-mul-fill-row-3 c = omega (arith, row-end (c .before .before .before .before .before .before .before .before .before .args .n) (c .before .before .before .before .before .loop .i) (c .before .before .before .before .before .before .before .before .before .args .n) (omega arith), c .before .before .mirror-row .kept .0)
+mul-fill-row-3 c = omega (arith, fits (c .before .before))
 
 sub-fill-row : tie.Need-sub-fill-row Inv-loop μ-loop
-sub-fill-row c = omega (arith, row-end (c .before .before .before .before .before .before .before .before .before .args .n) (c .before .before .before .before .before .loop .i) (c .before .before .before .before .before .before .before .before .before .args .n) (omega arith), c .before .before .mirror-row .kept .0)
+sub-fill-row c = omega (arith, fits (c .before .before))
 
 part-fill-row-start : tie.Need-part-fill-row-start Inv-loop μ-loop
-part-fill-row-start c = omega (arith, row-end (c .before .before .before .before .before .before .before .before .before .args .n) (c .before .before .before .before .before .loop .i) (c .before .before .before .before .before .before .before .before .before .args .n) (omega arith), c .before .before .mirror-row .kept .0)
+part-fill-row-start c = omega (arith, fits (c .before .before))
 
 part-fill-row-end : tie.Need-part-fill-row-end Inv-loop μ-loop
-part-fill-row-end c = omega (arith, row-end (c .before .before .before .before .before .before .before .before .before .args .n) (c .before .before .before .before .before .loop .i) (c .before .before .before .before .before .before .before .before .before .args .n) (omega arith), c .before .before .mirror-row .kept .0)
+part-fill-row-end c = omega (arith, fits (c .before .before))
 
 fill-row-requires : tie.Need-fill-row-requires Inv-loop μ-loop
 fill-row-requires c κs =
     let a = c .before .before .before .before .before .before .before .before .before .before .args in
-    let ends = row-end (a .n) (c .before .before .before .before .before .before .loop .i) (a .n) (omega arith) in
-    let same = c .before .before .before .mirror-row .kept .0 in
-    let long = length-part (a .n) (c .before .before .before .before .before .before .loop .i) (c .before .before .before .mirror-row .last .0) (omega arith) in
+    let long = length-part (a .n) (c .before .before .before .before .before .before .loop .i) (c .before .before .before .mirror-row .last .0) (fits (c .before .before .before)) in
     (omega arith, subst (λ (k : ℕ). k * a .w ≤ length (a .words .now)) (sym long) (c .before .before .before .before .before .before .before .before .before .before .pre .1), omega arith, omega arith)
 
 add-i : tie.Need-add-i Inv-loop μ-loop

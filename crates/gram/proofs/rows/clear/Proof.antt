@@ -3,7 +3,6 @@ use mathlib.Core.Path.{refl}
 use Prim.Native.Nat.{_-_}
 use native.Mathlib.Omega.{arith}
 use lib.ListN.{length}
-use Rattle.lists.specs.Ranges.{rows}
 use Rattle.lists.proofs.Writes.{Writing, writing-none, writing-next, cleared-all}
 use Rattle.gram.proofs.rows.clear.Statement.{statement}
 use Rattle.gram.proofs.rows.clear.Tie as tie

@@ -5,7 +5,6 @@ use native.Mathlib.Omega.{arith}
 use lib.Bits.{bitAnd, and-lt}
 use lib.Count.{ones, ones-le}
 use lib.ListN.{length, getD, drop}
-use Rattle.lists.specs.Ranges.{rows}
 use Rattle.gram.specs.Bits.{common}
 use Rattle.gram.proofs.Sets.{common-next, common-end}
 use Rattle.gram.proofs.rows.common_bits.Statement.{statement}

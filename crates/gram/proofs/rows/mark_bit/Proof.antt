@@ -3,7 +3,6 @@ use Prim.Native.Nat.{_%_, _^_}
 use native.Mathlib.Nat.{one-mul}
 use native.Mathlib.Omega.{arith}
 use lib.Pow.{shl-exact}
-use Rattle.lists.specs.Ranges.{rows}
 use borrow.Author.Needs.{needs}
 use Rattle.gram.proofs.rows.mark_bit.Statement.{statement}
 use Rattle.gram.proofs.rows.mark_bit.Tie as tie

@@ -3,7 +3,6 @@ use mathlib.Core.Path.{_≡_, refl, sym, ap, _∙_}
 use Prim.Native.Nat.{_-_, _≤_}
 use native.Mathlib.Omega.{arith}
 use lib.ListN.{length, take, set}
-use Rattle.lists.specs.Ranges.{rows}
 use Rattle.lists.specs.Filters.{any}
 use Rattle.lists.specs.Numbers.{stands}
 use Rattle.lists.proofs.Ranges.{length-table}

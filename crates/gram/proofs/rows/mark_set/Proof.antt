@@ -3,7 +3,6 @@ use mathlib.Core.Path.{sym, ap, _∙_}
 use Prim.Native.Nat.{ℕ}
 use native.Mathlib.Omega.{arith}
 use lib.ListN.{set, replicate}
-use Rattle.lists.specs.Ranges.{rows}
 use Rattle.lists.specs.Writes.{cleared}
 use Rattle.gram.specs.Bits.{packed}
 use Rattle.gram.specs.Columns.{present}

@@ -4,12 +4,12 @@ use mathlib.Core.List.{List}
 use Prim.Native.Nat.{ℕ, _+_, _-_, _*_, _≤_}
 use native.Mathlib.Omega.{arith}
 use borrow.Rule.Slice.PartMut.{same-len-mid}
-use lib.ListN.{length}
+use lib.ListN.{length, getD, set}
 use Rattle.lists.specs.Ranges.{rows}
 use Rattle.lists.specs.Writes.{over}
 use Rattle.lists.proofs.Rows.{row-end, length-part}
 use Rattle.lists.proofs.Writes.{rows-none, rows-next}
-use Rattle.gram.specs.Gram.{setAt}
+use Rattle.gram.specs.Gram.{within, setAt}
 use Rattle.gram.specs.Bits.{packed}
 use Rattle.gram.specs.Columns.{present}
 use Rattle.gram.proofs.Bits.{length-packed}
@@ -21,6 +21,23 @@ Inv-loop words₀ columns offsets n m w i₀ words i = (i ≤ n) × (length word
 
 abbrev μ-loop : tie.MeasureT-loop
 μ-loop words₀ columns offsets n m w i₀ words i = n - i
+
+-- the set lies within the columns
+inside : (c : tie.In-loop Inv-loop μ-loop) →
+    let a = c .before .before .before .before .before .args in
+    let i = c .before .loop .i in
+    (getD (a .offsets .now) i 0 ≤ getD (a .offsets .now) (i + 1) 0) × (getD (a .offsets .now) (i + 1) 0 ≤ length (a .columns .now))
+inside c =
+    let sets = c .before .before .before .before .before .pre .0 in
+    (sets .climb (c .before .loop .i) (omega arith), sets .bound (c .before .loop .i) (omega arith))
+
+-- row i lies within the words
+fits : (c : tie.In-loop Inv-loop μ-loop) →
+    let a = c .before .before .before .before .before .args in
+    c .before .loop .i * a .w + a .w ≤ length (c .before .loop .words)
+fits c =
+    let a = c .before .before .before .before .before .args in
+    omega (arith, row-end (a .w) (c .before .loop .i) (a .n) (omega arith))
 
 loop-holds : tie.Need-loop-holds Inv-loop μ-loop
 loop-holds c =
@@ -43,42 +60,42 @@ shared-slice-read-e : tie.Need-shared-slice-read-e Inv-loop μ-loop
 shared-slice-read-e c = omega (arith, c .before .before .before .before .before .before .before .pre .0 .entries)
 
 mul-mark-set : tie.Need-mul-mark-set Inv-loop μ-loop
-mul-mark-set c = omega (arith, row-end (c .before .before .before .before .before .before .before .args .w) (c .before .before .before .loop .i) (c .before .before .before .before .before .before .before .args .n) (omega arith))
+mul-mark-set c = omega (arith, fits (c .before .before))
 
 mul-mark-set-2 : tie.Need-mul-mark-set-2 Inv-loop μ-loop
-mul-mark-set-2 c = omega (arith, row-end (c .before .before .before .before .before .before .before .args .w) (c .before .before .before .loop .i) (c .before .before .before .before .before .before .before .args .n) (omega arith))
+mul-mark-set-2 c = omega (arith, fits (c .before .before))
 
 add-mark-set : tie.Need-add-mark-set Inv-loop μ-loop
-add-mark-set c = omega (arith, row-end (c .before .before .before .before .before .before .before .args .w) (c .before .before .before .loop .i) (c .before .before .before .before .before .before .before .args .n) (omega arith))
+add-mark-set c = omega (arith, fits (c .before .before))
 
 mul-mark-set-3 : tie.Need-mul-mark-set-3 Inv-loop μ-loop
-mul-mark-set-3 c = omega (arith, row-end (c .before .before .before .before .before .before .before .args .w) (c .before .before .before .loop .i) (c .before .before .before .before .before .before .before .args .n) (omega arith))
+mul-mark-set-3 c = omega (arith, fits (c .before .before))
 
 sub-mark-set : tie.Need-sub-mark-set Inv-loop μ-loop
-sub-mark-set c = omega (arith, row-end (c .before .before .before .before .before .before .before .args .w) (c .before .before .before .loop .i) (c .before .before .before .before .before .before .before .args .n) (omega arith))
+sub-mark-set c = omega (arith, fits (c .before .before))
 
 part-mark-set-start : tie.Need-part-mark-set-start Inv-loop μ-loop
-part-mark-set-start c = omega (arith, row-end (c .before .before .before .before .before .before .before .args .w) (c .before .before .before .loop .i) (c .before .before .before .before .before .before .before .args .n) (omega arith))
+part-mark-set-start c = omega (arith, fits (c .before .before))
 
 part-mark-set-end : tie.Need-part-mark-set-end Inv-loop μ-loop
-part-mark-set-end c = omega (arith, row-end (c .before .before .before .before .before .before .before .args .w) (c .before .before .before .loop .i) (c .before .before .before .before .before .before .before .args .n) (omega arith))
+part-mark-set-end c = omega (arith, fits (c .before .before))
 
 mul-mark-set-4 : tie.Need-mul-mark-set-4 Inv-loop μ-loop
-mul-mark-set-4 c = omega (arith, c .before .before .before .before .before .before .before .before .pre .0 .climb (c .before .before .before .before .loop .i) (omega arith), c .before .before .before .before .before .before .before .before .pre .0 .bound (c .before .before .before .before .loop .i) (omega arith))
+mul-mark-set-4 c = omega (arith, inside (c .before .before .before))
 
 sub-mark-set-2 : tie.Need-sub-mark-set-2 Inv-loop μ-loop
-sub-mark-set-2 c = omega (arith, c .before .before .before .before .before .before .before .before .pre .0 .climb (c .before .before .before .before .loop .i) (omega arith), c .before .before .before .before .before .before .before .before .pre .0 .bound (c .before .before .before .before .loop .i) (omega arith))
+sub-mark-set-2 c = omega (arith, inside (c .before .before .before))
 
 part-mark-set-start-2 : tie.Need-part-mark-set-start-2 Inv-loop μ-loop
-part-mark-set-start-2 c = omega (arith, c .before .before .before .before .before .before .before .before .pre .0 .climb (c .before .before .before .before .loop .i) (omega arith), c .before .before .before .before .before .before .before .before .pre .0 .bound (c .before .before .before .before .loop .i) (omega arith))
+part-mark-set-start-2 c = omega (arith, inside (c .before .before .before))
 
 part-mark-set-end-2 : tie.Need-part-mark-set-end-2 Inv-loop μ-loop
-part-mark-set-end-2 c = omega (arith, c .before .before .before .before .before .before .before .before .pre .0 .climb (c .before .before .before .before .loop .i) (omega arith), c .before .before .before .before .before .before .before .before .pre .0 .bound (c .before .before .before .before .loop .i) (omega arith))
+part-mark-set-end-2 c = omega (arith, inside (c .before .before .before))
 
 mark-set-requires : tie.Need-mark-set-requires Inv-loop μ-loop
 mark-set-requires c κs =
     let a = c .before .before .before .before .before .before .before .before .before .args in
-    let long = length-part (a .w) (c .before .before .before .before .before .loop .i) (c .before .before .before .before .before .loop .words) (omega (arith, row-end (c .before .before .before .before .before .before .before .before .before .args .w) (c .before .before .before .before .before .loop .i) (c .before .before .before .before .before .before .before .before .before .args .n) (omega arith))) in
+    let long = length-part (a .w) (c .before .before .before .before .before .loop .i) (c .before .before .before .before .before .loop .words) (fits (c .before .before .before .before)) in
     omega arith
 
 add-i : tie.Need-add-i Inv-loop μ-loop
@@ -94,8 +111,8 @@ loop-again c =
     let here = c .before .before .before .before .before .before .before .before .loop in
     let call = c .before .before .mark-set in
     let f : ℕ → List ℕ = λ k. packed (a .w) (present (a .m) (setAt (a .columns .now) (a .offsets .now) k)) in
-    let fits = row-end (a .w) (here .i) (a .n) (omega arith) in
-    let long = length-part (a .w) (here .i) (here .words) (omega arith) in
+    let ends = fits (c .before .before .before .before .before .before .before) in
+    let long = length-part (a .w) (here .i) (here .words) ends in
     let row = call .ensures ∙ ap (λ (k : ℕ). packed k (present (a .m) (setAt (a .columns .now) (a .offsets .now) (here .i)))) long in (
       omega arith,
       same-len-mid (here .i * a .w) (here .i * a .w + a .w - here .i * a .w) (here .words) (call .last .0) (call .kept .0) ∙ here .inv .1,

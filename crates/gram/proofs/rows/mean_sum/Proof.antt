@@ -4,7 +4,6 @@ use mathlib.Core.List.{map}
 use Prim.Native.Nat.{_-_, _≤_}
 use native.Mathlib.Omega.{arith}
 use lib.ListN.{length, drop, set}
-use Rattle.lists.specs.Ranges.{rows}
 use Rattle.lists.specs.Filters.{keep}
 use Rattle.lists.specs.Sums.{sumFrom}
 use Rattle.gram.specs.Columns.{columnSum}

@@ -1,11 +1,12 @@
 -- `gram::rows::mean_sums` meets its contract: after i turns the sums of the first i sets are written. Assumes nothing.
 use mathlib.Core.Path.{_≡_, ap, _∙_}
-use Prim.Native.Nat.{ℕ, _-_, _≤_}
+use Prim.Native.Nat.{ℕ, _+_, _-_, _≤_}
 use native.Mathlib.Omega.{arith}
+use lib.ListN.{length, getD, set}
 use Rattle.lists.specs.Ranges.{table, rows}
 use Rattle.lists.specs.Writes.{over}
 use Rattle.lists.proofs.Writes.{Writing, writing-none, writing-next}
-use Rattle.gram.specs.Gram.{setAt}
+use Rattle.gram.specs.Gram.{within, setAt}
 use Rattle.gram.specs.Columns.{columnSum}
 use Rattle.gram.proofs.rows.mean_sums.Statement.{statement}
 use Rattle.gram.proofs.rows.mean_sums.Tie as tie
@@ -15,6 +16,15 @@ Inv-loop sums₀ columns offsets n means i₀ sums i = (i ≤ n) × Writing (λ 
 
 abbrev μ-loop : tie.MeasureT-loop
 μ-loop sums₀ columns offsets n means i₀ sums i = n - i
+
+-- the set lies within the columns
+inside : (c : tie.In-loop Inv-loop μ-loop) →
+    let a = c .before .before .before .before .before .before .args in
+    let i = c .before .loop .i in
+    (getD (a .offsets .now) i 0 ≤ getD (a .offsets .now) (i + 1) 0) × (getD (a .offsets .now) (i + 1) 0 ≤ length (a .columns .now))
+inside c =
+    let sets = c .before .before .before .before .before .before .pre .0 in
+    (sets .climb (c .before .loop .i) (omega arith), sets .bound (c .before .loop .i) (omega arith))
 
 loop-holds : tie.Need-loop-holds Inv-loop μ-loop
 loop-holds c = (omega arith, writing-none (λ k. columnSum (c .before .before .before .before .args .means .now) (setAt (c .before .before .before .before .args .columns .now) (c .before .before .before .before .args .offsets .now) k)) (c .before .before .before .before .args .sums .now))
@@ -35,16 +45,16 @@ shared-slice-read-e : tie.Need-shared-slice-read-e Inv-loop μ-loop
 shared-slice-read-e c = omega (arith, c .before .before .before .before .before .before .before .before .pre .0 .entries)
 
 mul-mean-sum : tie.Need-mul-mean-sum Inv-loop μ-loop
-mul-mean-sum c = omega (arith, c .before .before .before .before .before .before .before .before .pre .0 .climb (c .before .before .before .loop .i) (omega arith), c .before .before .before .before .before .before .before .before .pre .0 .bound (c .before .before .before .loop .i) (omega arith))
+mul-mean-sum c = omega (arith, inside (c .before .before))
 
 sub-mean-sum : tie.Need-sub-mean-sum Inv-loop μ-loop
-sub-mean-sum c = omega (arith, c .before .before .before .before .before .before .before .before .pre .0 .climb (c .before .before .before .loop .i) (omega arith), c .before .before .before .before .before .before .before .before .pre .0 .bound (c .before .before .before .loop .i) (omega arith))
+sub-mean-sum c = omega (arith, inside (c .before .before))
 
 part-mean-sum-start : tie.Need-part-mean-sum-start Inv-loop μ-loop
-part-mean-sum-start c = omega (arith, c .before .before .before .before .before .before .before .before .pre .0 .climb (c .before .before .before .loop .i) (omega arith), c .before .before .before .before .before .before .before .before .pre .0 .bound (c .before .before .before .loop .i) (omega arith))
+part-mean-sum-start c = omega (arith, inside (c .before .before))
 
 part-mean-sum-end : tie.Need-part-mean-sum-end Inv-loop μ-loop
-part-mean-sum-end c = omega (arith, c .before .before .before .before .before .before .before .before .pre .0 .climb (c .before .before .before .loop .i) (omega arith), c .before .before .before .before .before .before .before .before .pre .0 .bound (c .before .before .before .loop .i) (omega arith))
+part-mean-sum-end c = omega (arith, inside (c .before .before))
 
 mean-sum-requires : tie.Need-mean-sum-requires Inv-loop μ-loop
 mean-sum-requires c κs = omega arith

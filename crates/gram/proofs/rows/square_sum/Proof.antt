@@ -6,7 +6,6 @@ use native.Mathlib.Omega.{arith}
 use lib.ListN.{length, drop}
 use lib.Ieee.{nan}
 use Rattle.float.specs.Floats.{zero⁻}
-use Rattle.lists.specs.Ranges.{rows}
 use Rattle.lists.specs.Sums.{sumFrom}
 use Rattle.lists.proofs.Sums.{list-turn, list-end}
 use Rattle.gram.specs.Columns.{square}
