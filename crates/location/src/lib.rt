@@ -1,0 +1,200 @@
+// PERMANOVA's sums (document 01, section 2), over the terms weight·weight·square of each pair, worked out once.
+ghost use mathlib.Core.Path.{_≡_};
+ghost use mathlib.Core.List.{map};
+ghost use Prim.Native.Nat.{_+_, _-_, _*_, _<_, _≤_};
+ghost use lib.ListN.{length, getD, drop};
+ghost use lib.Ieee.{nan};
+ghost use Rattle.float.specs.Floats.{zero⁻};
+ghost use Rattle.lists.specs.Ranges.{range};
+ghost use Rattle.lists.specs.Numbers.{Below};
+ghost use Rattle.lists.specs.Sums.{sumFrom};
+ghost use Rattle.lists.specs.Rows.{entry};
+ghost use mathlib.Core.Bool.{true};
+ghost use Rattle.lists.specs.Ranges.{table};
+ghost use Rattle.location.specs.Squares.{squareAt, squares, termAt, terms, weightAt};
+ghost use Rattle.location.specs.Location.{rowSum, rowsSum, pairSum, groupWeight, groupWithin, pseudoF, rSquared};
+
+// Term a, b.
+fn term(t: &[f64], m: usize, a: usize, b: usize) -> f64
+    requires { ⌜ (length (now t) ≡ m * m) × (a < m) × (b < m) ⌝ }
+    ensures { λ r. ⌜ r ≡ entry m (now (t .entry)) a b ⌝ }
+{
+    t[a * m + b]
+}
+
+// ---- squares, weights and terms of the kept samples `ks`
+
+// Distance of the kept samples a and b, squared.
+fn square(d: &[f64], n: usize, ks: &[u16], a: usize, b: usize) -> f64
+    requires { ⌜ (length (now d) ≡ n * n) × Below n (now ks) × (a < length (now ks)) × (b < length (now ks)) ⌝ }
+    ensures { λ r. ⌜ r ≡ squareAt (now (d .entry)) n (now (ks .entry)) a b ⌝ }
+{
+    let i = lists::entry(ks, a);
+    let j = lists::entry(ks, b);
+    let x = term(d, n, i, j);
+    x * x
+}
+
+// Row a of the squares.
+fn fill_square_row(row: &mut [f64], d: &[f64], n: usize, ks: &[u16], a: usize)
+    requires { ⌜ (length (now row) ≡ length (now ks)) × (length (now d) ≡ n * n) × Below n (now ks) × (a < length (now ks)) ⌝ }
+    ensures { λ _. ⌜ now (row .exit) ≡ table (length (now (ks .entry))) (squareAt (now (d .entry)) n (now (ks .entry)) a) ⌝ }
+{
+    for b in 0..row.len() {
+        row[b] = square(d, n, ks, a, b);
+    }
+}
+
+// The squares, row by row.
+pub fn fill_squares(d2: &mut [f64], d: &[f64], n: usize, ks: &[u16])
+    requires { ⌜ (length (now d2) ≡ length (now ks) * length (now ks)) × (length (now d) ≡ n * n) × Below n (now ks) ⌝ }
+    ensures { λ _. ⌜ now (d2 .exit) ≡ squares (now (d .entry)) n (now (ks .entry)) (length (now (ks .entry))) ⌝ }
+{
+    let m = ks.len();
+    for a in 0..m {
+        fill_square_row(&mut d2[a * m..a * m + m], d, n, ks, a);
+    }
+}
+
+// Row a of the terms.
+fn fill_term_row(row: &mut [f64], d2: &[f64], w: &[f64], a: usize)
+    requires { ⌜ (length (now row) ≡ length (now w)) × (length (now d2) ≡ length (now w) * length (now w)) × (a < length (now w)) ⌝ }
+    ensures { λ _. ⌜ now (row .exit) ≡ table (length (now (w .entry))) (termAt (now (d2 .entry)) (now (w .entry)) (length (now (w .entry))) a) ⌝ }
+{
+    let m = w.len();
+    for b in 0..row.len() {
+        row[b] = w[a] * w[b] * term(d2, m, a, b);
+    }
+}
+
+// The terms, row by row.
+pub fn fill_terms(t: &mut [f64], d2: &[f64], w: &[f64])
+    requires { ⌜ (length (now t) ≡ length (now w) * length (now w)) × (length (now d2) ≡ length (now w) * length (now w)) ⌝ }
+    ensures { λ _. ⌜ now (t .exit) ≡ terms (now (d2 .entry)) (now (w .entry)) (length (now (w .entry))) ⌝ }
+{
+    let m = w.len();
+    for a in 0..m {
+        fill_term_row(&mut t[a * m..a * m + m], d2, w, a);
+    }
+}
+
+// The weight of sample i: 1 where none are given.
+fn weight_of(weighted: bool, weights: &[f64], i: usize) -> f64
+    requires { ⌜ (weighted ≡ true → i < length (now weights)) ⌝ }
+    ensures { λ r. ⌜ r ≡ weightAt weighted (now (weights .entry)) i ⌝ }
+{
+    if weighted {
+        return weights[i];
+    }
+    1.0
+}
+
+// The weights of the kept samples.
+pub fn fill_weights(w: &mut [f64], weighted: bool, weights: &[f64], ks: &[u16])
+    requires { ⌜ (length (now w) ≡ length (now ks)) × (weighted ≡ true → Below (length (now weights)) (now ks)) ⌝ }
+    ensures { λ _. ⌜ now (w .exit) ≡ map (weightAt weighted (now (weights .entry))) (now (ks .entry)) ⌝ }
+{
+    for a in 0..w.len() {
+        let i = lists::entry(ks, a);
+        w[a] = weight_of(weighted, weights, i);
+    }
+}
+
+// ---- the total
+
+// The terms of sample a with each later one.
+fn row_sum(t: &[f64], m: usize, a: usize) -> f64
+    requires { ⌜ (length (now t) ≡ m * m) × (a < m) ⌝ }
+    ensures { λ r. ⌜ r ≡ rowSum (now (t .entry)) m a ⌝ }
+{
+    let mut s = -0.0;
+    for b in a + 1..m {
+        s = s + term(t, m, a, b);
+    }
+    s
+}
+
+// Their sum over all rows.
+pub fn rows_sum(t: &[f64], m: usize) -> f64
+    requires { ⌜ length (now t) ≡ m * m ⌝ }
+    ensures { λ r. ⌜ r ≡ rowsSum (now (t .entry)) m ⌝ }
+{
+    let mut s = -0.0;
+    for a in 0..m {
+        s = s + row_sum(t, m, a);
+    }
+    s
+}
+
+// The sum of a list from -0.0.
+pub fn sum(w: &[f64]) -> f64
+    ensures { λ r. ⌜ r ≡ sumFrom zero⁻ (now (w .entry)) ⌝ }
+{
+    let mut s = -0.0;
+    for i in 0..w.len() {
+        s = s + w[i];
+    }
+    s
+}
+
+// ---- within
+
+// The terms of member x with each later one, added to s.
+fn pairs_with(t: &[f64], m: usize, mem: &[u16], x: usize, s: f64) -> f64
+    requires { ⌜ (length (now t) ≡ m * m) × Below m (now mem) × (x < length (now mem)) ⌝ }
+    ensures { λ r. ⌜ r ≡ sumFrom s (map (entry m (now (t .entry)) (getD (now (mem .entry)) x 0)) (drop (x + 1) (now (mem .entry)))) ⌝ }
+{
+    let mut u = s;
+    let a = lists::entry(mem, x);
+    for y in x + 1..mem.len() {
+        let b = lists::entry(mem, y);
+        u = u + term(t, m, a, b);
+    }
+    u
+}
+
+// The pair sum of the samples `mem`, in one accumulator.
+pub fn pair_sum(t: &[f64], m: usize, mem: &[u16]) -> f64
+    requires { ⌜ (length (now t) ≡ m * m) × Below m (now mem) ⌝ }
+    ensures { λ r. ⌜ r ≡ pairSum (now (t .entry)) m (now (mem .entry)) ⌝ }
+{
+    let mut s = 0.0;
+    for x in 0..mem.len() {
+        s = pairs_with(t, m, mem, x, s);
+    }
+    s
+}
+
+// Their weight sum.
+pub fn group_weight(w: &[f64], mem: &[u16]) -> f64
+    requires { ⌜ Below (length (now w)) (now mem) ⌝ }
+    ensures { λ r. ⌜ r ≡ groupWeight (now (w .entry)) (now (mem .entry)) ⌝ }
+{
+    let mut s = -0.0;
+    for x in 0..mem.len() {
+        let a = lists::entry(mem, x);
+        s = s + w[a];
+    }
+    s
+}
+
+// ---- F and r2
+
+// The pseudo F of m samples in g groups.
+pub fn pseudo_f(total: f64, within: f64, m: usize, g: usize) -> f64
+    requires { ⌜ (1 ≤ g) × (g ≤ m) × (m ≤ 256) ⌝ }
+    ensures { λ r. ⌜ r ≡ pseudoF total within m g ⌝ }
+{
+    ((total - within) / (g - 1) as f64) / (within / (m - g) as f64)
+}
+
+// The share of the total that the groups explain.
+pub fn r_squared(total: f64, within: f64) -> f64
+    ensures { λ r. ⌜ r ≡ rSquared total within ⌝ }
+{
+    if total > 0.0 {
+        (total - within) / total
+    } else {
+        0.0
+    }
+}
