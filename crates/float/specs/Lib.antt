@@ -3,5 +3,6 @@ pub mod Floats
 pub mod Value
 pub mod Order
 pub mod Root
+pub mod Pattern
 pub mod Nearest
 pub mod Tolerance
