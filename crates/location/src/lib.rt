@@ -38,43 +38,40 @@ fn square(d: &[f64], n: usize, ks: &[u16], a: usize, b: usize) -> f64
 // Row a of the squares.
 fn fill_square_row(row: &mut [f64], d: &[f64], n: usize, ks: &[u16], a: usize)
     requires { ⌜ (length (now row) ≡ length (now ks)) × (length (now d) ≡ n * n) × Below n (now ks) × (a < length (now ks)) ⌝ }
-    ensures { λ _. ⌜ now (row .exit) ≡ table (length (now (ks .entry))) (squareAt (now (d .entry)) n (now (ks .entry)) a) ⌝ }
+    ensures { λ _. ⌜ now (row .exit) ≡ table (length (now (row .entry))) (squareAt (now (d .entry)) n (now (ks .entry)) a) ⌝ }
 {
     for b in 0..row.len() {
         row[b] = square(d, n, ks, a, b);
     }
 }
 
-// The squares, row by row.
-pub fn fill_squares(d2: &mut [f64], d: &[f64], n: usize, ks: &[u16])
-    requires { ⌜ (length (now d2) ≡ length (now ks) * length (now ks)) × (length (now d) ≡ n * n) × Below n (now ks) ⌝ }
-    ensures { λ _. ⌜ now (d2 .exit) ≡ squares (now (d .entry)) n (now (ks .entry)) (length (now (ks .entry))) ⌝ }
+// The squares of m kept samples, row by row.
+pub fn fill_squares(d2: &mut [f64], d: &[f64], n: usize, ks: &[u16], m: usize)
+    requires { ⌜ (length (now d2) ≡ m * m) × (length (now ks) ≡ m) × (length (now d) ≡ n * n) × Below n (now ks) ⌝ }
+    ensures { λ _. ⌜ now (d2 .exit) ≡ squares (now (d .entry)) n (now (ks .entry)) m ⌝ }
 {
-    let m = ks.len();
     for a in 0..m {
         fill_square_row(&mut d2[a * m..a * m + m], d, n, ks, a);
     }
 }
 
 // Row a of the terms.
-fn fill_term_row(row: &mut [f64], d2: &[f64], w: &[f64], a: usize)
-    requires { ⌜ (length (now row) ≡ length (now w)) × (length (now d2) ≡ length (now w) * length (now w)) × (a < length (now w)) ⌝ }
-    ensures { λ _. ⌜ now (row .exit) ≡ table (length (now (w .entry))) (termAt (now (d2 .entry)) (now (w .entry)) (length (now (w .entry))) a) ⌝ }
+fn fill_term_row(row: &mut [f64], d2: &[f64], w: &[f64], m: usize, a: usize)
+    requires { ⌜ (length (now row) ≡ m) × (length (now d2) ≡ m * m) × (length (now w) ≡ m) × (a < m) ⌝ }
+    ensures { λ _. ⌜ now (row .exit) ≡ table (length (now (row .entry))) (termAt (now (d2 .entry)) (now (w .entry)) m a) ⌝ }
 {
-    let m = w.len();
     for b in 0..row.len() {
         row[b] = w[a] * w[b] * term(d2, m, a, b);
     }
 }
 
-// The terms, row by row.
-pub fn fill_terms(t: &mut [f64], d2: &[f64], w: &[f64])
-    requires { ⌜ (length (now t) ≡ length (now w) * length (now w)) × (length (now d2) ≡ length (now w) * length (now w)) ⌝ }
-    ensures { λ _. ⌜ now (t .exit) ≡ terms (now (d2 .entry)) (now (w .entry)) (length (now (w .entry))) ⌝ }
+// The terms of m kept samples, row by row.
+pub fn fill_terms(t: &mut [f64], d2: &[f64], w: &[f64], m: usize)
+    requires { ⌜ (length (now t) ≡ m * m) × (length (now d2) ≡ m * m) × (length (now w) ≡ m) ⌝ }
+    ensures { λ _. ⌜ now (t .exit) ≡ terms (now (d2 .entry)) (now (w .entry)) m ⌝ }
 {
-    let m = w.len();
     for a in 0..m {
-        fill_term_row(&mut t[a * m..a * m + m], d2, w, a);
+        fill_term_row(&mut t[a * m..a * m + m], d2, w, m, a);
     }
 }
 
@@ -176,6 +173,14 @@ pub fn group_weight(w: &[f64], mem: &[u16]) -> f64
         s = s + w[a];
     }
     s
+}
+
+// Their part of within.
+pub fn group_within(t: &[f64], w: &[f64], m: usize, mem: &[u16]) -> f64
+    requires { ⌜ (length (now t) ≡ m * m) × (length (now w) ≡ m) × Below m (now mem) ⌝ }
+    ensures { λ r. ⌜ r ≡ groupWithin (now (t .entry)) (now (w .entry)) m (now (mem .entry)) ⌝ }
+{
+    pair_sum(t, m, mem) / float::max(group_weight(w, mem), 2.2250738585072014e-308)
 }
 
 // ---- F and r2

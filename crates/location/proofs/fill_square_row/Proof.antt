@@ -4,7 +4,7 @@
 use Prim.Native.Nat.{_-_}
 use native.Mathlib.Omega.{arith}
 use lib.ListN.{length}
-use Rattle.lists.proofs.Writes.{Writing, writing-none, writing-next, writing-table}
+use Rattle.lists.proofs.Writes.{Writing, writing-none, writing-next, writing-all}
 use Rattle.location.specs.Squares.{squareAt}
 use Rattle.location.proofs.fill_square_row.Statement.{statement}
 use Rattle.location.proofs.fill_square_row.Tie as tie
@@ -40,7 +40,7 @@ same-length : tie.Need-same-length Inv-loop μ-loop
 same-length c = c .before .loop .inv .long
 
 returns : tie.Need-returns Inv-loop μ-loop
-returns c = writing-table (squareAt _ _ _ _) (c .before .before .before .before .before .args .row .now) (c .before .loop .inv) (c .before .before .before .before .before .pre .0) (omega arith)
+returns c = writing-all (squareAt _ _ _ _) (c .before .before .before .before .before .args .row .now) (c .before .loop .inv) (omega arith)
 
 pub fill-square-row-spec : {M : Type 1} → statement M
 fill-square-row-spec =

@@ -1,70 +1,73 @@
+-- `location::fill_squares` meets its contract. After a turns the first a rows are filled.
+-- Assumes nothing.
+
+use mathlib.Core.Path.{ap, _∙_}
+use Prim.Native.Nat.{ℕ, _+_, _-_, _*_, _≤_}
+use native.Mathlib.Omega.{arith}
+use lib.ListN.{length}
+use Rattle.lists.specs.Ranges.{table, grid}
+use Rattle.lists.proofs.Ranges.{length-table}
+use Rattle.lists.proofs.Writes.{Filling, filling-none, filling-next, filling-all}
+use Rattle.lists.proofs.Rows.{row-end, length-part}
+use Rattle.location.specs.Squares.{squareAt, squares}
 use Rattle.location.proofs.fill_squares.Statement.{statement}
 use Rattle.location.proofs.fill_squares.Tie as tie
-use Rattle.location.proofs.fill_squares.Reads as reads
-use Rattle.location.proofs.fill_squares.Lts as lts
-use Rattle.location.proofs.fill_square_row.Reads as fill-square-row-reads
 
 abbrev Inv-loop : tie.InvT-loop
-Inv-loop d2₀ d n ks m a₀ d2 a = ?
+Inv-loop d2₀ d n ks m a₀ d2 a = Filling m m (λ i. table m (squareAt d n ks i)) d2₀ d2 a
 
 abbrev μ-loop : tie.MeasureT-loop
-μ-loop d2₀ d n ks m a₀ d2 a = ?
+μ-loop d2₀ d n ks m a₀ d2 a = m - a
 
--- src/lib.rt:54:5
+-- row a lies within the list
+within : (c : tie.In-loop Inv-loop μ-loop) → c .before .loop .a * c .before .before .before .before .before .args .m + c .before .before .before .before .before .args .m ≤ length (c .before .loop .d2)
+within c = omega (arith, row-end (c .before .before .before .before .before .args .m) _ _ (c .loop-test .taken), c .before .loop .inv .long)
+
 loop-holds : tie.Need-loop-holds Inv-loop μ-loop
-loop-holds c = ?
+loop-holds c = filling-none (c .before .before .before .args .m) (c .before .before .before .args .m) (λ i. table (c .before .before .before .args .m) (squareAt (c .before .before .before .args .d .now) (c .before .before .before .args .n) (c .before .before .before .args .ks .now) i)) (λ i. length-table (squareAt (c .before .before .before .args .d .now) (c .before .before .before .args .n) (c .before .before .before .args .ks .now) i) (c .before .before .before .args .m)) (c .before .before .before .args .d2 .now) (c .before .before .before .pre .0)
 
--- src/lib.rt:55:33
 mul-fill-square-row : tie.Need-mul-fill-square-row Inv-loop μ-loop
-mul-fill-square-row c = ?
+mul-fill-square-row c = omega (arith, within c)
 
--- src/lib.rt:55:40
 mul-fill-square-row-2 : tie.Need-mul-fill-square-row-2 Inv-loop μ-loop
-mul-fill-square-row-2 c = ?
+mul-fill-square-row-2 c = omega (arith, within c)
 
--- src/lib.rt:55:40
 add-fill-square-row : tie.Need-add-fill-square-row Inv-loop μ-loop
-add-fill-square-row c = ?
+add-fill-square-row c = omega (arith, within c)
 
--- src/lib.rt:55:25
 mul-fill-square-row-3 : tie.Need-mul-fill-square-row-3 Inv-loop μ-loop
-mul-fill-square-row-3 c = ?
+mul-fill-square-row-3 c = omega (arith, within c)
 
--- src/lib.rt:55:25
 sub-fill-square-row : tie.Need-sub-fill-square-row Inv-loop μ-loop
-sub-fill-square-row c = ?
+sub-fill-square-row c = omega (arith, within c)
 
--- src/lib.rt:55:25
 part-fill-square-row-start : tie.Need-part-fill-square-row-start Inv-loop μ-loop
-part-fill-square-row-start c = ?
+part-fill-square-row-start c = omega (arith, within c)
 
--- src/lib.rt:55:25
 part-fill-square-row-end : tie.Need-part-fill-square-row-end Inv-loop μ-loop
-part-fill-square-row-end c = ?
+part-fill-square-row-end c = omega (arith, within c)
 
--- src/lib.rt:55:9
 fill-square-row-requires : tie.Need-fill-square-row-requires Inv-loop μ-loop
-fill-square-row-requires c κs = ?
+fill-square-row-requires c κs = let len = length-part (c .before .before .before .before .before .before .args .m) (c .before .before .loop .a) (c .before .before .loop .d2) (within (c .before)) in (omega arith, c .before .before .before .before .before .before .pre .2, c .before .before .before .before .before .before .pre .3, omega arith)
 
--- src/lib.rt:54:9
 add-a : tie.Need-add-a Inv-loop μ-loop
-add-a c = ?
+add-a c = omega arith
 
--- src/lib.rt:54:5
 loop-less : tie.Need-loop-less Inv-loop μ-loop
-loop-less c = ?
+loop-less c = omega arith
 
--- src/lib.rt:54:5
 loop-again : tie.Need-loop-again Inv-loop μ-loop
-loop-again c = ?
+loop-again c =
+    let len = length-part (c .before .before .before .before .before .before .before .before .before .args .m) (c .before .before .before .before .before .loop .a) (c .before .before .before .before .before .loop .d2) (within (c .before .before .before .before)) in
+    filling-next (c .before .before .before .before .before .before .before .before .before .args .m) (c .before .before .before .before .before .before .before .before .before .args .m) (λ i. table (c .before .before .before .before .before .before .before .before .before .args .m) (squareAt (c .before .before .before .before .before .before .before .before .before .args .d .now) (c .before .before .before .before .before .before .before .before .before .args .n) (c .before .before .before .before .before .before .before .before .before .args .ks .now) i)) (λ i. length-table (squareAt (c .before .before .before .before .before .before .before .before .before .args .d .now) (c .before .before .before .before .before .before .before .before .before .args .n) (c .before .before .before .before .before .before .before .before .before .args .ks .now) i) (c .before .before .before .before .before .before .before .before .before .args .m)) (c .before .before .before .before .before .before .before .before .before .args .d2 .now) (c .before .before .before .before .before .before .before .before .before .pre .0) (c .before .before .before .before .before .loop .inv) (omega arith)
+    (c .before .before .fill-square-row .ensures ∙ ap (λ (k : ℕ). table k (squareAt (c .before .before .before .before .before .before .before .before .before .args .d .now) (c .before .before .before .before .before .before .before .before .before .args .n) (c .before .before .before .before .before .before .before .before .before .args .ks .now) (c .before .before .before .before .before .loop .a))) len)
 
--- src/lib.rt:49:1
 same-length : tie.Need-same-length Inv-loop μ-loop
-same-length c = ?
+same-length c = c .before .loop .inv .long
 
--- src/lib.rt:49:1
 returns : tie.Need-returns Inv-loop μ-loop
-returns c = ?
+unfolding squares grid
+returns c = filling-all (c .before .before .before .before .before .args .m) (c .before .before .before .before .before .args .m) (λ i. table (c .before .before .before .before .before .args .m) (squareAt (c .before .before .before .before .before .args .d .now) (c .before .before .before .before .before .args .n) (c .before .before .before .before .before .args .ks .now) i)) (λ i. length-table (squareAt (c .before .before .before .before .before .args .d .now) (c .before .before .before .before .before .args .n) (c .before .before .before .before .before .args .ks .now) i) (c .before .before .before .before .before .args .m)) (c .before .before .before .before .before .args .d2 .now) (c .before .before .before .before .before .pre .0) (c .before .loop .inv) (omega arith)
 
 pub fill-squares-spec : {M : Type 1} → statement M
 fill-squares-spec =

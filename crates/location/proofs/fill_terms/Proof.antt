@@ -1,70 +1,73 @@
+-- `location::fill_terms` meets its contract. After a turns the first a rows are filled.
+-- Assumes nothing.
+
+use mathlib.Core.Path.{ap, _∙_}
+use Prim.Native.Nat.{ℕ, _+_, _-_, _*_, _≤_}
+use native.Mathlib.Omega.{arith}
+use lib.ListN.{length}
+use Rattle.lists.specs.Ranges.{table, grid}
+use Rattle.lists.proofs.Ranges.{length-table}
+use Rattle.lists.proofs.Writes.{Filling, filling-none, filling-next, filling-all}
+use Rattle.lists.proofs.Rows.{row-end, length-part}
+use Rattle.location.specs.Squares.{termAt, terms}
 use Rattle.location.proofs.fill_terms.Statement.{statement}
 use Rattle.location.proofs.fill_terms.Tie as tie
-use Rattle.location.proofs.fill_terms.Reads as reads
-use Rattle.location.proofs.fill_terms.Lts as lts
-use Rattle.location.proofs.fill_term_row.Reads as fill-term-row-reads
 
 abbrev Inv-loop : tie.InvT-loop
-Inv-loop t₀ d2 w m a₀ t a = ?
+Inv-loop t₀ d2 w m a₀ t a = Filling m m (λ i. table m (termAt d2 w m i)) t₀ t a
 
 abbrev μ-loop : tie.MeasureT-loop
-μ-loop t₀ d2 w m a₀ t a = ?
+μ-loop t₀ d2 w m a₀ t a = m - a
 
--- src/lib.rt:76:5
+-- row a lies within the list
+within : (c : tie.In-loop Inv-loop μ-loop) → c .before .loop .a * c .before .before .before .before .before .args .m + c .before .before .before .before .before .args .m ≤ length (c .before .loop .t)
+within c = omega (arith, row-end (c .before .before .before .before .before .args .m) _ _ (c .loop-test .taken), c .before .loop .inv .long)
+
 loop-holds : tie.Need-loop-holds Inv-loop μ-loop
-loop-holds c = ?
+loop-holds c = filling-none (c .before .before .before .args .m) (c .before .before .before .args .m) (λ i. table (c .before .before .before .args .m) (termAt (c .before .before .before .args .d2 .now) (c .before .before .before .args .w .now) (c .before .before .before .args .m) i)) (λ i. length-table (termAt (c .before .before .before .args .d2 .now) (c .before .before .before .args .w .now) (c .before .before .before .args .m) i) (c .before .before .before .args .m)) (c .before .before .before .args .t .now) (c .before .before .before .pre .0)
 
--- src/lib.rt:77:30
 mul-fill-term-row : tie.Need-mul-fill-term-row Inv-loop μ-loop
-mul-fill-term-row c = ?
+mul-fill-term-row c = omega (arith, within c)
 
--- src/lib.rt:77:37
 mul-fill-term-row-2 : tie.Need-mul-fill-term-row-2 Inv-loop μ-loop
-mul-fill-term-row-2 c = ?
+mul-fill-term-row-2 c = omega (arith, within c)
 
--- src/lib.rt:77:37
 add-fill-term-row : tie.Need-add-fill-term-row Inv-loop μ-loop
-add-fill-term-row c = ?
+add-fill-term-row c = omega (arith, within c)
 
--- src/lib.rt:77:23
 mul-fill-term-row-3 : tie.Need-mul-fill-term-row-3 Inv-loop μ-loop
-mul-fill-term-row-3 c = ?
+mul-fill-term-row-3 c = omega (arith, within c)
 
--- src/lib.rt:77:23
 sub-fill-term-row : tie.Need-sub-fill-term-row Inv-loop μ-loop
-sub-fill-term-row c = ?
+sub-fill-term-row c = omega (arith, within c)
 
--- src/lib.rt:77:23
 part-fill-term-row-start : tie.Need-part-fill-term-row-start Inv-loop μ-loop
-part-fill-term-row-start c = ?
+part-fill-term-row-start c = omega (arith, within c)
 
--- src/lib.rt:77:23
 part-fill-term-row-end : tie.Need-part-fill-term-row-end Inv-loop μ-loop
-part-fill-term-row-end c = ?
+part-fill-term-row-end c = omega (arith, within c)
 
--- src/lib.rt:77:9
 fill-term-row-requires : tie.Need-fill-term-row-requires Inv-loop μ-loop
-fill-term-row-requires c κs = ?
+fill-term-row-requires c κs = let len = length-part (c .before .before .before .before .before .before .args .m) (c .before .before .loop .a) (c .before .before .loop .t) (within (c .before)) in (len, c .before .before .before .before .before .before .pre .1, c .before .before .before .before .before .before .pre .2, omega arith)
 
--- src/lib.rt:76:9
 add-a : tie.Need-add-a Inv-loop μ-loop
-add-a c = ?
+add-a c = omega arith
 
--- src/lib.rt:76:5
 loop-less : tie.Need-loop-less Inv-loop μ-loop
-loop-less c = ?
+loop-less c = omega arith
 
--- src/lib.rt:76:5
 loop-again : tie.Need-loop-again Inv-loop μ-loop
-loop-again c = ?
+loop-again c =
+    let len = length-part (c .before .before .before .before .before .before .before .before .before .args .m) (c .before .before .before .before .before .loop .a) (c .before .before .before .before .before .loop .t) (within (c .before .before .before .before)) in
+    filling-next (c .before .before .before .before .before .before .before .before .before .args .m) (c .before .before .before .before .before .before .before .before .before .args .m) (λ i. table (c .before .before .before .before .before .before .before .before .before .args .m) (termAt (c .before .before .before .before .before .before .before .before .before .args .d2 .now) (c .before .before .before .before .before .before .before .before .before .args .w .now) (c .before .before .before .before .before .before .before .before .before .args .m) i)) (λ i. length-table (termAt (c .before .before .before .before .before .before .before .before .before .args .d2 .now) (c .before .before .before .before .before .before .before .before .before .args .w .now) (c .before .before .before .before .before .before .before .before .before .args .m) i) (c .before .before .before .before .before .before .before .before .before .args .m)) (c .before .before .before .before .before .before .before .before .before .args .t .now) (c .before .before .before .before .before .before .before .before .before .pre .0) (c .before .before .before .before .before .loop .inv) (omega arith)
+    (c .before .before .fill-term-row .ensures ∙ ap (λ (k : ℕ). table k (termAt (c .before .before .before .before .before .before .before .before .before .args .d2 .now) (c .before .before .before .before .before .before .before .before .before .args .w .now) (c .before .before .before .before .before .before .before .before .before .args .m) (c .before .before .before .before .before .loop .a))) len)
 
--- src/lib.rt:71:1
 same-length : tie.Need-same-length Inv-loop μ-loop
-same-length c = ?
+same-length c = c .before .loop .inv .long
 
--- src/lib.rt:71:1
 returns : tie.Need-returns Inv-loop μ-loop
-returns c = ?
+unfolding terms grid
+returns c = filling-all (c .before .before .before .before .before .args .m) (c .before .before .before .before .before .args .m) (λ i. table (c .before .before .before .before .before .args .m) (termAt (c .before .before .before .before .before .args .d2 .now) (c .before .before .before .before .before .args .w .now) (c .before .before .before .before .before .args .m) i)) (λ i. length-table (termAt (c .before .before .before .before .before .args .d2 .now) (c .before .before .before .before .before .args .w .now) (c .before .before .before .before .before .args .m) i) (c .before .before .before .before .before .args .m)) (c .before .before .before .before .before .args .t .now) (c .before .before .before .before .before .pre .0) (c .before .loop .inv) (omega arith)
 
 pub fill-terms-spec : {M : Type 1} → statement M
 fill-terms-spec =

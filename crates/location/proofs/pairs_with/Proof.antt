@@ -30,7 +30,7 @@ entry-requires-2 : tie.Need-entry-requires-2 Inv-loop μ-loop
 entry-requires-2 c κs = omega arith
 
 term-requires : tie.Need-term-requires Inv-loop μ-loop
-term-requires c κs = 
+term-requires c κs =
     let first = c .before .before .before .before .before .before .pre .1 (c .before .before .before .before .before .before .args .x) (c .before .before .before .before .before .before .pre .2) in
     let other = c .before .before .before .before .before .before .pre .1 (c .before .before .loop .y) (omega arith) in
     (c .before .before .before .before .before .before .pre .0, omega (arith, first, c .before .before .loop .inv .1), omega (arith, other, c .entry2 .ensures))
