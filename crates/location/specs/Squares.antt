@@ -14,28 +14,32 @@ use Rattle.lot.specs.Kept.{kept, keptCount}
 unfoldable pub squareAt : List Float → ℕ → List ℕ → ℕ → ℕ → Float
 squareAt distances n ks a b = let d = entry n distances (getD ks a 0) (getD ks b 0) in d ⊗ d
 
--- row by row, m by m
-unfoldable pub squares : List Float → ℕ → List ℕ → ℕ → List Float
-squares distances n ks m = grid m m (squareAt distances n ks)
-
 -- the weight of sample i: 1 where none are given
 unfoldable pub weightAt : Bool → List Float → ℕ → Float
 weightAt weighted weights i = cond weighted (getD weights i nan) 1·0
 
--- weight·weight·square of a and b, and of each pair, row by row
-unfoldable pub termAt : List Float → List Float → ℕ → ℕ → ℕ → Float
-termAt d2 w m a b = getD w a nan ⊗ getD w b nan ⊗ entry m d2 a b
+-- weight·weight·square of a and b, w being the weights of the kept samples
+unfoldable pub termAt : List Float → ℕ → List ℕ → List Float → ℕ → ℕ → Float
+termAt distances n ks w a b = getD w a nan ⊗ getD w b nan ⊗ squareAt distances n ks a b
 
-unfoldable pub terms : List Float → List Float → ℕ → List Float
-terms d2 w m = grid m m (termAt d2 w m)
+-- weight·square of b, seen from a
+unfoldable pub pullAt : List Float → ℕ → List ℕ → List Float → ℕ → ℕ → Float
+pullAt distances n ks w a b = getD w b nan ⊗ squareAt distances n ks a b
+
+-- both for each pair of m kept samples, row by row
+unfoldable pub terms : List Float → ℕ → List ℕ → List Float → ℕ → List Float
+terms distances n ks w m = grid m m (termAt distances n ks w)
+
+unfoldable pub pulls : List Float → ℕ → List ℕ → List Float → ℕ → List Float
+pulls distances n ks w m = grid m m (pullAt distances n ks w)
 
 -- ---- of a lot
-
-unfoldable pub squaresOf : Lot → List Float
-squaresOf lot = squares (lot .distances) (lot .n) (kept (lot .labels)) (keptCount (lot .labels))
 
 unfoldable pub weightsOf : Lot → List Float
 weightsOf lot = map (weightAt (lot .weighted) (lot .weights)) (kept (lot .labels))
 
 unfoldable pub termsOf : Lot → List Float
-termsOf lot = terms (squaresOf lot) (weightsOf lot) (keptCount (lot .labels))
+termsOf lot = terms (lot .distances) (lot .n) (kept (lot .labels)) (weightsOf lot) (keptCount (lot .labels))
+
+unfoldable pub pullsOf : Lot → List Float
+pullsOf lot = pulls (lot .distances) (lot .n) (kept (lot .labels)) (weightsOf lot) (keptCount (lot .labels))

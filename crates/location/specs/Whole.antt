@@ -6,16 +6,16 @@ use Prim.Native.Nat.{ℕ, _*_, _+_, _≤_}
 use lib.Dec.{leb}
 use lib.ListN.{length, getD, replicate}
 use lib.Ieee.{Float}
-use Rattle.float.specs.Floats.{_⊗_, num, 1·0}
+use Rattle.float.specs.Floats.{num, 1·0}
 use Rattle.lists.specs.Ranges.{range}
 use Rattle.lists.specs.Filters.{all, pairs}
 use Rattle.lists.specs.Numbers.{addUp, members}
 use Rattle.location.specs.Squares.{terms}
 use Rattle.location.specs.Location.{rowsSum, pairSum}
 
--- the terms of whole distances d, row by row, with weights 1
+-- the terms of m samples, all kept, with whole distances d and weights 1
 unfoldable pub wholeTerms : List ℕ → ℕ → List Float
-wholeTerms d m = terms (map (λ x. num x ⊗ num x) d) (replicate m 1·0) m
+wholeTerms d m = terms (map num d) m (range 0 m) (replicate m 1·0) m
 
 -- the square of the distance of a and b, as a whole number
 unfoldable pub wholeSquare : List ℕ → ℕ → ℕ → ℕ → ℕ

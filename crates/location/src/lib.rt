@@ -11,7 +11,7 @@ ghost use Rattle.lists.specs.Sums.{sumFrom};
 ghost use Rattle.lists.specs.Rows.{entry};
 ghost use mathlib.Core.Bool.{true};
 ghost use Rattle.lists.specs.Ranges.{table};
-ghost use Rattle.location.specs.Squares.{squareAt, squares, termAt, terms, weightAt};
+ghost use Rattle.location.specs.Squares.{squareAt, termAt, terms, pullAt, pulls, weightAt};
 ghost use Rattle.location.specs.Location.{rowSum, rowsSum, pairSum, groupWeight, groupWithin, pseudoF, rSquared};
 
 // Term a, b.
@@ -35,43 +35,43 @@ fn square(d: &[f64], n: usize, ks: &[u16], a: usize, b: usize) -> f64
     x * x
 }
 
-// Row a of the squares.
-fn fill_square_row(row: &mut [f64], d: &[f64], n: usize, ks: &[u16], a: usize)
-    requires { ⌜ (length (now row) ≡ length (now ks)) × (length (now d) ≡ n * n) × Below n (now ks) × (a < length (now ks)) ⌝ }
-    ensures { λ _. ⌜ now (row .exit) ≡ table (length (now (row .entry))) (squareAt (now (d .entry)) n (now (ks .entry)) a) ⌝ }
-{
-    for b in 0..row.len() {
-        row[b] = square(d, n, ks, a, b);
-    }
-}
-
-// The squares of m kept samples, row by row.
-pub fn fill_squares(d2: &mut [f64], d: &[f64], n: usize, ks: &[u16], m: usize)
-    requires { ⌜ (length (now d2) ≡ m * m) × (length (now ks) ≡ m) × (length (now d) ≡ n * n) × Below n (now ks) ⌝ }
-    ensures { λ _. ⌜ now (d2 .exit) ≡ squares (now (d .entry)) n (now (ks .entry)) m ⌝ }
-{
-    for a in 0..m {
-        fill_square_row(&mut d2[a * m..a * m + m], d, n, ks, a);
-    }
-}
-
 // Row a of the terms.
-fn fill_term_row(row: &mut [f64], d2: &[f64], w: &[f64], m: usize, a: usize)
-    requires { ⌜ (length (now row) ≡ m) × (length (now d2) ≡ m * m) × (length (now w) ≡ m) × (a < m) ⌝ }
-    ensures { λ _. ⌜ now (row .exit) ≡ table (length (now (row .entry))) (termAt (now (d2 .entry)) (now (w .entry)) m a) ⌝ }
+fn fill_term_row(row: &mut [f64], d: &[f64], n: usize, ks: &[u16], w: &[f64], a: usize)
+    requires { ⌜ (length (now row) ≡ length (now ks)) × (length (now w) ≡ length (now ks)) × (length (now d) ≡ n * n) × Below n (now ks) × (a < length (now ks)) ⌝ }
+    ensures { λ _. ⌜ now (row .exit) ≡ table (length (now (row .entry))) (termAt (now (d .entry)) n (now (ks .entry)) (now (w .entry)) a) ⌝ }
 {
     for b in 0..row.len() {
-        row[b] = w[a] * w[b] * term(d2, m, a, b);
+        row[b] = w[a] * w[b] * square(d, n, ks, a, b);
     }
 }
 
 // The terms of m kept samples, row by row.
-pub fn fill_terms(t: &mut [f64], d2: &[f64], w: &[f64], m: usize)
-    requires { ⌜ (length (now t) ≡ m * m) × (length (now d2) ≡ m * m) × (length (now w) ≡ m) ⌝ }
-    ensures { λ _. ⌜ now (t .exit) ≡ terms (now (d2 .entry)) (now (w .entry)) m ⌝ }
+pub fn fill_terms(t: &mut [f64], d: &[f64], n: usize, ks: &[u16], w: &[f64], m: usize)
+    requires { ⌜ (length (now t) ≡ m * m) × (length (now ks) ≡ m) × (length (now w) ≡ m) × (length (now d) ≡ n * n) × Below n (now ks) ⌝ }
+    ensures { λ _. ⌜ now (t .exit) ≡ terms (now (d .entry)) n (now (ks .entry)) (now (w .entry)) m ⌝ }
 {
     for a in 0..m {
-        fill_term_row(&mut t[a * m..a * m + m], d2, w, m, a);
+        fill_term_row(&mut t[a * m..a * m + m], d, n, ks, w, a);
+    }
+}
+
+// Row a of the pulls.
+fn fill_pull_row(row: &mut [f64], d: &[f64], n: usize, ks: &[u16], w: &[f64], a: usize)
+    requires { ⌜ (length (now row) ≡ length (now ks)) × (length (now w) ≡ length (now ks)) × (length (now d) ≡ n * n) × Below n (now ks) × (a < length (now ks)) ⌝ }
+    ensures { λ _. ⌜ now (row .exit) ≡ table (length (now (row .entry))) (pullAt (now (d .entry)) n (now (ks .entry)) (now (w .entry)) a) ⌝ }
+{
+    for b in 0..row.len() {
+        row[b] = w[b] * square(d, n, ks, a, b);
+    }
+}
+
+// The pulls of m kept samples, row by row.
+pub fn fill_pulls(p: &mut [f64], d: &[f64], n: usize, ks: &[u16], w: &[f64], m: usize)
+    requires { ⌜ (length (now p) ≡ m * m) × (length (now ks) ≡ m) × (length (now w) ≡ m) × (length (now d) ≡ n * n) × Below n (now ks) ⌝ }
+    ensures { λ _. ⌜ now (p .exit) ≡ pulls (now (d .entry)) n (now (ks .entry)) (now (w .entry)) m ⌝ }
+{
+    for a in 0..m {
+        fill_pull_row(&mut p[a * m..a * m + m], d, n, ks, w, a);
     }
 }
 
@@ -136,18 +136,26 @@ pub fn sum(w: &[f64]) -> f64
 
 // ---- within
 
+// The entries of row a at the samples `mem`, added to s.
+pub fn sum_entries(t: &[f64], m: usize, mem: &[u16], a: usize, s: f64) -> f64
+    requires { ⌜ (length (now t) ≡ m * m) × Below m (now mem) × (a < m) ⌝ }
+    ensures { λ r. ⌜ r ≡ sumFrom s (map (entry m (now (t .entry)) a) (now (mem .entry))) ⌝ }
+{
+    let mut u = s;
+    for y in 0..mem.len() {
+        let b = lists::entry(mem, y);
+        u = u + term(t, m, a, b);
+    }
+    u
+}
+
 // The terms of member x with each later one, added to s.
 fn pairs_with(t: &[f64], m: usize, mem: &[u16], x: usize, s: f64) -> f64
     requires { ⌜ (length (now t) ≡ m * m) × Below m (now mem) × (x < length (now mem)) ⌝ }
     ensures { λ r. ⌜ r ≡ sumFrom s (map (entry m (now (t .entry)) (getD (now (mem .entry)) x 0)) (drop (x + 1) (now (mem .entry)))) ⌝ }
 {
-    let mut u = s;
     let a = lists::entry(mem, x);
-    for y in x + 1..mem.len() {
-        let b = lists::entry(mem, y);
-        u = u + term(t, m, a, b);
-    }
-    u
+    sum_entries(t, m, &mem[x + 1..], a, s)
 }
 
 // The pair sum of the samples `mem`, in one accumulator.

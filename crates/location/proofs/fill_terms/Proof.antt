@@ -14,17 +14,17 @@ use Rattle.location.proofs.fill_terms.Statement.{statement}
 use Rattle.location.proofs.fill_terms.Tie as tie
 
 abbrev Inv-loop : tie.InvT-loop
-Inv-loop t₀ d2 w m a₀ t a = Filling m m (λ i. table m (termAt d2 w m i)) t₀ t a
+Inv-loop t₀ d n ks w m a₀ t a = Filling m m (λ i. table m (termAt d n ks w i)) t₀ t a
 
 abbrev μ-loop : tie.MeasureT-loop
-μ-loop t₀ d2 w m a₀ t a = m - a
+μ-loop t₀ d n ks w m a₀ t a = m - a
 
 -- row a lies within the list
-within : (c : tie.In-loop Inv-loop μ-loop) → c .before .loop .a * c .before .before .before .before .before .args .m + c .before .before .before .before .before .args .m ≤ length (c .before .loop .t)
-within c = omega (arith, row-end (c .before .before .before .before .before .args .m) _ _ (c .loop-test .taken), c .before .loop .inv .long)
+within : (c : tie.In-loop Inv-loop μ-loop) → c .before .loop .a * c .before .before .before .before .before .before .args .m + c .before .before .before .before .before .before .args .m ≤ length (c .before .loop .t)
+within c = omega (arith, row-end (c .before .before .before .before .before .before .args .m) _ _ (c .loop-test .taken), c .before .loop .inv .long)
 
 loop-holds : tie.Need-loop-holds Inv-loop μ-loop
-loop-holds c = filling-none (c .before .before .before .args .m) (c .before .before .before .args .m) (λ i. table (c .before .before .before .args .m) (termAt (c .before .before .before .args .d2 .now) (c .before .before .before .args .w .now) (c .before .before .before .args .m) i)) (λ i. length-table (termAt (c .before .before .before .args .d2 .now) (c .before .before .before .args .w .now) (c .before .before .before .args .m) i) (c .before .before .before .args .m)) (c .before .before .before .args .t .now) (c .before .before .before .pre .0)
+loop-holds c = filling-none (c .before .before .before .before .args .m) (c .before .before .before .before .args .m) (λ i. table (c .before .before .before .before .args .m) (termAt (c .before .before .before .before .args .d .now) (c .before .before .before .before .args .n) (c .before .before .before .before .args .ks .now) (c .before .before .before .before .args .w .now) i)) (λ i. length-table (termAt (c .before .before .before .before .args .d .now) (c .before .before .before .before .args .n) (c .before .before .before .before .args .ks .now) (c .before .before .before .before .args .w .now) i) (c .before .before .before .before .args .m)) (c .before .before .before .before .args .t .now) (c .before .before .before .before .pre .0)
 
 mul-fill-term-row : tie.Need-mul-fill-term-row Inv-loop μ-loop
 mul-fill-term-row c = omega (arith, within c)
@@ -48,7 +48,7 @@ part-fill-term-row-end : tie.Need-part-fill-term-row-end Inv-loop μ-loop
 part-fill-term-row-end c = omega (arith, within c)
 
 fill-term-row-requires : tie.Need-fill-term-row-requires Inv-loop μ-loop
-fill-term-row-requires c κs = let len = length-part (c .before .before .before .before .before .before .args .m) (c .before .before .loop .a) (c .before .before .loop .t) (within (c .before)) in (len, c .before .before .before .before .before .before .pre .1, c .before .before .before .before .before .before .pre .2, omega arith)
+fill-term-row-requires c κs = let len = length-part (c .before .before .before .before .before .before .before .args .m) (c .before .before .loop .a) (c .before .before .loop .t) (within (c .before)) in (omega arith, omega arith, c .before .before .before .before .before .before .before .pre .3, c .before .before .before .before .before .before .before .pre .4, omega arith)
 
 add-a : tie.Need-add-a Inv-loop μ-loop
 add-a c = omega arith
@@ -58,16 +58,16 @@ loop-less c = omega arith
 
 loop-again : tie.Need-loop-again Inv-loop μ-loop
 loop-again c =
-    let len = length-part (c .before .before .before .before .before .before .before .before .before .args .m) (c .before .before .before .before .before .loop .a) (c .before .before .before .before .before .loop .t) (within (c .before .before .before .before)) in
-    filling-next (c .before .before .before .before .before .before .before .before .before .args .m) (c .before .before .before .before .before .before .before .before .before .args .m) (λ i. table (c .before .before .before .before .before .before .before .before .before .args .m) (termAt (c .before .before .before .before .before .before .before .before .before .args .d2 .now) (c .before .before .before .before .before .before .before .before .before .args .w .now) (c .before .before .before .before .before .before .before .before .before .args .m) i)) (λ i. length-table (termAt (c .before .before .before .before .before .before .before .before .before .args .d2 .now) (c .before .before .before .before .before .before .before .before .before .args .w .now) (c .before .before .before .before .before .before .before .before .before .args .m) i) (c .before .before .before .before .before .before .before .before .before .args .m)) (c .before .before .before .before .before .before .before .before .before .args .t .now) (c .before .before .before .before .before .before .before .before .before .pre .0) (c .before .before .before .before .before .loop .inv) (omega arith)
-    (c .before .before .fill-term-row .ensures ∙ ap (λ (k : ℕ). table k (termAt (c .before .before .before .before .before .before .before .before .before .args .d2 .now) (c .before .before .before .before .before .before .before .before .before .args .w .now) (c .before .before .before .before .before .before .before .before .before .args .m) (c .before .before .before .before .before .loop .a))) len)
+    let len = length-part (c .before .before .before .before .before .before .before .before .before .before .args .m) (c .before .before .before .before .before .loop .a) (c .before .before .before .before .before .loop .t) (within (c .before .before .before .before)) in
+    filling-next (c .before .before .before .before .before .before .before .before .before .before .args .m) (c .before .before .before .before .before .before .before .before .before .before .args .m) (λ i. table (c .before .before .before .before .before .before .before .before .before .before .args .m) (termAt (c .before .before .before .before .before .before .before .before .before .before .args .d .now) (c .before .before .before .before .before .before .before .before .before .before .args .n) (c .before .before .before .before .before .before .before .before .before .before .args .ks .now) (c .before .before .before .before .before .before .before .before .before .before .args .w .now) i)) (λ i. length-table (termAt (c .before .before .before .before .before .before .before .before .before .before .args .d .now) (c .before .before .before .before .before .before .before .before .before .before .args .n) (c .before .before .before .before .before .before .before .before .before .before .args .ks .now) (c .before .before .before .before .before .before .before .before .before .before .args .w .now) i) (c .before .before .before .before .before .before .before .before .before .before .args .m)) (c .before .before .before .before .before .before .before .before .before .before .args .t .now) (c .before .before .before .before .before .before .before .before .before .before .pre .0) (c .before .before .before .before .before .loop .inv) (omega arith)
+    (c .before .before .fill-term-row .ensures ∙ ap (λ (k : ℕ). table k (termAt (c .before .before .before .before .before .before .before .before .before .before .args .d .now) (c .before .before .before .before .before .before .before .before .before .before .args .n) (c .before .before .before .before .before .before .before .before .before .before .args .ks .now) (c .before .before .before .before .before .before .before .before .before .before .args .w .now) (c .before .before .before .before .before .loop .a))) len)
 
 same-length : tie.Need-same-length Inv-loop μ-loop
 same-length c = c .before .loop .inv .long
 
 returns : tie.Need-returns Inv-loop μ-loop
 unfolding terms grid
-returns c = filling-all (c .before .before .before .before .before .args .m) (c .before .before .before .before .before .args .m) (λ i. table (c .before .before .before .before .before .args .m) (termAt (c .before .before .before .before .before .args .d2 .now) (c .before .before .before .before .before .args .w .now) (c .before .before .before .before .before .args .m) i)) (λ i. length-table (termAt (c .before .before .before .before .before .args .d2 .now) (c .before .before .before .before .before .args .w .now) (c .before .before .before .before .before .args .m) i) (c .before .before .before .before .before .args .m)) (c .before .before .before .before .before .args .t .now) (c .before .before .before .before .before .pre .0) (c .before .loop .inv) (omega arith)
+returns c = filling-all (c .before .before .before .before .before .before .args .m) (c .before .before .before .before .before .before .args .m) (λ i. table (c .before .before .before .before .before .before .args .m) (termAt (c .before .before .before .before .before .before .args .d .now) (c .before .before .before .before .before .before .args .n) (c .before .before .before .before .before .before .args .ks .now) (c .before .before .before .before .before .before .args .w .now) i)) (λ i. length-table (termAt (c .before .before .before .before .before .before .args .d .now) (c .before .before .before .before .before .before .args .n) (c .before .before .before .before .before .before .args .ks .now) (c .before .before .before .before .before .before .args .w .now) i) (c .before .before .before .before .before .before .args .m)) (c .before .before .before .before .before .before .args .t .now) (c .before .before .before .before .before .before .pre .0) (c .before .loop .inv) (omega arith)
 
 pub fill-terms-spec : {M : Type 1} → statement M
 fill-terms-spec =

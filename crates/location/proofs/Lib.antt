@@ -1,0 +1,2 @@
+-- The laws that the proofs of `location` share.
+pub mod Places
