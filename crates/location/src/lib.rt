@@ -12,7 +12,7 @@ ghost use Rattle.lists.specs.Rows.{entry};
 ghost use mathlib.Core.Bool.{true};
 ghost use Rattle.lists.specs.Ranges.{table};
 ghost use Rattle.location.specs.Squares.{squareAt, termAt, terms, pullAt, pulls, weightAt};
-ghost use Rattle.location.specs.Location.{rowSum, rowsSum, pairSum, groupWeight, groupWithin, pseudoF, rSquared};
+ghost use Rattle.location.specs.Location.{at, fRatio, rowSum, rowsSum, pairSum, groupWeight, groupWithin, pseudoF, rSquared};
 
 // Term a, b.
 fn term(t: &[f64], m: usize, a: usize, b: usize) -> f64
@@ -170,17 +170,25 @@ pub fn pair_sum(t: &[f64], m: usize, mem: &[u16]) -> f64
     s
 }
 
+// The numbers of the samples `mem`, added to s.
+pub fn sum_at(w: &[f64], mem: &[u16], s: f64) -> f64
+    requires { ⌜ Below (length (now w)) (now mem) ⌝ }
+    ensures { λ r. ⌜ r ≡ sumFrom s (map (at (now (w .entry))) (now (mem .entry))) ⌝ }
+{
+    let mut u = s;
+    for x in 0..mem.len() {
+        let a = lists::entry(mem, x);
+        u = u + w[a];
+    }
+    u
+}
+
 // Their weight sum.
 pub fn group_weight(w: &[f64], mem: &[u16]) -> f64
     requires { ⌜ Below (length (now w)) (now mem) ⌝ }
     ensures { λ r. ⌜ r ≡ groupWeight (now (w .entry)) (now (mem .entry)) ⌝ }
 {
-    let mut s = -0.0;
-    for x in 0..mem.len() {
-        let a = lists::entry(mem, x);
-        s = s + w[a];
-    }
-    s
+    sum_at(w, mem, -0.0)
 }
 
 // Their part of within.
@@ -193,12 +201,20 @@ pub fn group_within(t: &[f64], w: &[f64], m: usize, mem: &[u16]) -> f64
 
 // ---- F and r2
 
-// The pseudo F of m samples in g groups.
+// What lies between groups against what lies within them, of m samples in g groups.
+pub fn f_ratio(between: f64, within: f64, m: usize, g: usize) -> f64
+    requires { ⌜ (1 ≤ g) × (g ≤ m) × (m ≤ 256) ⌝ }
+    ensures { λ r. ⌜ r ≡ fRatio between within m g ⌝ }
+{
+    (between / (g - 1) as f64) / (within / (m - g) as f64)
+}
+
+// The pseudo F.
 pub fn pseudo_f(total: f64, within: f64, m: usize, g: usize) -> f64
     requires { ⌜ (1 ≤ g) × (g ≤ m) × (m ≤ 256) ⌝ }
     ensures { λ r. ⌜ r ≡ pseudoF total within m g ⌝ }
 {
-    ((total - within) / (g - 1) as f64) / (within / (m - g) as f64)
+    f_ratio(total - within, within, m, g)
 }
 
 // The share of the total that the groups explain.

@@ -1,33 +1,17 @@
--- `location::pseudo_f` meets its contract. Both degrees of freedom are at most 2 ^ 53, so each is an f64.
+-- `location::pseudo_f` meets its contract. The ratio of what is not within, and what is.
 -- Assumes nothing.
-use mathlib.Core.Path.{refl}
-use Prim.Native.Nat.{_-_, _^_}
-use native.Mathlib.Omega.{arith}
-use borrow.Author.Needs.{needs}
-use lib.Dec.{le→leb}
-use lib.Ieee.{inFloat}
+
+use Prim.Native.Nat.{_-_}
 use Rattle.location.specs.Location.{pseudoF}
 use Rattle.location.proofs.pseudo_f.Statement.{statement}
 use Rattle.location.proofs.pseudo_f.Tie as tie
 
-sub-result : tie.Need-sub-result
-sub-result c = search needs
-
-int-to-float-result : tie.Need-int-to-float-result
-unfolding inFloat
-int-to-float-result c = le→leb (c .before .args .g - 1) (2 ^ 53) (omega arith)
-
-sub-result-2 : tie.Need-sub-result-2
-sub-result-2 c = search needs
-
-int-to-float-result-2 : tie.Need-int-to-float-result-2
-unfolding inFloat
-int-to-float-result-2 c = le→leb (c .before .before .args .m - c .before .before .args .g) (2 ^ 53) (omega arith)
+f-ratio-requires : tie.Need-f-ratio-requires
+f-ratio-requires c κs = c .pre
 
 returns : tie.Need-returns
 unfolding pseudoF
-returns c = refl
+returns c = c .f-ratio .ensures
 
 pub pseudo-f-spec : {M : Type 1} → statement M
-pseudo-f-spec =
-    tie.close (tie.spec sub-result int-to-float-result sub-result-2 int-to-float-result-2 returns)
+pseudo-f-spec = tie.close (tie.spec f-ratio-requires returns)
