@@ -136,6 +136,12 @@ module _ {A : Type 0} (f : ℕ → A) (old : List A) where
       let done : i ≡ length old = omega (arith, w .most) in
       table-all f old (length old) (w .held ∙ ap (λ (k : ℕ). over (table k f) old) done) (omega arith)
 
+  -- the entry that is written next is still the old one
+  pub writing-here : {l : List A} {i : ℕ} (d : A) → Writing f old l i → getD l i d ≡ getD old i d
+  writing-here {l} {i} d w =
+      let len = length-table f i in
+      ap (λ (t : List A). getD t i d) (w .held) ∙ getD-behind (table i f) old i d (omega arith)
+
   -- with the length by another name
   pub writing-table : {l : List A} {i n : ℕ} → Writing f old l i → length old ≡ n → n ≤ i → l ≡ table n f
   writing-table w e h = writing-all w (omega arith) ∙ ap (λ (k : ℕ). table k f) e
