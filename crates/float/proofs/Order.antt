@@ -108,7 +108,13 @@ top (inf true) p = tt
 top (inf false) p = tt
 top (fin s m e) p = tt
 
--- an upper bound is no NaN
+-- no NaN has an upper bound or is one
+pub left-number : (x y : Float) → T (le x y) → T (not (isNan x))
+unfolding le isNan
+left-number nan y h = h
+left-number (inf s) y h = tt
+left-number (fin s m e) y h = tt
+
 pub right-number : (x y : Float) → T (le x y) → T (not (isNan y))
 unfolding isNan
 right-number x nan h = not-le-nan x h

@@ -18,7 +18,7 @@ use Rattle.float.specs.Value.{sign, SignedLe}
 use Rattle.float.specs.Order.{magnitude, larger, signum}
 use Rattle.float.proofs.Tests.{fails, either-way}
 use Rattle.float.proofs.Signed.{SignedEq}
-use Rattle.float.proofs.Value.{first-zero, unique, zeroOf, zero-fits}
+use Rattle.float.proofs.Value.{first-zero, sign-fits, unique, zeroOf, zero-fits}
 use Rattle.float.proofs.Order.{le-over, lt-over, eq-over, lt-value}
 use Rattle.float.proofs.Rounding.{round-own}
 use Rattle.float.proofs.Sum.{add-at, add-neg-zero}
@@ -61,13 +61,6 @@ zero-add-abs f m e p =
     ∙ ap (λ (z : ℕ). round f false z (down e)) (zero-add (m * up e))
     ∙ round-own f (fin false m e) false (m * up e) (down e) (down-pos e) p (refl, refl)
 
-pub abs-fits : (f : Format) (x : Float) → T (fits f x) → T (fits f (magnitude x))
-unfolding magnitude fits
-abs-fits f nan p = tt
-abs-fits f (inf s) p = tt
-abs-fits f (fin s zero e) p = p
-abs-fits f (fin s (suc m) e) p = p
-
 abs-of-zero : (s : Bool) → sub binary64 zero⁺ (zeroOf s) ≡ magnitude (zeroOf s)
 unfolding sub ofBits magnitude
 abs-of-zero true = refl
@@ -78,7 +71,7 @@ unfolding sub neg ofBits magnitude
 abs-below nan p h = absurd (unfold le in h)
 abs-below (inf true) p h = unfold add in refl
 abs-below (inf false) p h = absurd (unfold le in h)
-abs-below (fin true m e) p h = zero-add-abs binary64 m e (abs-fits binary64 (fin true m e) p)
+abs-below (fin true m e) p h = zero-add-abs binary64 m e (sign-fits binary64 true false m e p)
 abs-below (fin false m e) p h =
     let z = zero-is binary64 (fin false m e) p (eq-zero false m e .1 (le-zero false m e .0 h, omega arith)) in
     ap (sub binary64 zero⁺) (z .1) ∙ abs-of-zero (z .0) ∙ sym (ap magnitude (z .1))
@@ -92,18 +85,9 @@ abs-above (fin true m e) h = absurd (h (le-zero true m e .1 (omega arith)))
 abs-above (fin false m e) h = refl
 
 -- ---- `max`
-larger-nan : (x : Float) → x ≡ larger x nan
-unfolding larger
-larger-nan nan = refl
-larger-nan (inf s) = refl
-larger-nan (fin s m e) = refl
-
 pub max-nan : (x y : Float) → T (ne x x) → y ≡ larger x y
 unfolding larger
 max-nan x y h = ap (λ (z : Float). larger z y) (sym (differs-from-itself x h))
-
-pub max-right-nan : (x y : Float) → T (ne y y) → x ≡ larger x y
-max-right-nan x y h = larger-nan x ∙ ap (λ (z : Float). larger x z) (sym (differs-from-itself y h))
 
 pub max-less : (x y : Float) → lt x y ≡ true → y ≡ larger x y
 unfolding larger lt
@@ -148,19 +132,19 @@ same-sign true false m e n d h k =
       | inr z ↦ absurd (h (lt-value (fin true m e) (fin false n d) true (m * up e) (down e) false (n * up d) (down d) (down-pos e) (down-pos d) (refl, refl) (refl, refl) .1 (λ w. not-le-of-lt z (omega arith))))
     ]
 
-pub max-rest : (x y : Float) → ne x x ≡ false → ne y y ≡ false → lt x y ≡ false → (T (eq x zero⁺) → T (eq y zero⁺) → ⊥) → x ≡ larger x y
+pub max-rest : (x y : Float) → ne x x ≡ false → lt x y ≡ false → (T (eq x zero⁺) → T (eq y zero⁺) → ⊥) → x ≡ larger x y
 unfolding larger
-max-rest nan y h g l k = absurd (true≢false (sym nan-differs ∙ h))
-max-rest (inf s) nan h g l k = refl
-max-rest (inf true) (inf true) h g l k = refl
-max-rest (inf true) (inf false) h g l k = absurd (unfold lt in true≢false l)
-max-rest (inf false) (inf t) h g l k = refl
-max-rest (inf true) (fin t n d) h g l k = absurd (unfold lt in true≢false l)
-max-rest (inf false) (fin t n d) h g l k = refl
-max-rest (fin s m e) nan h g l k = refl
-max-rest (fin s m e) (inf true) h g l k = refl
-max-rest (fin s m e) (inf false) h g l k = absurd (unfold lt in true≢false l)
-max-rest (fin s m e) (fin t n d) h g l k =
+max-rest nan y h l k = absurd (true≢false (sym nan-differs ∙ h))
+max-rest (inf s) nan h l k = refl
+max-rest (inf true) (inf true) h l k = refl
+max-rest (inf true) (inf false) h l k = absurd (unfold lt in true≢false l)
+max-rest (inf false) (inf t) h l k = refl
+max-rest (inf true) (fin t n d) h l k = absurd (unfold lt in true≢false l)
+max-rest (inf false) (fin t n d) h l k = refl
+max-rest (fin s m e) nan h l k = refl
+max-rest (fin s m e) (inf true) h l k = refl
+max-rest (fin s m e) (inf false) h l k = absurd (unfold lt in true≢false l)
+max-rest (fin s m e) (fin t n d) h l k =
     sym (ap (λ (b : Bool). cond b (fin t n d) (cond (lt (fin t n d) (fin s m e)) (fin s m e) (fin (s && t) m e))) l
     ∙ ap (λ (b : Bool). cond (lt (fin t n d) (fin s m e)) (fin s m e) (fin b m e)) (same-sign s t m e n d (fails l) k)
     ∙ same (lt (fin t n d) (fin s m e)) (fin s m e))

@@ -14,6 +14,7 @@ use lib.Ieee.Fits.{down-pos}
 use lib.Ieee.Exact.{HasValue}
 use lib.Ieee.Scale.{finite, round-same}
 use Rattle.float.specs.Value.{gain, SignedLe, sign}
+use Rattle.float.proofs.Nan.{finite-no-nan}
 use Rattle.float.proofs.Signed.{signed-scale}
 use Rattle.float.proofs.Value.{depth, unitsAt, value-at, crossed-left, crossed-right, zeroOf}
 use Rattle.float.proofs.Order.{le-at, right-number, bottom, top, le-refl, neg-le}
@@ -105,12 +106,6 @@ add-finite f x x' y y' p p' q q' h k =
     (sum-le f (sign x) (unitsAt l x) (sign y) (unitsAt l y) (sign x') (unitsAt l x') (sign y') (unitsAt l y') (2 ^ l) (pow-pos l) (le-at l x x' p p' i i' .0 h) (le-at l y y' q q' j j' .0 k))
 
 -- no sum of a finite value and a number is a NaN
-pub finite-number : (x : Float) → T (finite x) → T (not (isNan x))
-unfolding isNan
-finite-number nan p = p
-finite-number (inf s) p = tt
-finite-number (fin s m e) p = tt
-
 add-number : (f : Format) (x y : Float) → T (finite x) → T (not (isNan y)) → T (not (isNan (add f x y)))
 add-number f nan y p q = absurd p
 add-number f (inf s) y p q = absurd p
@@ -201,7 +196,7 @@ pub sub-le : (f : Format) (x w : Float) → T (fits f x) → T (finite x) → T 
 unfolding sub
 sub-le f x w p q h =
     subst (λ (z : Float). T (le (add f x (neg w)) z)) (add-neg-zero f x p)
-    (add-le f x x (neg w) (zeroOf true) q q (le-refl x (finite-number x q)) (unfold neg in neg-le (zeroOf false) w h))
+    (add-le f x x (neg w) (zeroOf true) q q (le-refl x (finite-no-nan x q)) (unfold neg in neg-le (zeroOf false) w h))
 
 -- x - x is 0 where x is finite, and a NaN elsewhere
 opposites : (r : Bool) (q : ℕ) (s : Bool) (a : ℕ) → IsSum r q s a (not s) a → q ≡ 0

@@ -91,6 +91,12 @@ pub zero-exponent : (f : Format) (s : Bool) (e : ℤ) → T (fits f (fin s zero 
 unfolding fits
 zero-exponent f s e t = flat e (eqb→eq (up e * down e) 1 t)
 
+-- the sign does not matter to it
+pub sign-fits : (f : Format) (s t : Bool) (m : ℕ) (e : ℤ) → T (fits f (fin s m e)) → T (fits f (fin t m e))
+unfolding fits
+sign-fits f s t zero e p = p
+sign-fits f s t (suc m) e p = p
+
 -- ---- zeros
 abbrev pub zeroOf : Bool → Float
 zeroOf s = fin s 0 (pos 0)

@@ -136,25 +136,22 @@ pub fn abs(x: f64) -> f64
     if x <= 0.0 { 0.0 - x } else { x }
 }
 
-// The larger of x and y: 0.0 of -0.0 and 0.0, and the number of NaN and a number.
-pub fn max(x: f64, y: f64) -> f64
-    ensures { λ r. ⌜ r ≡ larger x y ⌝ }
+// The larger of a and b: 0.0 of -0.0 and 0.0, and the number of NaN and a number.
+pub fn max(a: f64, b: f64) -> f64
+    ensures { λ r. ⌜ r ≡ larger a b ⌝ }
 {
-    if x != x {
-        return y;
+    if a != a {
+        return b;
     }
-    if y != y {
-        return x;
+    if a < b {
+        return b;
     }
-    if x < y {
-        return y;
-    }
-    if x == 0.0 {
-        if y == 0.0 {
-            return x + y;
+    if a == 0.0 {
+        if b == 0.0 {
+            return a + b;
         }
     }
-    x
+    a
 }
 
 // Whether x is a number, and no infinity: of those x - x is NaN.
