@@ -11,6 +11,7 @@ ghost use Rattle.lists.specs.Sums.{sumFrom};
 ghost use Rattle.lists.specs.Rows.{entry};
 ghost use mathlib.Core.Bool.{true};
 ghost use Rattle.lists.specs.Ranges.{table};
+ghost use Rattle.members.specs.Members.{part, Parts};
 ghost use Rattle.location.specs.Squares.{squareAt, termAt, terms, pullAt, pulls, weightAt};
 ghost use Rattle.location.specs.Location.{at, fRatio, rowSum, rowsSum, pairSum, groupWeight, groupWithin, pseudoF, rSquared};
 
@@ -197,6 +198,19 @@ pub fn group_within(t: &[f64], w: &[f64], m: usize, mem: &[u16]) -> f64
     ensures { λ r. ⌜ r ≡ groupWithin (now (t .entry)) (now (w .entry)) m (now (mem .entry)) ⌝ }
 {
     pair_sum(t, m, mem) / float::max(group_weight(w, mem), 2.2250738585072014e-308)
+}
+
+// The sum over the g parts of `mem`.
+pub fn within(t: &[f64], w: &[f64], m: usize, g: usize, next: &[u16], mem: &[u16]) -> f64
+    requires { ⌜ (length (now t) ≡ m * m) × (length (now w) ≡ m) × Parts m g (now next) (now mem) ⌝ }
+    ensures { λ r. ⌜ r ≡ sumFrom zero⁻ (table g (λ k. groupWithin (now (t .entry)) (now (w .entry)) m (part (now (next .entry)) (now (mem .entry)) k))) ⌝ }
+{
+    let mut s = -0.0;
+    for k in 0..g {
+        let p = members::part_of(next, mem, k);
+        s = s + group_within(t, w, m, p);
+    }
+    s
 }
 
 // ---- F and r2
