@@ -8,9 +8,12 @@ ghost use Rattle.lists.specs.Ranges.{table};
 ghost use Rattle.lists.specs.Filters.{any};
 ghost use Rattle.lists.specs.Numbers.{Below};
 ghost use Rattle.lists.specs.Sums.{sumFrom};
-ghost use Rattle.location.specs.Location.{at};
-ghost use Rattle.dispersion.specs.Dispersion.{inside, pullSum, valueOf, distanceOf, negative};
-ghost use Rattle.dispersion.specs.Anova.{groupMean, meanOf, share, residualAt, residual, grandMean};
+ghost use Rattle.lists.specs.Writes.{over};
+ghost use Rattle.members.specs.Members.{part, Parts, Grouped};
+ghost use Rattle.location.specs.Location.{at, groupWeight};
+ghost use Rattle.dispersion.specs.Dispersion.{inside, pullSum, valueOf, distanceOf, negative, values, zOf, someNegative};
+ghost use Rattle.dispersion.specs.Parted.{valueBy};
+ghost use Rattle.dispersion.specs.Anova.{groupMean, meanOf, share, residualAt, residual, grandMean, anovaF};
 
 // ---- a group's values
 
@@ -141,4 +144,104 @@ fn residual(z: &[f64], means: &[f64], lab: &[u16], m: usize) -> f64
         s = s + residual_at(z, means, lab, k);
     }
     s
+}
+
+// ---- over the groups' members, as parts of `mem`
+
+// The weight sums of the g groups go to the front of `out`.
+fn fill_weights(w: &[f64], m: usize, g: usize, next: &[u16], mem: &[u16], out: &mut [f64])
+    requires { ⌜ (length (now w) ≡ m) × Parts m g (now next) (now mem) × (g ≤ length (now out)) ⌝ }
+    ensures { λ _. ⌜ now (out .exit) ≡ over (table g (λ k. groupWeight (now (w .entry)) (part (now (next .entry)) (now (mem .entry)) k))) (now (out .entry)) ⌝ }
+{
+    for k in 0..g {
+        let p = members::part_of(next, mem, k);
+        out[k] = location::group_weight(w, p);
+    }
+}
+
+// What is inside each of the g groups.
+fn fill_insides(t: &[f64], m: usize, g: usize, next: &[u16], mem: &[u16], out: &mut [f64])
+    requires { ⌜ (length (now t) ≡ m * m) × Parts m g (now next) (now mem) × (g ≤ length (now out)) ⌝ }
+    ensures { λ _. ⌜ now (out .exit) ≡ over (table g (λ k. inside (now (t .entry)) m (part (now (next .entry)) (now (mem .entry)) k))) (now (out .entry)) ⌝ }
+{
+    for k in 0..g {
+        let p = members::part_of(next, mem, k);
+        out[k] = inside(t, m, p);
+    }
+}
+
+// The groups' means of z.
+fn fill_group_means(z: &[f64], m: usize, g: usize, next: &[u16], mem: &[u16], out: &mut [f64])
+    requires { ⌜ (length (now z) ≡ m) × Parts m g (now next) (now mem) × (length (now mem) ≤ 256) × (g ≤ length (now out)) ⌝ }
+    ensures { λ _. ⌜ now (out .exit) ≡ over (table g (λ k. groupMean (now (z .entry)) (part (now (next .entry)) (now (mem .entry)) k))) (now (out .entry)) ⌝ }
+{
+    for k in 0..g {
+        let p = members::part_of(next, mem, k);
+        out[k] = group_mean(z, p);
+    }
+}
+
+// The means that the answer lists.
+pub fn fill_means(z: &[f64], m: usize, g: usize, next: &[u16], mem: &[u16], out: &mut [f64])
+    requires { ⌜ (length (now z) ≡ m) × Parts m g (now next) (now mem) × (length (now mem) ≤ 256) × (g ≤ length (now out)) ⌝ }
+    ensures { λ _. ⌜ now (out .exit) ≡ over (table g (λ k. meanOf (now (z .entry)) (part (now (next .entry)) (now (mem .entry)) k))) (now (out .entry)) ⌝ }
+{
+    for k in 0..g {
+        let p = members::part_of(next, mem, k);
+        out[k] = mean_of(z, p);
+    }
+}
+
+// What lies between groups.
+fn between(m: usize, g: usize, next: &[u16], mem: &[u16], means: &[f64], grand: f64) -> f64
+    requires { ⌜ Parts m g (now next) (now mem) × (length (now mem) ≤ 256) × (g ≤ length (now means)) ⌝ }
+    ensures { λ r. ⌜ r ≡ sumFrom zero⁻ (table g (λ k. share (part (now (next .entry)) (now (mem .entry)) k) (at (now (means .entry)) k) grand)) ⌝ }
+{
+    let mut s = -0.0;
+    for k in 0..g {
+        let p = members::part_of(next, mem, k);
+        s = s + share(p, means[k], grand);
+    }
+    s
+}
+
+// The value of sample a, from its group's weight sum and what is inside the group.
+fn value_at(
+    pulls: &[f64],
+    lab: &[u16],
+    m: usize,
+    g: usize,
+    next: &[u16],
+    mem: &[u16],
+    gw: &[f64],
+    gi: &[f64],
+    a: usize,
+) -> f64
+    requires { ⌜ (length (now pulls) ≡ m * m) × (length (now lab) ≡ m) × Below g (now lab) × Parts m g (now next) (now mem) × (g ≤ length (now gw)) × (g ≤ length (now gi)) × (a < m) ⌝ }
+    ensures { λ r. ⌜ r ≡ valueBy (now (pulls .entry)) (now (lab .entry)) m (now (next .entry)) (now (mem .entry)) (now (gw .entry)) (now (gi .entry)) a ⌝ }
+{
+    let l = lists::entry(lab, a);
+    let p = members::part_of(next, mem, l);
+    let sum = pull_sum(pulls, m, p, a);
+    value_of(sum, gw[l], gi[l])
+}
+
+// Every sample's value.
+fn fill_values(
+    pulls: &[f64],
+    lab: &[u16],
+    m: usize,
+    g: usize,
+    next: &[u16],
+    mem: &[u16],
+    gw: &[f64],
+    gi: &[f64],
+    z: &mut [f64],
+)
+    requires { ⌜ (length (now pulls) ≡ m * m) × (length (now lab) ≡ m) × Below g (now lab) × Parts m g (now next) (now mem) × (g ≤ length (now gw)) × (g ≤ length (now gi)) × (length (now z) ≡ m) ⌝ }
+    ensures { λ _. ⌜ now (z .exit) ≡ table m (valueBy (now (pulls .entry)) (now (lab .entry)) m (now (next .entry)) (now (mem .entry)) (now (gw .entry)) (now (gi .entry))) ⌝ }
+{
+    for a in 0..m {
+        z[a] = value_at(pulls, lab, m, g, next, mem, gw, gi, a);
+    }
 }
