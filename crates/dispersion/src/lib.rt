@@ -245,3 +245,72 @@ fn fill_values(
         z[a] = value_at(pulls, lab, m, g, next, mem, gw, gi, a);
     }
 }
+
+// Every sample's value in its own group. `gw` and `gi` lend room for the groups' weight sums and insides.
+fn values(
+    pulls: &[f64],
+    t: &[f64],
+    w: &[f64],
+    lab: &[u16],
+    m: usize,
+    g: usize,
+    next: &[u16],
+    mem: &[u16],
+    gw: &mut [f64],
+    gi: &mut [f64],
+    z: &mut [f64],
+)
+    requires { ⌜ (length (now pulls) ≡ m * m) × (length (now t) ≡ m * m) × (length (now w) ≡ m) × (length (now lab) ≡ m) × Below g (now lab) ⌝ }
+    requires { ⌜ Grouped (now lab) m g (now next) (now mem) × (g ≤ length (now gw)) × (g ≤ length (now gi)) × (length (now z) ≡ m) ⌝ }
+    ensures { λ _. ⌜ now (z .exit) ≡ values (now (pulls .entry)) (now (t .entry)) (now (w .entry)) (now (lab .entry)) m ⌝ }
+{
+    fill_weights(w, m, g, next, mem, gw);
+    fill_insides(t, m, g, next, mem, gi);
+    fill_values(pulls, lab, m, g, next, mem, gw, gi, z);
+}
+
+// Every sample's z, and whether some value was below 0.
+pub fn fill_z(
+    pulls: &[f64],
+    t: &[f64],
+    w: &[f64],
+    lab: &[u16],
+    m: usize,
+    g: usize,
+    next: &[u16],
+    mem: &[u16],
+    gw: &mut [f64],
+    gi: &mut [f64],
+    z: &mut [f64],
+) -> bool
+    requires { ⌜ (length (now pulls) ≡ m * m) × (length (now t) ≡ m * m) × (length (now w) ≡ m) × (length (now lab) ≡ m) × Below g (now lab) ⌝ }
+    requires { ⌜ Grouped (now lab) m g (now next) (now mem) × (g ≤ length (now gw)) × (g ≤ length (now gi)) × (length (now z) ≡ m) ⌝ }
+    ensures { λ r. ⌜ (r ≡ someNegative (now (pulls .entry)) (now (t .entry)) (now (w .entry)) (now (lab .entry)) m)
+        × (now (z .exit) ≡ zOf (now (pulls .entry)) (now (t .entry)) (now (w .entry)) (now (lab .entry)) m) ⌝ }
+{
+    values(pulls, t, w, lab, m, g, next, mem, gw, gi, z);
+    let some = some_negative(z);
+    distances(z);
+    some
+}
+
+// The F of z by groups. `means` lends room for the groups' means.
+pub fn anova_f(
+    z: &[f64],
+    lab: &[u16],
+    m: usize,
+    g: usize,
+    next: &[u16],
+    mem: &[u16],
+    means: &mut [f64],
+) -> f64
+    requires { ⌜ (length (now z) ≡ m) × (length (now lab) ≡ m) × Below g (now lab) × Grouped (now lab) m g (now next) (now mem) × (length (now mem) ≤ 256) ⌝ }
+    requires { ⌜ (g ≤ length (now means)) × (1 ≤ g) × (g ≤ m) × (m ≤ 256) ⌝ }
+    ensures { λ r. ⌜ r ≡ anovaF (now (z .entry)) (now (lab .entry)) m g ⌝ }
+{
+    fill_group_means(z, m, g, next, mem, means);
+    let grand = grand_mean(z, m);
+    let b = between(m, g, next, mem, means, grand);
+    let r = residual(z, &means[..g], lab, m);
+    location::f_ratio(b, r, m, g)
+}

@@ -1,9 +1,6 @@
 -- `location::within` meets its contract. The parts from k on, added to s, are always the whole sum.
 -- Assumes nothing.
 
-
-
-
 use mathlib.Core.Path.{_≡_, refl, sym, ap, _∙_}
 use mathlib.Core.List.{map}
 use Prim.Native.Nat.{_-_}
