@@ -1,0 +1,4 @@
+-- Section 8 of document 01: the sampled test.
+pub mod Sampled
+pub mod Together
+pub mod Call
