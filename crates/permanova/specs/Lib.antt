@@ -2,3 +2,5 @@
 pub mod Sampled
 pub mod Together
 pub mod Call
+pub mod Parted
+pub mod Room
