@@ -4,3 +4,4 @@ pub mod Together
 pub mod Call
 pub mod Parted
 pub mod Room
+pub mod Measured

@@ -14,7 +14,15 @@ ghost use Rattle.splitmix.specs.Shuffle.{deal, shuffleStratum};
 ghost use Rattle.location.specs.Location.{within, pseudoF};
 ghost use Rattle.dispersion.specs.Anova.{anovaF};
 ghost use Rattle.statistics.specs.Hits.{shuffleHit};
+ghost use mathlib.Core.Bool.{true};
+ghost use mathlib.Core.List.{map};
+ghost use Rattle.lists.specs.Writes.{over};
+ghost use Rattle.lot.specs.Kept.{sizes};
+ghost use Rattle.location.specs.Squares.{weightAt, terms, pulls};
+ghost use Rattle.dispersion.specs.Dispersion.{zOf};
+ghost use Rattle.dispersion.specs.Anova.{meanZ};
 ghost use Rattle.permanova.specs.Parted.{shuffledBy};
+ghost use Rattle.permanova.specs.Measured.{located, spread};
 ghost use Rattle.permanova.specs.Room.{Sampling, Room};
 
 // A p, or none.
@@ -233,4 +241,103 @@ fn count_hits(
         location: a,
         dispersion: b,
     }
+}
+
+// ---- what is observed
+
+pub struct Located {
+    pub total: f64,
+    pub f: f64,
+    pub r2: f64,
+}
+
+// Location of the labels `gs`, whose groups' members are the parts of `mem`.
+fn locate(
+    t: &[f64],
+    w: &[f64],
+    gs: &[u16],
+    m: usize,
+    g: usize,
+    next: &[u16],
+    mem: &[u16],
+) -> Located
+    requires { ⌜ (length (now t) ≡ m * m) × (length (now w) ≡ m) × Grouped (now gs) m g (now next) (now mem) × (1 ≤ g) × (g ≤ m) × (m ≤ 256) ⌝ }
+    ensures { λ r. ⌜ r ≡ located (now (t .entry)) (now (w .entry)) (now (gs .entry)) m g ⌝ }
+{
+    let total = statistics::total(t, w, m);
+    let inside = statistics::within(t, w, gs, m, g, next, mem);
+    let f = location::pseudo_f(total, inside, m, g);
+    let r2 = location::r_squared(total, inside);
+    Located { total, f, r2 }
+}
+
+pub struct Spread {
+    pub f: f64,
+    pub negative: bool,
+}
+
+// Dispersion of the labels `gs`: z is filled. `gw` and `gi` lend room.
+fn disperse(
+    p: &[f64],
+    t: &[f64],
+    w: &[f64],
+    gs: &[u16],
+    m: usize,
+    g: usize,
+    next: &[u16],
+    mem: &[u16],
+    gw: &mut [f64],
+    gi: &mut [f64],
+    z: &mut [f64],
+) -> Spread
+    requires { ⌜ (length (now p) ≡ m * m) × (length (now t) ≡ m * m) × (length (now w) ≡ m) × (length (now gs) ≡ m) × Below g (now gs) ⌝ }
+    requires { ⌜ Grouped (now gs) m g (now next) (now mem) × (length (now mem) ≤ 256) × (g ≤ length (now gw)) × (g ≤ length (now gi)) × (length (now z) ≡ m) × (1 ≤ g) × (g ≤ m) × (m ≤ 256) ⌝ }
+    ensures { λ r. ⌜ (r ≡ spread (now (p .entry)) (now (t .entry)) (now (w .entry)) (now (gs .entry)) m g)
+        × (now (z .exit) ≡ zOf (now (p .entry)) (now (t .entry)) (now (w .entry)) (now (gs .entry)) m) ⌝ }
+{
+    let negative = dispersion::fill_z(p, t, w, gs, m, g, next, mem, gw, gi, z);
+    let f = dispersion::anova_f(z, gs, m, g, next, mem, gw);
+    Spread { f, negative }
+}
+
+// Each group's count and mean z go to the front of the outputs.
+fn list_groups(
+    z: &[f64],
+    gs: &[u16],
+    m: usize,
+    g: usize,
+    next: &[u16],
+    mem: &[u16],
+    counts: &mut [u16],
+    means: &mut [f64],
+)
+    requires { ⌜ (length (now z) ≡ m) × Grouped (now gs) m g (now next) (now mem) × (length (now mem) ≤ 256) × (g ≤ length (now counts)) × (g ≤ length (now means)) ⌝ }
+    ensures { λ _. ⌜ (now (counts .exit) ≡ over (sizes (now (gs .entry)) m g) (now (counts .entry)))
+        × (now (means .exit) ≡ over (meanZ (now (z .entry)) (now (gs .entry)) m g) (now (means .entry))) ⌝ }
+{
+    statistics::fill_sizes(next, mem, m, g, counts);
+    dispersion::fill_means(z, m, g, next, mem, means);
+}
+
+// The weights w, terms t and pulls p of the kept samples `ks`.
+fn weigh(
+    d: &[f64],
+    n: usize,
+    ks: &[u16],
+    m: usize,
+    weighted: bool,
+    weights: &[f64],
+    w: &mut [f64],
+    t: &mut [f64],
+    p: &mut [f64],
+)
+    requires { ⌜ (length (now d) ≡ n * n) × (length (now ks) ≡ m) × Below n (now ks) × (weighted ≡ true → length (now weights) ≡ n) ⌝ }
+    requires { ⌜ (length (now w) ≡ m) × (length (now t) ≡ m * m) × (length (now p) ≡ m * m) ⌝ }
+    ensures { λ _. ⌜ (now (w .exit) ≡ map (weightAt weighted (now (weights .entry))) (now (ks .entry)))
+        × (now (t .exit) ≡ terms (now (d .entry)) n (now (ks .entry)) (map (weightAt weighted (now (weights .entry))) (now (ks .entry))) m)
+        × (now (p .exit) ≡ pulls (now (d .entry)) n (now (ks .entry)) (map (weightAt weighted (now (weights .entry))) (now (ks .entry))) m) ⌝ }
+{
+    location::fill_weights(w, weighted, weights, ks);
+    location::fill_terms(t, d, n, ks, w, m);
+    location::fill_pulls(p, d, n, ks, w, m);
 }
