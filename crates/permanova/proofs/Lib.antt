@@ -1,2 +1,3 @@
 -- The laws that the proofs of `permanova` share.
 pub mod Shuffles
+pub mod Chances

@@ -5,6 +5,15 @@ use lib.Ieee.{Float}
 use Rattle.location.specs.Location.{total, within, pseudoF, rSquared}
 use Rattle.dispersion.specs.Dispersion.{zOf, someNegative}
 use Rattle.dispersion.specs.Anova.{anovaF}
+use Rattle.lists.specs.Ranges.{range}
+use Rattle.lists.specs.Filters.{countIf}
+use mathlib.Core.Bool.{Bool}
+use Rattle.statistics.specs.Hits.{statistic, shuffleHit}
+use Rattle.permanova.specs.declared.Seen.{Seen}
+use Rattle.permanova.specs.declared.Hits.{Hits}
+use Rattle.permanova.specs.declared.Observed.{Observed}
+use Rattle.permanova.specs.declared.Measured.{Measured}
+use Rattle.permanova.specs.Sampled.{parts, shuffled, chance}
 use Rattle.permanova.specs.declared.Located.{Located}
 use Rattle.permanova.specs.declared.Spread.{Spread}
 
@@ -20,3 +29,34 @@ located t w lab m g =
 -- dispersion
 unfoldable pub spread : List Float → List Float → List Float → List ℕ → ℕ → ℕ → Spread
 spread p t w lab m g = record { f = anovaF (zOf p t w lab m) lab m g; negative = someNegative p t w lab m }
+
+-- both
+unfoldable pub observed : List Float → List Float → List Float → List ℕ → ℕ → ℕ → Observed
+observed p t w lab m g =
+    let l = located t w lab m g in
+    let d = spread p t w lab m g in
+    record { total = l .total; f = l .f; r2 = l .r2; «disp_f» = d .f; negative = d .negative }
+
+-- the hits of n shuffles within the s strata ss, of both observed statistics
+unfoldable pub drawn : List Float → List Float → List Float → Float → List ℕ → List ℕ → ℕ → ℕ → ℕ → ℕ → ℕ → Seen → Hits
+drawn t w z total gs ss m g s seed n seen =
+    record {
+      location = countIf (λ i. shuffleHit (seen .location) (pseudoF total (within t w (shuffled (parts ss m s) gs seed i) m g) m g)) (range 0 n);
+      dispersion = countIf (λ i. shuffleHit (seen .dispersion) (anovaF z (shuffled (parts ss m s) gs seed i) m g)) (range 0 n);
+    }
+
+-- all of it: both statistics and their p
+unfoldable pub measured : List Float → List Float → List Float → List ℕ → List ℕ → ℕ → ℕ → ℕ → ℕ → ℕ → Bool → Measured
+measured p t w gs ss m g s seed n none =
+    let o = observed p t w gs m g in
+    let first = statistic (o .f) in
+    let second = statistic (o .«disp_f») in
+    let h = drawn t w (zOf p t w gs m) (o .total) gs ss m g s seed n (record { location = first; dispersion = second }) in
+    record {
+      f = o .f;
+      r2 = o .r2;
+      «disp_f» = o .«disp_f»;
+      negative = o .negative;
+      location = chance none first (h .location) n;
+      dispersion = chance none second (h .dispersion) n;
+    }

@@ -26,3 +26,14 @@ pub record Room (m g : ℕ) (lab next mem : List ℕ) (means : List Float) : Typ
   pub members : m ≤ length mem
   pub limited : length mem ≤ 256
   pub room : g ≤ length means
+
+-- pulls, terms, weights and groups of m samples in g groups
+pub record Weighed (m g : ℕ) (p t w : List Float) (gs : List ℕ) : Type 0 where
+  pub pulls : length p ≡ m * m
+  pub terms : length t ≡ m * m
+  pub weights : length w ≡ m
+  pub labels : length gs ≡ m
+  pub groups : Below g gs
+  pub some : 1 ≤ g
+  pub enough : g ≤ m
+  pub few : m ≤ 256

@@ -22,8 +22,9 @@ ghost use Rattle.location.specs.Squares.{weightAt, terms, pulls};
 ghost use Rattle.dispersion.specs.Dispersion.{zOf};
 ghost use Rattle.dispersion.specs.Anova.{meanZ};
 ghost use Rattle.permanova.specs.Parted.{shuffledBy};
-ghost use Rattle.permanova.specs.Measured.{located, spread};
-ghost use Rattle.permanova.specs.Room.{Sampling, Room};
+ghost use Rattle.permanova.specs.Measured.{located, spread, observed, drawn, measured};
+ghost use Rattle.permanova.specs.Sampled.{chance};
+ghost use Rattle.permanova.specs.Room.{Sampling, Room, Weighed};
 
 // A p, or none.
 pub enum Chance {
@@ -340,4 +341,247 @@ fn weigh(
     location::fill_weights(w, weighted, weights, ks);
     location::fill_terms(t, d, n, ks, w, m);
     location::fill_pulls(p, d, n, ks, w, m);
+}
+
+pub struct Observed {
+    pub total: f64,
+    pub f: f64,
+    pub r2: f64,
+    pub disp_f: f64,
+    pub negative: bool,
+}
+
+// Both statistics of the labels `gs`, each group's count and mean z, and z. The rest lends room.
+fn observe_with(
+    p: &[f64],
+    t: &[f64],
+    w: &[f64],
+    gs: &[u16],
+    m: usize,
+    g: usize,
+    z: &mut [f64],
+    counts: &mut [u16],
+    means: &mut [f64],
+    next: &mut [u16],
+    mem: &mut [u16],
+    gw: &mut [f64],
+    gi: &mut [f64],
+) -> Observed
+    requires { ⌜ Weighed m g (now p) (now t) (now w) (now gs) × (length (now z) ≡ m) × (g ≤ length (now counts)) × (g ≤ length (now means)) ⌝ }
+    requires { ⌜ (g < length (now next)) × (length (now mem) ≡ 256) × (g ≤ length (now gw)) × (g ≤ length (now gi)) ⌝ }
+    ensures { λ r. ⌜ (r ≡ observed (now (p .entry)) (now (t .entry)) (now (w .entry)) (now (gs .entry)) m g)
+        × (now (z .exit) ≡ zOf (now (p .entry)) (now (t .entry)) (now (w .entry)) (now (gs .entry)) m)
+        × (now (counts .exit) ≡ over (sizes (now (gs .entry)) m g) (now (counts .entry)))
+        × (now (means .exit) ≡ over (meanZ (zOf (now (p .entry)) (now (t .entry)) (now (w .entry)) (now (gs .entry)) m) (now (gs .entry)) m g) (now (means .entry))) ⌝ }
+{
+    members::group(gs, m, g, next, mem);
+    let l = locate(t, w, gs, m, g, next, mem);
+    let d = disperse(p, t, w, gs, m, g, next, mem, gw, gi, z);
+    list_groups(z, gs, m, g, next, mem, counts, means);
+    Observed {
+        total: l.total,
+        f: l.f,
+        r2: l.r2,
+        disp_f: d.f,
+        negative: d.negative,
+    }
+}
+
+// The same, with room of its own.
+fn observe(
+    p: &[f64],
+    t: &[f64],
+    w: &[f64],
+    gs: &[u16],
+    m: usize,
+    g: usize,
+    z: &mut [f64],
+    counts: &mut [u16],
+    means: &mut [f64],
+) -> Observed
+    requires { ⌜ Weighed m g (now p) (now t) (now w) (now gs) × (length (now z) ≡ m) × (g ≤ length (now counts)) × (g ≤ length (now means)) ⌝ }
+    ensures { λ r. ⌜ (r ≡ observed (now (p .entry)) (now (t .entry)) (now (w .entry)) (now (gs .entry)) m g)
+        × (now (z .exit) ≡ zOf (now (p .entry)) (now (t .entry)) (now (w .entry)) (now (gs .entry)) m)
+        × (now (counts .exit) ≡ over (sizes (now (gs .entry)) m g) (now (counts .entry)))
+        × (now (means .exit) ≡ over (meanZ (zOf (now (p .entry)) (now (t .entry)) (now (w .entry)) (now (gs .entry)) m) (now (gs .entry)) m g) (now (means .entry))) ⌝ }
+{
+    let mut next = [0u16; 257];
+    let mut mem = [0u16; 256];
+    let mut gw = [0.0f64; 256];
+    let mut gi = [0.0f64; 256];
+    observe_with(
+        p,
+        t,
+        w,
+        gs,
+        m,
+        g,
+        z,
+        counts,
+        means,
+        &mut next,
+        &mut mem,
+        &mut gw,
+        &mut gi,
+    )
+}
+
+// The hits of n shuffles within the s strata `ss`. The rest lends room.
+fn draw_with(
+    t: &[f64],
+    w: &[f64],
+    z: &[f64],
+    total: f64,
+    gs: &[u16],
+    ss: &[u16],
+    m: usize,
+    g: usize,
+    s: usize,
+    seed: u64,
+    n: u64,
+    seen: Seen,
+    sn: &mut [u16],
+    sm: &mut [u16],
+    lab: &mut [u16],
+    next: &mut [u16],
+    mem: &mut [u16],
+    means: &mut [f64],
+) -> Hits
+    requires { ⌜ (length (now t) ≡ m * m) × (length (now w) ≡ m) × (length (now z) ≡ m) × (length (now gs) ≡ m) × Below g (now gs) × (1 ≤ g) × (g ≤ m) × (m ≤ 256) × (length (now ss) ≡ m) × (s ≤ 256) × (n ≤ 999999) ⌝ }
+    requires { ⌜ (length (now sn) ≡ 257) × (length (now sm) ≡ 256) × (length (now lab) ≡ 256) × (length (now next) ≡ 257) × (length (now mem) ≡ 256) × (length (now means) ≡ 256) ⌝ }
+    ensures { λ r. ⌜ r ≡ drawn (now (t .entry)) (now (w .entry)) (now (z .entry)) total (now (gs .entry)) (now (ss .entry)) m g s seed n seen ⌝ }
+{
+    members::group(ss, m, s, sn, sm);
+    count_hits(
+        t,
+        w,
+        z,
+        total,
+        gs,
+        m,
+        g,
+        sn,
+        sm,
+        s,
+        seed,
+        n,
+        seen,
+        &mut lab[..m],
+        next,
+        mem,
+        means,
+    )
+}
+
+// The same, with room of its own.
+fn draw(
+    t: &[f64],
+    w: &[f64],
+    z: &[f64],
+    total: f64,
+    gs: &[u16],
+    ss: &[u16],
+    m: usize,
+    g: usize,
+    s: usize,
+    seed: u64,
+    n: u64,
+    seen: Seen,
+) -> Hits
+    requires { ⌜ (length (now t) ≡ m * m) × (length (now w) ≡ m) × (length (now z) ≡ m) × (length (now gs) ≡ m) × Below g (now gs) × (1 ≤ g) × (g ≤ m) × (m ≤ 256) × (length (now ss) ≡ m) × (s ≤ 256) × (n ≤ 999999) ⌝ }
+    ensures { λ r. ⌜ r ≡ drawn (now (t .entry)) (now (w .entry)) (now (z .entry)) total (now (gs .entry)) (now (ss .entry)) m g s seed n seen ⌝ }
+{
+    let mut sn = [0u16; 257];
+    let mut sm = [0u16; 256];
+    let mut lab = [0u16; 256];
+    let mut next = [0u16; 257];
+    let mut mem = [0u16; 256];
+    let mut means = [0.0f64; 256];
+    draw_with(
+        t,
+        w,
+        z,
+        total,
+        gs,
+        ss,
+        m,
+        g,
+        s,
+        seed,
+        n,
+        seen,
+        &mut sn,
+        &mut sm,
+        &mut lab,
+        &mut next,
+        &mut mem,
+        &mut means,
+    )
+}
+
+// ---- the test
+
+pub struct Measured {
+    pub f: f64,
+    pub r2: f64,
+    pub disp_f: f64,
+    pub negative: bool,
+    pub location: Chance,
+    pub dispersion: Chance,
+}
+
+// p = (1 + hits)/(1 + n). None where the strata tell nothing, or the observed statistic is unbounded.
+fn chance_of(none: bool, seen: Statistic, hits: usize, n: u64) -> Chance
+    requires { ⌜ (hits ≤ 999999) × (n ≤ 999999) ⌝ }
+    ensures { λ r. ⌜ r ≡ chance none seen hits n ⌝ }
+{
+    let Statistic::Finite(_f) = seen else {
+        return Chance::NoP;
+    };
+    if none {
+        return Chance::NoP;
+    }
+    Chance::P((1 + hits) as f64 / (1 + n) as f64)
+}
+
+// All that is measured of the groups `gs` within the s strata `ss`. `z` lends room.
+fn measure(
+    p: &[f64],
+    t: &[f64],
+    w: &[f64],
+    gs: &[u16],
+    ss: &[u16],
+    m: usize,
+    g: usize,
+    s: usize,
+    seed: u64,
+    n: u64,
+    none: bool,
+    z: &mut [f64],
+    counts: &mut [u16],
+    means: &mut [f64],
+) -> Measured
+    requires { ⌜ Weighed m g (now p) (now t) (now w) (now gs) × (length (now ss) ≡ m) × (s ≤ 256) × (n ≤ 999999) × (length (now z) ≡ m) × (g ≤ length (now counts)) × (g ≤ length (now means)) ⌝ }
+    ensures { λ r. ⌜ (r ≡ measured (now (p .entry)) (now (t .entry)) (now (w .entry)) (now (gs .entry)) (now (ss .entry)) m g s seed n none)
+        × (now (counts .exit) ≡ over (sizes (now (gs .entry)) m g) (now (counts .entry)))
+        × (now (means .exit) ≡ over (meanZ (zOf (now (p .entry)) (now (t .entry)) (now (w .entry)) (now (gs .entry)) m) (now (gs .entry)) m g) (now (means .entry))) ⌝ }
+{
+    let o = observe(p, t, w, gs, m, g, z, counts, means);
+    let first = statistics::statistic_of(o.f);
+    let second = statistics::statistic_of(o.disp_f);
+    let seen = Seen {
+        location: first,
+        dispersion: second,
+    };
+    let h = draw(t, w, z, o.total, gs, ss, m, g, s, seed, n, seen);
+    let location = chance_of(none, first, h.location, n);
+    let dispersion = chance_of(none, second, h.dispersion, n);
+    Measured {
+        f: o.f,
+        r2: o.r2,
+        disp_f: o.disp_f,
+        negative: o.negative,
+        location,
+        dispersion,
+    }
 }
