@@ -7,7 +7,17 @@ use Rattle.dispersion.specs.Dispersion.{zOf, someNegative}
 use Rattle.dispersion.specs.Anova.{anovaF}
 use Rattle.lists.specs.Ranges.{range}
 use Rattle.lists.specs.Filters.{countIf}
-use mathlib.Core.Bool.{Bool}
+use Prim.Native.Nat.{_+_}
+use mathlib.Core.Bool.{Bool, not, _&&_}
+use mathlib.Core.List.{[], _∷_}
+use lib.Dec.{eqb, ltb}
+use lib.Ieee.{lt}
+use Rattle.float.specs.Floats.{_⊘_, num, 0·5}
+use Rattle.lists.specs.Filters.{any}
+use Rattle.lists.specs.Numbers.{addUp}
+use Rattle.statistics.specs.Warnings.{bit, leftOut}
+use Rattle.permanova.specs.Together.{together}
+use Rattle.permanova.specs.declared.TestResult.{TestResult}
 use Rattle.statistics.specs.Hits.{statistic, shuffleHit}
 use Rattle.permanova.specs.declared.Seen.{Seen}
 use Rattle.permanova.specs.declared.Hits.{Hits}
@@ -59,4 +69,28 @@ measured p t w gs ss m g s seed n none =
       negative = o .negative;
       location = chance none first (h .location) n;
       dispersion = chance none second (h .dispersion) n;
+    }
+
+-- the answer, with its warnings
+unfoldable pub concluded : List ℕ → Bool → Bool → ℕ → ℕ → ℕ → List ℕ → Measured → TestResult
+concluded labels stratified weighted m g informing counts x =
+    let fraction = num informing ⊘ num m in
+    record {
+      n = m;
+      «n_groups» = g;
+      f = x .f;
+      r2 = x .r2;
+      p = x .location;
+      «disp_f» = x .«disp_f»;
+      «disp_p» = x .dispersion;
+      «informative_fraction» = fraction;
+      «strata_used» = stratified;
+      weighted = weighted;
+      warnings = addUp (
+          bit 1 (leftOut labels)
+          ∷ bit 2 (stratified && eqb informing 0)
+          ∷ bit 4 (lt fraction 0·5 && not (eqb informing 0))
+          ∷ bit 8 (any (λ c. ltb c 5) counts)
+          ∷ bit 16 (x .negative)
+          ∷ []) + together counts (x .location) (x .dispersion);
     }
