@@ -2,3 +2,4 @@
 pub mod Shuffles
 pub mod Chances
 pub mod Alarms
+pub mod Answers

@@ -5,3 +5,4 @@ pub mod Call
 pub mod Parted
 pub mod Room
 pub mod Measured
+pub mod Answered

@@ -33,7 +33,8 @@ ghost use Rattle.lot.specs.Lot.{none};
 ghost use Rattle.statistics.specs.Warnings.{leftOut};
 ghost use Rattle.permanova.specs.Sampled.{chance};
 ghost use Rattle.permanova.specs.Together.{largest, smallest, alarmed, together};
-ghost use Rattle.permanova.specs.Room.{Sampling, Room, Weighed};
+ghost use Rattle.permanova.specs.Room.{Sampling, Room, Weighed, Kept};
+ghost use Rattle.permanova.specs.Answered.{answerFor, meansFor};
 
 // A p, or none.
 pub enum Chance {
@@ -752,4 +753,117 @@ fn conclude(
         weighted,
         warnings: bits + more,
     }
+}
+
+// The answer for the kept samples `ks`, in the groups `gs` and the strata `ss`. `w`, `z`, `t` and `p` lend room.
+fn run_with(
+    d: &[f64],
+    n: usize,
+    labels: &[u16],
+    ks: &[u16],
+    gs: &[u16],
+    ss: &[u16],
+    stratified: bool,
+    weighted: bool,
+    weights: &[f64],
+    m: usize,
+    g: usize,
+    s: usize,
+    seed: u64,
+    n_perm: u64,
+    counts: &mut [u16],
+    means: &mut [f64],
+    t: &mut [f64],
+    p: &mut [f64],
+    w: &mut [f64],
+    z: &mut [f64],
+) -> TestResult
+    requires { ⌜ Kept n m g s (now d) (now labels) (now ks) (now gs) (now ss) weighted (now weights) × («n_perm» ≤ 999999) ⌝ }
+    requires { ⌜ (g ≤ length (now counts)) × (g ≤ length (now means)) × (length (now t) ≡ m * m) × (length (now p) ≡ m * m) × (length (now w) ≡ m) × (length (now z) ≡ m) ⌝ }
+    ensures { λ r. ⌜ (r ≡ answerFor (now (d .entry)) n (now (labels .entry)) (now (ks .entry)) (now (gs .entry)) (now (ss .entry)) stratified weighted (now (weights .entry)) m g s seed «n_perm»)
+        × (now (counts .exit) ≡ over (sizes (now (gs .entry)) m g) (now (counts .entry)))
+        × (now (means .exit) ≡ over (meansFor (now (d .entry)) n (now (ks .entry)) (now (gs .entry)) weighted (now (weights .entry)) m g) (now (means .entry))) ⌝ }
+{
+    weigh(d, n, ks, m, weighted, weights, w, t, p);
+    let informing = lot::strata::informative(ss, gs);
+    let none = uninformed(stratified, informing);
+    let x = measure(
+        p,
+        t,
+        w,
+        gs,
+        ss,
+        m,
+        g,
+        s,
+        seed,
+        n_perm,
+        none,
+        z,
+        counts,
+        means,
+    );
+    conclude(
+        labels,
+        stratified,
+        weighted,
+        m,
+        g,
+        informing,
+        &counts[..g],
+        x,
+    )
+}
+
+// The same, with room of its own for weights and z.
+fn run_kept(
+    d: &[f64],
+    n: usize,
+    labels: &[u16],
+    ks: &[u16],
+    gs: &[u16],
+    ss: &[u16],
+    stratified: bool,
+    weighted: bool,
+    weights: &[f64],
+    m: usize,
+    g: usize,
+    s: usize,
+    seed: u64,
+    n_perm: u64,
+    counts: &mut [u16],
+    means: &mut [f64],
+    t: &mut [f64],
+    p: &mut [f64],
+) -> TestResult
+    requires { ⌜ Kept n m g s (now d) (now labels) (now ks) (now gs) (now ss) weighted (now weights) × («n_perm» ≤ 999999) ⌝ }
+    requires { ⌜ (g ≤ length (now counts)) × (g ≤ length (now means)) × (length (now t) ≡ m * m) × (length (now p) ≡ m * m) ⌝ }
+    ensures { λ r. ⌜ (r ≡ answerFor (now (d .entry)) n (now (labels .entry)) (now (ks .entry)) (now (gs .entry)) (now (ss .entry)) stratified weighted (now (weights .entry)) m g s seed «n_perm»)
+        × (now (counts .exit) ≡ over (sizes (now (gs .entry)) m g) (now (counts .entry)))
+        × (now (means .exit) ≡ over (meansFor (now (d .entry)) n (now (ks .entry)) (now (gs .entry)) weighted (now (weights .entry)) m g) (now (means .entry))) ⌝ }
+{
+    let mut w = [0.0f64; 256];
+    let mut z = [0.0f64; 256];
+    run_with(
+        d,
+        n,
+        labels,
+        ks,
+        gs,
+        ss,
+        stratified,
+        weighted,
+        weights,
+        m,
+        g,
+        s,
+        seed,
+        n_perm,
+        counts,
+        means,
+        t,
+        p,
+        &mut w[..m],
+        &mut z[..m],
+    )
 }
