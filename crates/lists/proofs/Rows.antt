@@ -6,7 +6,7 @@ use Prim.Native.Nat.{ℕ, _+_, _-_, _*_, _<_, _≤_}
 use native.Mathlib.Nat.{add-sub-cancel-left, mul-le-mul-right, suc-mul}
 use native.Mathlib.Omega.{arith}
 use lib.ListN.{length, getD, take, drop, length-drop}
-use lib.Seq.{length-take-le, getD-take, getD-drop}
+use lib.Seq.{length-take-le, take-all, getD-take, getD-drop}
 use lib.Ieee.{nan, Float}
 use borrow.Rule.Slice.PartMut.{putMid, same-len-mid}
 use Rattle.lists.specs.Rows.{entry, row, putRow, onRow}
@@ -17,6 +17,10 @@ row-end w i n h = rw suc-mul at (mul-le-mul-right w h)
 
 pub cell-below : (w n i j : ℕ) → i < n → j < w → i * w + j < n * w
 cell-below w n i j h g = let e = row-end w i n h in omega arith
+
+-- the part `&l[k..]`, as the check has it
+pub part-rest : {A : Type 0} (l : List A) (k : ℕ) → take (length l - k) (drop k l) ≡ drop k l
+part-rest l k = take-all (length l - k) (drop k l) (rw length-drop (omega arith))
 
 module _ {A : Type 0} (w i : ℕ) where
   pub part-row : (l : List A) → take (i * w + w - i * w) (drop (i * w) l) ≡ row w i l

@@ -3,7 +3,7 @@
 use mathlib.Core.Path.{_≡_, refl, sym, ap, ap₂, _∙_, subst}
 use mathlib.Core.List.{List, [], _∷_, _++_, append-assoc, append-nil}
 use Prim.Native.Nat.{ℕ, zero, suc, _+_, _-_, _*_, _<_, _≤_}
-use native.Mathlib.Nat.{add-sub-cancel-left}
+use native.Mathlib.Nat.{add-sub-cancel-left, mul-le-mul-right, suc-mul}
 use native.Mathlib.Numerals.{add-one}
 use native.Mathlib.Omega.{arith}
 use lib.ListN.{length, getD, take, drop, set, replicate, length-append, length-drop, length-replicate, getD-replicate, length-set, drop-of-length-le, List·getD-append}
@@ -136,6 +136,16 @@ module _ {A : Type 0} (f : ℕ → A) (old : List A) where
       let done : i ≡ length old = omega (arith, w .most) in
       table-all f old (length old) (w .held ∙ ap (λ (k : ℕ). over (table k f) old) done) (omega arith)
 
+  -- the entry that is written next is still the old one
+  pub writing-here : {l : List A} {i : ℕ} (d : A) → Writing f old l i → getD l i d ≡ getD old i d
+  writing-here {l} {i} d w =
+      let len = length-table f i in
+      ap (λ (t : List A). getD t i d) (w .held) ∙ getD-behind (table i f) old i d (omega arith)
+
+  -- with the length by another name
+  pub writing-table : {l : List A} {i n : ℕ} → Writing f old l i → length old ≡ n → n ≤ i → l ≡ table n f
+  writing-table w e h = writing-all w (omega arith) ∙ ap (λ (k : ℕ). table k f) e
+
 -- the same value, and the entries of a list of the same length
 pub cleared-all : {A : Type 0} (x : A) (old : List A) {l : List A} {i : ℕ} → Writing (λ i. x) old l i → length old ≤ i → l ≡ cleared x old
 unfolding cleared
@@ -143,3 +153,27 @@ cleared-all x old w h = writing-all (λ i. x) old w h ∙ replicate-table (lengt
 
 pub copied-all : {A : Type 0} (new old : List A) (d : A) {l : List A} {i : ℕ} → length old ≡ length new → Writing (λ i. getD new i d) old l i → length old ≤ i → l ≡ new
 copied-all new old d e w h = writing-all (λ i. getD new i d) old w h ∙ ap (λ (k : ℕ). table k (λ i. getD new i d)) e ∙ table-of new d
+
+-- ---- a loop that fills row after row of all of `old`, n rows of w entries, by a rule: k are filled
+
+pub record Filling {A : Type 0} (n w : ℕ) (f : ℕ → List A) (old l : List A) (k : ℕ) : Type 0 where
+  pub most : k ≤ n
+  pub long : length l ≡ length old
+  pub held : l ≡ over (rows k f) old
+
+module _ {A : Type 0} (n w : ℕ) (f : ℕ → List A) (each : (i : ℕ) → length (f i) ≡ w) (old : List A) (size : length old ≡ n * w) where
+  pub filling-none : Filling n w f old old 0
+  filling-none = record { most = omega arith; long = refl; held = rows-none w f each old }
+
+  pub filling-next : {l r : List A} {k : ℕ} → Filling n w f old l k → k < n → r ≡ f k → Filling n w f old (putMid (k * w) (k * w + w - k * w) l r) (k + 1)
+  filling-next {l} {r} {k} s h e =
+      let fits : k * w + w ≤ n * w = rw suc-mul at (mul-le-mul-right w h) in
+      let next : putMid (k * w) (k * w + w - k * w) l r ≡ over (rows (k + 1) f) old = rows-next w f each old k (s .held) e (omega arith) in
+      let len : length (rows (k + 1) f) ≡ (k + 1) * w = length-rows w f (k + 1) (λ i _. each i) in
+      let room : (k + 1) * w ≤ n * w = mul-le-mul-right w (omega arith) in
+      record { most = omega arith; long = ap length next ∙ length-over (rows (k + 1) f) old (omega arith); held = next }
+
+  pub filling-all : {l : List A} {k : ℕ} → Filling n w f old l k → n ≤ k → l ≡ rows n f
+  filling-all {l} {k} s h =
+      let done : k ≡ n = omega (arith, s .most) in
+      rows-all w f each old n (s .held ∙ ap (λ (j : ℕ). over (rows j f) old) done) (omega arith)

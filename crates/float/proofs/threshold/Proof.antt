@@ -1,0 +1,18 @@
+-- `float::threshold` meets its contract: it has the definition's operations. Assumes nothing.
+use mathlib.Core.Path.{ap}
+use borrow.Author.Needs.{needs}
+use lib.Ieee.{Float}
+use Rattle.float.specs.Floats.{_⊖_, _⊗_, 1e-12}
+use Rattle.float.specs.Tolerance.{threshold}
+use Rattle.float.proofs.threshold.Statement.{statement}
+use Rattle.float.proofs.threshold.Tie as tie
+
+abs-requires : tie.Need-abs-requires
+abs-requires c κs = search needs
+
+returns : tie.Need-returns
+unfolding threshold
+returns c = ap (λ (z : Float). c .before .args .f ⊖ 1e-12 ⊗ z) (c .abs .ensures)
+
+pub threshold-spec : {M : Type 1} → statement M
+threshold-spec = tie.close (tie.spec abs-requires returns)

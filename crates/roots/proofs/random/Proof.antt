@@ -1,0 +1,34 @@
+-- `roots::random` meets its contract: the loop counts up to a bound. Assumes nothing.
+use Prim.Native.Nat.{_≤_, _<_, _-_}
+use borrow.Author.Needs.{needs}
+use Rattle.roots.proofs.random.Statement.{statement}
+use Rattle.roots.proofs.random.Tie as tie
+
+abbrev Inv-loop : tie.InvT-loop
+Inv-loop b₀ n₀ b n = n ≤ 500
+
+abbrev μ-loop : tie.MeasureT-loop
+μ-loop b₀ n₀ b n = 500 - n
+
+loop-holds : tie.Need-loop-holds Inv-loop μ-loop
+loop-holds c = search needs
+
+line-requires : tie.Need-line-requires Inv-loop μ-loop
+line-requires c κs = search needs
+
+add-n : tie.Need-add-n Inv-loop μ-loop
+add-n c = search needs
+
+loop-less : tie.Need-loop-less Inv-loop μ-loop
+loop-less c = search needs
+
+loop-again : tie.Need-loop-again Inv-loop μ-loop
+loop-again c = search needs
+
+returns : tie.Need-returns Inv-loop μ-loop
+returns c = search needs
+
+pub random-spec : {M : Type 1} → statement M
+random-spec =
+    tie.close
+    (tie.spec Inv-loop μ-loop loop-holds line-requires add-n loop-less loop-again returns)

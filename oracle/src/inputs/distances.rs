@@ -1,0 +1,109 @@
+//! Distance matrices, all within what document 01 accepts: no NaN, from 0 (or -0.0) to 2^20.
+
+use crate::splitmix::{two_to, SplitMix};
+
+pub const KINDS: usize = 14;
+
+/// A matrix of the kind, n by n, row by row; `clusters` has a number for each sample.
+pub fn distances(kind: usize, clusters: &[usize], draw: &mut SplitMix) -> Vec<f64> {
+    let n = clusters.len();
+    match kind {
+        // Euclidean, the clusters apart
+        0 => {
+            let apart = draw.pick(&[0.0, 0.5, 1.0, 3.0]);
+            let dims = draw.within(2, 6);
+            between(&points(clusters, dims, apart, 0.0, draw), scale(draw))
+        }
+        // Euclidean, the clusters of unequal spread
+        1 => {
+            let dims = draw.within(2, 4);
+            let apart = draw.pick(&[0.0, 1.0]);
+            between(&points(clusters, dims, apart, 1.5, draw), 1.0)
+        }
+        // on a line: rank one
+        2 => between(&points(clusters, 1, 0.5, 0.0, draw), scale(draw)),
+        // ties
+        3 => symmetric(n, |_, _| draw.below(4) as f64),
+        4 => symmetric(n, |_, _| draw.below(1001) as f64),
+        // mostly zero
+        5 => symmetric(n, |_, _| if draw.chance(75) { 0.0 } else { draw.unit() }),
+        // all zero, some of them -0.0
+        6 => {
+            let minus = draw.pick(&[0, 50]);
+            symmetric(n, |_, _| if draw.chance(minus) { -0.0 } else { 0.0 })
+        }
+        // not Euclidean
+        7 => symmetric(n, |_, _| draw.unit()),
+        // neither symmetric nor zero on the diagonal
+        8 => (0..n * n).map(|_| draw.unit() * 4.0).collect(),
+        // subnormal, or with a square that is subnormal or zero
+        9 => symmetric(n, |_, _| match draw.below(4) {
+            0 => f64::from_bits(draw.word() >> 12),
+            1 => f64::from_bits(draw.word() % 8),
+            2 => (1.0 + draw.unit()) * two_to(draw.exponent(-545, -505)),
+            _ => (1.0 + draw.unit()) * two_to(draw.exponent(-1000, -490)),
+        }),
+        // of any size up to 2^20
+        10 => symmetric(n, |_, _| match draw.below(8) {
+            0 => two_to(20),
+            _ => (1.0 + draw.unit()) * two_to(draw.exponent(-30, 19)),
+        }),
+        // nothing, or next to nothing, within a part, which may be the cluster
+        11 => {
+            let close = draw.pick(&[0.0, 0.0, two_to(-12)]);
+            let mut parts = clusters.to_vec();
+            if draw.chance(40) {
+                draw.shuffle(&mut parts);
+            }
+            symmetric(n, |i, j| if parts[i] == parts[j] { close } else { 1.0 })
+        }
+        // Euclidean, the clusters far apart and of somewhat unequal spread
+        12 => {
+            let widens = draw.pick(&[0.35, 0.35, 1.0]);
+            between(&points(clusters, 3, 2.5, widens, draw), 1.0)
+        }
+        // samples that stand several times
+        _ => {
+            let found = points(clusters, 3, 1.0, 0.0, draw);
+            let stand = (n / 3).max(1);
+            let again: Vec<Vec<f64>> = (0..n).map(|_| found[draw.below(stand)].clone()).collect();
+            between(&again, scale(draw))
+        }
+    }
+}
+
+/// A factor for Euclidean distances; the largest of them stay below 2^20.
+fn scale(draw: &mut SplitMix) -> f64 {
+    draw.pick(&[1.0, 1.0, 1.0, two_to(-30), two_to(-300), two_to(14)])
+}
+
+/// Points about centres that lie `apart`, each cluster's spread larger than the one before by the factor 1 + widens.
+fn points(clusters: &[usize], dims: usize, apart: f64, widens: f64, draw: &mut SplitMix) -> Vec<Vec<f64>> {
+    clusters
+        .iter()
+        .map(|&c| {
+            let spread = 1.0 + widens * (c % 4) as f64;
+            (0..dims).map(|d| spread * draw.bell() + apart * ((c + d) % 3) as f64).collect()
+        })
+        .collect()
+}
+
+fn between(points: &[Vec<f64>], scale: f64) -> Vec<f64> {
+    symmetric(points.len(), |i, j| {
+        let squares: f64 = points[i].iter().zip(&points[j]).map(|(x, y)| (x - y) * (x - y)).sum();
+        squares.sqrt() * scale
+    })
+}
+
+/// The entries i < j by `entry`, mirrored; the diagonal 0.
+fn symmetric(n: usize, mut entry: impl FnMut(usize, usize) -> f64) -> Vec<f64> {
+    let mut all = vec![0.0; n * n];
+    for i in 0..n {
+        for j in i + 1..n {
+            let x = entry(i, j);
+            all[i * n + j] = x;
+            all[j * n + i] = x;
+        }
+    }
+    all
+}

@@ -1,0 +1,104 @@
+//! The oracle: the Rust's answers on drawn inputs, as replay files, and its times. README.md says how to use it.
+
+mod implementation;
+mod inputs;
+mod matrix;
+mod ops;
+mod replay;
+mod splitmix;
+mod times;
+mod words;
+
+use ops::Operation;
+use std::io::{Read, Write};
+use std::process::ExitCode;
+
+const USAGE: &str = "usage:
+  oracle answers OP SEED COUNT   write a replay file to standard output
+  oracle check OP                read a replay file from standard input, ask the Rust again, compare
+  oracle twice OP SEED COUNT     make a replay file twice and compare
+  oracle time                    time the calls
+OP: test, pcoa, hash_pca, dapc, jacobi_eigen, top_eigs or gram_matrix";
+
+fn main() -> ExitCode {
+    let words: Vec<String> = std::env::args().skip(1).collect();
+    let words: Vec<&str> = words.iter().map(String::as_str).collect();
+    let done = match words[..] {
+        // unoptimised, (-0.0).max(0.0) is -0.0
+        _ if cfg!(debug_assertions) => Err("the answers are those of a release build".to_string()),
+        ["time"] => {
+            times::print();
+            Ok(())
+        }
+        [command, op, ref rest @ ..] => match op {
+            "test" => run::<ops::test::Test>(command, rest),
+            "pcoa" => run::<ops::pcoa::Pcoa>(command, rest),
+            "hash_pca" => run::<ops::hash_pca::HashPca>(command, rest),
+            "dapc" => run::<ops::dapc::Dapc>(command, rest),
+            "jacobi_eigen" => run::<ops::jacobi_eigen::JacobiEigen>(command, rest),
+            "top_eigs" => run::<ops::top_eigs::TopEigs>(command, rest),
+            "gram_matrix" => run::<ops::gram_matrix::GramMatrix>(command, rest),
+            _ => Err(USAGE.to_string()),
+        },
+        _ => Err(USAGE.to_string()),
+    };
+    match done {
+        Ok(()) => ExitCode::SUCCESS,
+        Err(why) => {
+            eprintln!("{why}");
+            ExitCode::FAILURE
+        }
+    }
+}
+
+fn run<O: Operation>(command: &str, rest: &[&str]) -> Result<(), String> {
+    ops::expect_panics();
+    match (command, rest) {
+        ("answers", [seed, count]) => put(&replay::words::<O>(number(seed)?, number(count)? as usize)),
+        ("check", []) => check::<O>(&get()?),
+        ("twice", [seed, count]) => {
+            let (seed, count) = (number(seed)?, number(count)? as usize);
+            let once = replay::words::<O>(seed, count);
+            if once != replay::words::<O>(seed, count) {
+                return Err(format!("{}: two runs differ", O::NAME));
+            }
+            check::<O>(&once)
+        }
+        _ => Err(USAGE.to_string()),
+    }
+}
+
+fn check<O: Operation>(file: &[u64]) -> Result<(), String> {
+    let sum = replay::reread::<O>(file)?;
+    println!(
+        "{}: {} records ({} answered, {} None, {} panics; n above 64: {}), {} bytes; among the answers {} NaN, {} -0.0",
+        O::NAME,
+        sum.records,
+        sum.answered,
+        sum.none,
+        sum.panics,
+        sum.above_64,
+        8 * file.len(),
+        sum.nans,
+        sum.minus_zeros
+    );
+    Ok(())
+}
+
+fn number(text: &str) -> Result<u64, String> {
+    text.parse().map_err(|_| format!("no number: {text}\n{USAGE}"))
+}
+
+fn put(file: &[u64]) -> Result<(), String> {
+    let bytes: Vec<u8> = file.iter().flat_map(|w| w.to_le_bytes()).collect();
+    std::io::stdout().write_all(&bytes).map_err(|e| e.to_string())
+}
+
+fn get() -> Result<Vec<u64>, String> {
+    let mut bytes = Vec::new();
+    std::io::stdin().read_to_end(&mut bytes).map_err(|e| e.to_string())?;
+    if bytes.len() % 8 != 0 {
+        return Err("not a whole number of words".to_string());
+    }
+    Ok(bytes.chunks(8).map(|b| u64::from_le_bytes(b.try_into().unwrap())).collect())
+}

@@ -1,0 +1,108 @@
+//! Times of one call, for every implementation on the same inputs.
+
+use crate::implementation::{all, Call, Implementation};
+use crate::inputs::{coordinates, distances, matrices, sets};
+use crate::matrix::Matrix;
+use crate::ops::{dapc, gram_matrix, hash_pca, jacobi_eigen, pcoa, test, top_eigs};
+use crate::splitmix::SplitMix;
+use std::hint::black_box;
+use std::time::{Duration, Instant};
+
+const SEED: u64 = 2006;
+
+/// Measuring of one line ends after this long, but not before FEWEST samples.
+const LONG: Duration = Duration::from_secs(2);
+const FEWEST: usize = 5;
+
+/// A sample is a run of calls of about this long.
+const SAMPLE: Duration = Duration::from_millis(10);
+
+pub fn print() {
+    println!("{:<44} {:>14} {:>14} {:>8}  result", "call", "median ns", "least ns", "samples");
+    let lines = lines();
+    for made in all() {
+        for (name, line) in &lines {
+            let mut call = line(&made);
+            let result = call();
+            let (median, least, samples) = measure(call);
+            println!("{:<44} {median:>14} {least:>14} {samples:>8}  {result:016x}", format!("{} {name}", made.name));
+        }
+    }
+}
+
+type Line = (&'static str, Box<dyn Fn(&Implementation) -> Call>);
+
+fn lines() -> Vec<Line> {
+    vec![
+        ("test n=256 groups=4 shuffles=999", Box::new(|i| (i.test)(&lot(256)))),
+        ("test n=64 groups=4 shuffles=999", Box::new(|i| (i.test)(&lot(64)))),
+        ("test n=16 groups=4 shuffles=999", Box::new(|i| (i.test)(&lot(16)))),
+        ("pcoa n=64 components=8", Box::new(|i| (i.pcoa)(&spread(64)))),
+        ("pcoa n=256 components=8", Box::new(|i| (i.pcoa)(&spread(256)))),
+        ("hash_pca n=64 hashes=900 components=8", Box::new(|i| (i.hash_pca)(&hashed(64, 900)))),
+        ("dapc n=256 columns=8 groups=4", Box::new(|i| (i.dapc)(&scored(256, 8)))),
+        ("jacobi_eigen n=64", Box::new(|i| (i.jacobi_eigen)(&square(64)))),
+        ("top_eigs n=256 components=8", Box::new(|i| (i.top_eigs)(&leading(256)))),
+        ("gram_matrix n=64 hashes=900", Box::new(|i| (i.gram_matrix)(&caught(64, 900)))),
+    ]
+}
+
+/// Samples in turn in four groups.
+fn clusters(n: usize) -> Vec<usize> {
+    (0..n).map(|i| i % 4).collect()
+}
+
+fn euclidean(n: usize) -> Matrix {
+    Matrix::full(n, &distances::distances(1, &clusters(n), &mut SplitMix::new(SEED)))
+}
+
+fn lot(n: usize) -> test::Input {
+    let labels = clusters(n).iter().map(|&c| c as u16).collect();
+    test::Input { distances: euclidean(n), labels, strata: None, weights: None, n_perm: 999, seed: SEED }
+}
+
+/// Distances that are not Euclidean, as those of sketches are not: all values differ from zero.
+fn spread(n: usize) -> pcoa::Input {
+    let entries = distances::distances(7, &clusters(n), &mut SplitMix::new(SEED));
+    pcoa::Input { distances: Matrix::full(n, &entries), components: 8 }
+}
+
+fn hashed(n: usize, width: usize) -> hash_pca::Input {
+    hash_pca::Input { sets: caught(n, width).sets, components: 8 }
+}
+
+fn caught(n: usize, width: usize) -> gram_matrix::Input {
+    gram_matrix::Input { sets: sets::sets(2, n, width, &mut SplitMix::new(SEED)) }
+}
+
+fn scored(n: usize, columns: usize) -> dapc::Input {
+    let labels = clusters(n).iter().map(|&c| c as u16).collect();
+    let coordinates = coordinates::coordinates(0, &clusters(n), columns, &mut SplitMix::new(SEED));
+    dapc::Input { coordinates, columns, labels }
+}
+
+fn square(n: usize) -> jacobi_eigen::Input {
+    jacobi_eigen::Input { matrix: Matrix::full(n, &matrices::matrix(0, n, &mut SplitMix::new(SEED))) }
+}
+
+fn leading(n: usize) -> top_eigs::Input {
+    top_eigs::Input { matrix: square(n).matrix, components: 8 }
+}
+
+/// Median and least nanoseconds of a call, and the samples they come from.
+fn measure(mut call: Call) -> (u128, u128, usize) {
+    let start = Instant::now();
+    black_box(call());
+    let once = start.elapsed().as_nanos().max(1);
+    let calls = (SAMPLE.as_nanos() / once).max(1) as u32;
+    let mut samples = Vec::new();
+    while samples.len() < FEWEST || start.elapsed() < LONG {
+        let from = Instant::now();
+        for _ in 0..calls {
+            black_box(call());
+        }
+        samples.push(from.elapsed().as_nanos() / calls as u128);
+    }
+    samples.sort_unstable();
+    (samples[samples.len() / 2], samples[0], samples.len())
+}
