@@ -51,19 +51,34 @@ module _ (groups : List ℕ) (g : ℕ) where
         long = length-set counts j more ∙ a .long;
         left = λ k z. elim (ℕ-discrete k j) [
           | yes s ↦
-              omega (arith, ap (λ (t : ℕ). getD (set counts j more) t 0) s, getD-set-same counts j more 0 (omega (arith, a .long)), a .left k z,
-              ap (λ (t : ℕ). getD counts t 0) s, range-count-yes (inGroup groups k) i (length groups) h (eq-eqb (getD groups i 0) k (e ∙ sym s)))
+              omega (
+                arith,
+                ap (λ (t : ℕ). getD (set counts j more) t 0) s,
+                getD-set-same counts j more 0 (omega (arith, a .long)),
+                a .left k z,
+                ap (λ (t : ℕ). getD counts t 0) s,
+                range-count-yes (inGroup groups k) i (length groups) h (eq-eqb (getD groups i 0) k (e ∙ sym s)),
+              )
           | no ne ↦
-              omega (arith, getD-set-other counts j k more 0 ne, a .left k z,
-              range-count-no (inGroup groups k) i (length groups) h (ne-eqb (getD groups i 0) k (λ q. ne (sym q ∙ e))))
+              omega (
+                arith,
+                getD-set-other counts j k more 0 ne,
+                a .left k z,
+                range-count-no (inGroup groups k) i (length groups) h (ne-eqb (getD groups i 0) k (λ q. ne (sym q ∙ e))),
+              )
         ];
       }
 
   -- the count can grow
   pub counting-room : {counts : List ℕ} {i j : ℕ} → Counting groups g counts i → i < length groups → j < g → getD groups i 0 ≡ j → getD counts j 0 + 1 ≤ length groups
   counting-room {counts} {i} {j} a h below e =
-      omega (arith, a .left j below, range-count-yes (inGroup groups j) i (length groups) h (eq-eqb (getD groups i 0) j e),
-      countIf-below (inGroup groups j) (range 0 (length groups)), length-range 0 (length groups))
+      omega (
+        arith,
+        a .left j below,
+        range-count-yes (inGroup groups j) i (length groups) h (eq-eqb (getD groups i 0) j e),
+        countIf-below (inGroup groups j) (range 0 (length groups)),
+        length-range 0 (length groups),
+      )
 
   pub counting-all : {counts : List ℕ} {i : ℕ} → Counting groups g counts i → length groups ≤ i → counts ≡ sizes groups (length groups) g
   unfolding sizes members
@@ -75,3 +90,12 @@ module _ (groups : List ℕ) (g : ℕ) where
       each j k =
           let t = getD-table (λ j. length (members groups (length groups) j)) g j 0 k in
           omega (arith, a .left j k, range-count-none (inGroup groups j) i (length groups) h, length-keep (inGroup groups j) (range 0 (length groups)), t)
+
+-- the counts as a list
+pub length-sizes : (groups : List ℕ) (m g : ℕ) → length (sizes groups m g) ≡ g
+unfolding sizes
+length-sizes groups m g = length-table (λ j. length (members groups m j)) g
+
+pub getD-sizes : (groups : List ℕ) (m g j : ℕ) → j < g → getD (sizes groups m g) j 0 ≡ length (members groups m j)
+unfolding sizes
+getD-sizes groups m g j h = getD-table (λ j. length (members groups m j)) g j 0 h

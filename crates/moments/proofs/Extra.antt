@@ -5,8 +5,8 @@ use Prim.Native.Nat.{ℕ, zero, suc, _+_, _-_, _*_, _/_, _%_, _<_, _≤_}
 use native.Mathlib.Nat.{add-sub-cancel-left, not-suc-le-zero, zero-mul, zero-add, mul-zero, div-add-mod', mod-lt, div-lt-iff-lt-mul}
 use native.Mathlib.Decide.{ℕ-discrete, decLt}
 use native.Mathlib.Omega.{arith}
-use lib.ListN.{length, getD, take, drop, length-drop, List·getD-append}
-use lib.Seq.{length-take-le, getD-take, getD-drop, getD-append-add, ext-getD}
+use lib.ListN.{length, getD, take, drop, set, replicate, length-drop, length-replicate, getD-replicate, replicate-append-replicate, List·getD-append}
+use lib.Seq.{length-take-le, getD-take, getD-drop, getD-append-add, getD-set-same, getD-set-other, take-at, ext-getD}
 use lib.Ieee.{Float, nan}
 use borrow.Rule.Slice.PartMut.{putMid}
 use Rattle.lists.specs.Ranges.{table, rows, grid}
@@ -117,3 +117,28 @@ module _ (w j : ℕ) (l r : List Float) (fits : j * w + w ≤ length l) (len : l
         let at : j * w + (w + (i * w + c - (j * w + w))) ≡ i * w + c = omega (arith, row-end w j i past) in
         subst (λ (t : ℕ). getD (putMid (j * w) w l r) t nan ≡ getD l t nan) at (getD-after (j * w) w l r fits len nan (i * w + c - (j * w + w)))
   ])
+
+-- entry j, c written: that entry, and any other
+module _ (w j c : ℕ) (l : List Float) (v : Float) where
+  pub entry-set : j * w + c < length l → entry w (set l (j * w + c) v) j c ≡ v
+  unfolding entry
+  entry-set h = getD-set-same l (j * w + c) v nan h
+
+  pub entry-set-other : c < w → (i k : ℕ) → k < w → (i ≡ j → k ≡ c → ⊥) → entry w (set l (j * w + c) v) i k ≡ entry w l i k
+  unfolding entry
+  entry-set-other wide i k h ne = getD-set-other l (j * w + c) (i * w + k) v nan (λ e. elim (ℕ-discrete i j) [
+    | yes s ↦ ne s (omega (arith, ap (λ (t : ℕ). t * w) s))
+    | no apart ↦ elim (decLt i j) [ yes below ↦ omega (arith, row-end w i j below) | no over ↦ (let past : j < i = omega arith in omega (arith, row-end w j i past)) ]
+  ])
+
+-- the same value everywhere
+pub entry-replicate : (n w : ℕ) (v : Float) (i j : ℕ) → i < n → j < w → entry w (replicate (n * w) v) i j ≡ v
+unfolding entry
+entry-replicate n w v i j h g = getD-replicate (n * w) (i * w + j) v nan (cell-below w n i j h g)
+
+pub take-replicate : {A : Type 0} (k n : ℕ) (v : A) → k ≤ n → take k (replicate n v) ≡ replicate k v
+take-replicate {A} k n v h =
+    let split : k + (n - k) ≡ n = omega arith in
+    ap (λ (t : ℕ). take k (replicate t v)) (sym split)
+    ∙ ap (take k) (sym (replicate-append-replicate k (n - k) v))
+    ∙ take-at (replicate k v) (replicate (n - k) v) k (length-replicate k v)

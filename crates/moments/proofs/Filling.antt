@@ -6,14 +6,14 @@ use Prim.Native.Nat.{ℕ, _+_, _-_, _*_, _<_, _≤_}
 use native.Mathlib.Nat.{not-suc-le-zero}
 use native.Mathlib.Decide.{ℕ-discrete}
 use native.Mathlib.Omega.{arith}
-use lib.ListN.{length, getD, take, drop}
+use lib.ListN.{length, getD, take, drop, set, length-set}
 use lib.Ieee.{Float, nan}
 use borrow.Rule.Slice.PartMut.{putMid}
 use Rattle.lists.specs.Ranges.{table, grid}
 use Rattle.lists.specs.Rows.{entry}
 use Rattle.lists.proofs.Ranges.{length-table, getD-table}
-use Rattle.lists.proofs.Rows.{row-end, length-on-row, length-part}
-use Rattle.moments.proofs.Extra.{grid-of, part-entry, entry-put, entry-put-other}
+use Rattle.lists.proofs.Rows.{row-end, cell-below, length-on-row, length-part}
+use Rattle.moments.proofs.Extra.{grid-of, part-entry, entry-put, entry-put-other, entry-set, entry-set-other}
 
 pub record Filling (n w : ℕ) (f : ℕ → ℕ → Float) (old m : List Float) (k : ℕ) : Type 0 where
   pub most : k ≤ n
@@ -60,3 +60,21 @@ module _ (n w : ℕ) (f : ℕ → ℕ → Float) (old : List Float) where
       ∙ getD-table t w c nan z
       ∙ ap (h c) (part-entry w k w m c z ∙ a .rest k c (omega arith) below z)
       ∙ terms c z)
+
+  -- one entry of row k is written, on the diagonal
+  pub filling-diagonal : (m : List Float) (v : Float) {k : ℕ} → Filling n w f old m k → k < n → k < w → v ≡ f k k
+      → ((c : ℕ) → (c ≡ k → ⊥) → c < w → entry w old k c ≡ f k c) → Filling n w f old (set m (k * w + k) v) (k + 1)
+  filling-diagonal m v {k} a h wide is others =
+      let at : k * w + k < length m = omega (arith, cell-below w n k k h wide, a .long) in
+      record {
+        most = omega arith;
+        long = length-set m (k * w + k) v ∙ a .long;
+        done = λ i c g z. elim (ℕ-discrete i k) [
+          | yes e ↦ subst (λ (t : ℕ). entry w (set m (k * w + k) v) t c ≡ f t c) (sym e) (elim (ℕ-discrete c k) [
+            | yes s ↦ subst (λ (t : ℕ). entry w (set m (k * w + k) v) k t ≡ f k t) (sym s) (entry-set w k k m v at ∙ is)
+            | no ne ↦ entry-set-other w k k m v wide k c z (λ _ s. ne s) ∙ a .rest k c (omega arith) h z ∙ others c ne z
+          ])
+          | no ne ↦ entry-set-other w k k m v wide i c z (λ e _. ne e) ∙ a .done i c (omega arith) z
+        ];
+        rest = λ i c g z y. entry-set-other w k k m v wide i c y (λ e _. omega arith) ∙ a .rest i c (omega arith) z y;
+      }

@@ -5,10 +5,10 @@ use mathlib.Core.Bool.{Bool, true, not}
 use mathlib.Core.List.{List, map}
 use Prim.Native.Nat.{ℕ, _+_, _-_, _*_, _<_, _≤_}
 use native.Mathlib.Omega.{arith}
-use lib.ListN.{length, getD, take, drop}
+use lib.ListN.{length, getD, take, drop, replicate, getD-replicate}
 use lib.Ieee.{Float, nan}
 use borrow.Rule.Slice.PartMut.{putMid}
-use Rattle.float.specs.Floats.{_⊕_}
+use Rattle.float.specs.Floats.{_⊕_, _⊘_, num, zero⁺, zero⁻}
 use Rattle.lists.specs.Ranges.{table, grid}
 use Rattle.lists.specs.Numbers.{inGroup, members}
 use Rattle.lists.specs.Sums.{sumFrom}
@@ -16,9 +16,11 @@ use Rattle.lists.specs.Rows.{entry}
 use Rattle.lists.proofs.Ranges.{length-table, getD-table, table-ext}
 use Rattle.lists.proofs.Rows.{row-end, length-part}
 use Rattle.lot.specs.Lot.{none}
-use Rattle.moments.specs.Moments.{Numbered, grouped}
-use Rattle.moments.proofs.Extra.{part-entry, first-row, grid-one}
+use Rattle.lot.specs.Kept.{sizes}
+use Rattle.moments.specs.Moments.{Numbered, grouped, overallMean, columnMean, meanOf, groupMeans}
+use Rattle.moments.proofs.Extra.{part-entry, first-row, grid-one, grid-ext, entry-grid, entry-replicate}
 use Rattle.moments.proofs.Adding.{Adding, adding-grid, adding-pass, adding-row, adding-all, cellSum}
+use Rattle.moments.proofs.Counting.{length-sizes, getD-sizes}
 use Rattle.moments.proofs.Groups.{has-group, has-none, is-numbered, in-own, in-one, in-none}
 
 abbrev pub hasGroup : List ℕ → ℕ → Bool
@@ -92,3 +94,40 @@ module _ (p columns : ℕ) (x : List Float) (groups : List ℕ) (m₀ : List Flo
         → m ≡ grid g p (λ j c. sumFrom (entry p m₀ j c) (map (λ i. entry columns x i c) (members groups (length groups) j)))
     unfolding members
     group-end a h = adding-all g p (inGroup groups) (λ _ c i. entry columns x i c) (length groups) m₀ a h
+
+-- ---- sums divided are means
+
+module _ (p columns : ℕ) (x : List Float) (groups : List ℕ) where
+  abbrev pub columnSum : ℕ → Float → List ℕ → Float
+  columnSum c s mem = sumFrom s (map (λ i. entry columns x i c) mem)
+
+  pub mean-is : {m₀ m₁ m₂ : List Float} {m : ℕ} → m₀ ≡ replicate p zero⁻ → m₁ ≡ table p (λ c. columnSum c (getD m₀ c nan) (grouped groups))
+      → m ≡ length (grouped groups) → m₂ ≡ table (length m₁) (λ c. getD m₁ c nan ⊘ num m) → m₂ ≡ meanOf columns p x groups
+  unfolding meanOf overallMean
+  mean-is {m₀} {m₁} {m₂} {m} blank sums e is =
+      let f : ℕ → Float = λ c. columnSum c (getD m₀ c nan) (grouped groups) in
+      is
+      ∙ ap (λ (k : ℕ). table k (λ c. getD m₁ c nan ⊘ num m)) (ap length sums ∙ length-table f p)
+      ∙ table-ext (λ c. getD m₁ c nan ⊘ num m) (overallMean columns x (grouped groups)) p
+      (λ c h.
+      ap₂ (λ (u : Float) (k : ℕ). u ⊘ num k)
+      (ap (λ (l : List Float). getD l c nan) sums
+      ∙ getD-table f p c nan h
+      ∙ ap (λ (u : Float). columnSum c u (grouped groups)) (ap (λ (l : List Float). getD l c nan) blank ∙ getD-replicate p c zero⁻ nan h))
+      e)
+
+  pub group-means-are : (g : ℕ) {m₀ m₁ m₂ : List Float} {counts : List ℕ} → m₀ ≡ replicate (g * p) zero⁺
+      → m₁ ≡ grid g p (λ j c. columnSum c (entry p m₀ j c) (members groups (length groups) j)) → counts ≡ sizes groups (length groups) g
+      → m₂ ≡ grid (length counts) p (λ j c. entry p m₁ j c ⊘ num (getD counts j 0)) → m₂ ≡ groupMeans columns p x groups g
+  unfolding groupMeans columnMean
+  group-means-are g {m₀} {m₁} {m₂} {counts} blank sums e is =
+      let f : ℕ → ℕ → Float = λ j c. columnSum c (entry p m₀ j c) (members groups (length groups) j) in
+      is
+      ∙ ap (λ (k : ℕ). grid k p (λ j c. entry p m₁ j c ⊘ num (getD counts j 0))) (ap length e ∙ length-sizes groups (length groups) g)
+      ∙ grid-ext g p (λ j c. entry p m₁ j c ⊘ num (getD counts j 0)) (λ j c. columnMean columns x (members groups (length groups) j) c)
+      (λ j c h k.
+      ap₂ (λ (u : Float) (n : ℕ). u ⊘ num n)
+      (ap (λ (l : List Float). entry p l j c) sums
+      ∙ entry-grid g p f j c h k
+      ∙ ap (λ (u : Float). columnSum c u (members groups (length groups) j)) (ap (λ (l : List Float). entry p l j c) blank ∙ entry-replicate g p zero⁺ j c h k))
+      (ap (λ (l : List ℕ). getD l j 0) e ∙ getD-sizes groups (length groups) g j h))

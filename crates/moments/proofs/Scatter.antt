@@ -1,24 +1,28 @@
 -- A sample more in the scatter within groups, a group more in that between them. Assumes nothing.
 -- `d` has how far the sample, or the group, is from the mean; `&x[i * columns..i * columns + p]` is lent as `take .. (drop ..)`.
 use mathlib.Core.Path.{_≡_, refl, sym, ap, ap₂, subst, _∙_}
-use mathlib.Core.Bool.{Bool, true, false}
+use mathlib.Core.Bool.{Bool, true, cond}
 use mathlib.Core.List.{List, [], _∷_, map}
 use Prim.Native.Nat.{ℕ, _+_, _-_, _*_, _<_, _≤_}
 use native.Mathlib.Omega.{arith}
-use lib.ListN.{length, getD}
+use lib.Dec.{eqb}
+use lib.ListN.{length, getD, replicate}
 use lib.Ieee.{Float, nan}
-use Rattle.float.specs.Floats.{_⊕_, _⊖_, _⊗_, num}
+use Rattle.float.specs.Floats.{_⊕_, _⊖_, _⊗_, _⊘_, num, zero⁺, 1e-8, 1e-12}
+use Rattle.float.specs.Order.{larger}
 use Rattle.lists.specs.Ranges.{range, table, grid}
 use Rattle.lists.specs.Filters.{keep}
-use Rattle.lists.specs.Numbers.{inGroup}
-use Rattle.lists.specs.Sums.{sumFrom}
+use Rattle.lists.specs.Numbers.{members}
+use Rattle.lists.specs.Sums.{sumFrom, sum⁻}
 use Rattle.lists.specs.Rows.{entry}
-use Rattle.lists.proofs.Ranges.{length-table, getD-table, rows-ext}
+use Rattle.lists.proofs.Ranges.{getD-table, table-ext}
 use Rattle.lists.proofs.Sums.{sum-table}
 use Rattle.lot.specs.Lot.{none}
-use Rattle.moments.specs.Moments.{grouped, off, groupOff}
-use Rattle.moments.proofs.Extra.{part-entry, grid-ext}
+use Rattle.lot.specs.Kept.{sizes}
+use Rattle.moments.specs.Moments.{grouped, off, groupOff, meanOf, groupMeans, scatterWithin, scatterBetween, ridge, ridged, Filled}
+use Rattle.moments.proofs.Extra.{part-entry, grid-ext, entry-replicate}
 use Rattle.moments.proofs.Adding.{Adding, adding-grid, adding-pass, adding-all, cellSum}
+use Rattle.moments.proofs.Counting.{length-sizes, getD-sizes}
 use Rattle.moments.proofs.Groups.{has-group, has-none}
 use Rattle.moments.proofs.Means.{hasGroup, front}
 
@@ -101,3 +105,50 @@ module _ (p g : ℕ) (counts : List ℕ) (mu mean m₀ : List Float) where
       adding-all p p (λ _. every) weighted g m₀ a h
       ∙ grid-ext p p (λ a b. cellSum every (weighted a b) 0 g (entry p m₀ a b)) (λ a b. sumFrom (entry p m₀ a b) (table g (weighted a b)))
       (λ a b _ _. ap (λ (l : List ℕ). sumFrom (entry p m₀ a b) (map (weighted a b) l)) (keep-every (range 0 g)) ∙ sym (sum-table (entry p m₀ a b) g (weighted a b)))
+
+-- ---- from zeros
+
+pub within-is : (p columns : ℕ) (x : List Float) (groups : List ℕ) (mu : List Float) {m₀ m : List Float} → m₀ ≡ replicate (p * p) zero⁺
+    → m ≡ grid p p (λ a b. sumFrom (entry p m₀ a b) (map (λ i. off columns p x groups mu i a ⊗ off columns p x groups mu i b) (grouped groups)))
+    → m ≡ scatterWithin columns p x groups mu
+unfolding scatterWithin
+within-is p columns x groups mu {m₀} blank is =
+    let sum : Float → ℕ → ℕ → Float = λ s a b. sumFrom s (map (λ i. off columns p x groups mu i a ⊗ off columns p x groups mu i b) (grouped groups)) in
+    is
+    ∙ grid-ext p p (λ a b. sum (entry p m₀ a b) a b) (λ a b. sum zero⁺ a b)
+    (λ a b h k. ap (λ (s : Float). sum s a b) (ap (λ (l : List Float). entry p l a b) blank ∙ entry-replicate p p zero⁺ a b h k))
+
+pub between-is : (p g : ℕ) (groups : List ℕ) (mu mean : List Float) {m₀ m : List Float} {counts : List ℕ} → m₀ ≡ replicate (p * p) zero⁺
+    → counts ≡ sizes groups (length groups) g
+    → m ≡ grid p p (λ a b. sumFrom (entry p m₀ a b) (table (length counts) (λ j. num (getD counts j 0) ⊗ groupOff p mu mean j a ⊗ groupOff p mu mean j b)))
+    → m ≡ scatterBetween p g groups mu mean
+unfolding scatterBetween
+between-is p g groups mu mean {m₀} {m} {counts} blank e is =
+    let term : ℕ → ℕ → ℕ → ℕ → Float = λ n a b j. num n ⊗ groupOff p mu mean j a ⊗ groupOff p mu mean j b in
+    is
+    ∙ grid-ext p p (λ a b. sumFrom (entry p m₀ a b) (table (length counts) (λ j. term (getD counts j 0) a b j)))
+    (λ a b. sumFrom zero⁺ (table g (λ j. term (length (members groups (length groups) j)) a b j)))
+    (λ a b h k.
+    ap₂ (λ (s : Float) (l : List Float). sumFrom s l) (ap (λ (l : List Float). entry p l a b) blank ∙ entry-replicate p p zero⁺ a b h k)
+    (ap (λ (n : ℕ). table n (λ j. term (getD counts j 0) a b j)) (ap length e ∙ length-sizes groups (length groups) g)
+    ∙ table-ext (λ j. term (getD counts j 0) a b j) (λ j. term (length (members groups (length groups) j)) a b j) g
+    (λ j y. ap (λ (n : ℕ). term n a b j) (ap (λ (l : List ℕ). getD l j 0) e ∙ getD-sizes groups (length groups) g j y))))
+
+-- ---- the ridge, and the whole
+
+pub ridged-is : (p : ℕ) (sw : List Float) {m : List Float} {t l : Float} → t ≡ sum⁻ (table p (λ a. entry p sw a a)) → l ≡ larger t 1e-12
+    → m ≡ grid p p (λ a b. cond (eqb a b) (entry p sw a b ⊕ 1e-8 ⊗ l ⊘ num p) (entry p sw a b)) → m ≡ ridged p sw
+unfolding ridged ridge
+ridged-is p sw traced most is =
+    let f : Float → List Float = λ r. grid p p (λ a b. cond (eqb a b) (entry p sw a b ⊕ r) (entry p sw a b)) in
+    is ∙ ap (λ (l : Float). f (1e-8 ⊗ l ⊘ num p)) (most ∙ ap (λ (t : Float). larger t 1e-12) traced)
+
+pub filled-is : (columns p g : ℕ) (x : List Float) (groups : List ℕ) {mean mu sw sb : List Float} {counts : List ℕ} → mean ≡ meanOf columns p x groups
+    → mu ≡ groupMeans columns p x groups g → counts ≡ sizes groups (length groups) g → sw ≡ ridged p (scatterWithin columns p x groups mu)
+    → sb ≡ scatterBetween p g groups mu mean → Filled columns p g x groups mean counts sw sb
+filled-is columns p g x groups means group-means counted within between = record {
+  means = means;
+  counted = counted;
+  within = within ∙ ap (λ (mu : List Float). ridged p (scatterWithin columns p x groups mu)) group-means;
+  between = between ∙ ap₂ (scatterBetween p g groups) group-means means;
+}

@@ -15,6 +15,7 @@ use Rattle.lists.specs.Numbers.{inGroup, members}
 use Rattle.lists.specs.Sums.{sum⁺, sum⁻}
 use Rattle.lists.specs.Rows.{entry}
 use Rattle.lot.specs.Lot.{none}
+use Rattle.lot.specs.Kept.{sizes}
 
 -- each sample has one of g groups, or none
 abbrev pub Numbered : ℕ → List ℕ → Type 0
@@ -64,3 +65,10 @@ ridge p sw = 1e-8 ⊗ larger (sum⁻ (table p (λ a. entry p sw a a))) 1e-12 ⊘
 
 unfoldable pub ridged : ℕ → List Float → List Float
 ridged p sw = let r = ridge p sw in grid p p (λ a b. cond (eqb a b) (entry p sw a b ⊕ r) (entry p sw a b))
+
+-- what there is to know of the samples before the matrix is factored
+pub record Filled (columns p g : ℕ) (x : List Float) (groups : List ℕ) (mean : List Float) (counts : List ℕ) (sw sb : List Float) : Type 0 where
+  pub means : mean ≡ meanOf columns p x groups
+  pub counted : counts ≡ sizes groups (length groups) g
+  pub within : sw ≡ ridged p (scatterWithin columns p x groups (groupMeans columns p x groups g))
+  pub between : sb ≡ scatterBetween p g groups (groupMeans columns p x groups g) (meanOf columns p x groups)

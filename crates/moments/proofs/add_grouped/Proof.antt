@@ -1,7 +1,6 @@
 -- `moments::add_grouped` meets its contract. After i turns the first i samples are added.
 -- Assumes nothing.
 
-
 use mathlib.Core.Path.{_∙_}
 use mathlib.Core.Logic.{⊎-elim}
 use Prim.Native.Nat.{_-_}
@@ -58,7 +57,7 @@ loop-less : tie.Need-loop-less Inv-loop μ-loop
 loop-less c = omega (arith, row-end (c .before .before .before .before .before .before .before .args .columns) (c .before .before .before .loop .i) (length (c .before .before .before .before .before .before .before .args .groups .now)) (c .before .before .loop-test .taken))
 
 loop-again : tie.Need-loop-again Inv-loop μ-loop
-loop-again c = 
+loop-again c =
     ⊎-elim
     (λ w. all-turn (c .before .before .before .before .before .before .before .args .p) (c .before .before .before .before .before .before .before .args .columns) (c .before .before .before .before .before .before .before .args .x .now) (c .before .before .before .before .before .before .before .args .groups .now) _ (c .before .before .before .loop .sum) (c .before .before .before .loop .inv) (c .before .before .loop-test .taken) (c .before .entry .ensures) (w .0 .taken) (w .6 ∙ w .3 .ensures))
     (λ w. all-pass (c .before .before .before .before .before .before .before .args .p) (c .before .before .before .before .before .before .before .args .columns) (c .before .before .before .before .before .before .before .args .x .now) (c .before .before .before .before .before .before .before .args .groups .now) _ (c .before .before .before .loop .sum) (c .before .before .before .loop .inv) (c .before .before .loop-test .taken) (c .before .entry .ensures) (w .0 .left) (w .1))

@@ -1,8 +1,6 @@
 -- `moments::add_members` meets its contract. After i turns the first i samples are added.
 -- Assumes nothing.
 
-
-
 use mathlib.Core.Path.{sym, _∙_}
 use mathlib.Core.Logic.{⊎-elim}
 use Prim.Native.Nat.{_-_}
@@ -81,7 +79,7 @@ loop-less : tie.Need-loop-less Inv-loop μ-loop
 loop-less c = omega arith
 
 loop-again : tie.Need-loop-again Inv-loop μ-loop
-loop-again c = 
+loop-again c =
     ⊎-elim
     (λ w. group-turn (c .before .before .before .before .before .before .before .args .p) (c .before .before .before .before .before .before .before .args .columns) (c .before .before .before .before .before .before .before .args .x .now) (c .before .before .before .before .before .before .before .args .groups .now) _ (c .before .before .before .before .before .before .before .args .g) (c .before .before .before .loop .mu) _ (c .before .before .before .loop .inv) (c .before .before .loop-test .taken) (c .before .entry .ensures) (is-numbered (c .before .before .before .before .before .before .before .args .groups .now) (c .before .before .before .loop .i) (c .before .entry .ensures) (c .before .before .before .before .before .before .before .args .g) (c .before .before .before .before .before .before .before .pre .4) (c .before .before .loop-test .taken) (w .0 .taken)) (w .3 .ensures) (w .6))
     (λ w. group-pass (c .before .before .before .before .before .before .before .args .p) (c .before .before .before .before .before .before .before .args .columns) (c .before .before .before .before .before .before .before .args .x .now) (c .before .before .before .before .before .before .before .args .groups .now) _ (c .before .before .before .before .before .before .before .args .g) (c .before .before .before .loop .mu) (c .before .before .before .loop .inv) (c .before .before .loop-test .taken) (c .before .entry .ensures) (omega arith) (w .0 .left) (w .1))

@@ -1,8 +1,6 @@
 -- `moments::add_outer` meets its contract. After a turns the first a rows are added to.
 -- Assumes nothing.
 
-
-
 use mathlib.Core.Path.{refl, sym, _∙_}
 use Prim.Native.Nat.{_-_}
 use native.Mathlib.Omega.{arith}
@@ -61,7 +59,7 @@ loop-less : tie.Need-loop-less Inv-loop μ-loop
 loop-less c = omega (arith, row-end (c .before .before .before .before .before .before .before .before .before .before .args .p) (c .before .before .before .before .before .before .loop .a) (c .before .before .before .before .before .before .before .before .before .before .args .p) (c .before .before .before .before .before .loop-test .taken), c .before .before .before .before .before .before .loop .inv .long)
 
 loop-again : tie.Need-loop-again Inv-loop μ-loop
-loop-again c = 
+loop-again c =
     filling-part _ _ _ _ (c .before .before .before .before .before .before .loop .m) _ (λ i v. v ⊕ getD (c .before .before .before .before .before .before .before .before .before .before .args .s .now) (c .before .before .before .before .before .before .loop .a) nan ⊗ getD (c .before .before .before .before .before .before .before .before .before .before .args .d .now) i nan) (c .before .before .before .before .before .before .loop .inv) (c .before .before .before .before .before .loop-test .taken) (c .before .before .add-multiple .ensures) (λ i _. refl)
 
 same-length : tie.Need-same-length Inv-loop μ-loop

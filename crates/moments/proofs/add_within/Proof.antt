@@ -1,8 +1,6 @@
 -- `moments::add_within` meets its contract. After i turns the first i samples are added.
 -- Assumes nothing.
 
-
-
 use mathlib.Core.Path.{_≡_, sym, ap, _∙_}
 use mathlib.Core.Logic.{⊎-elim}
 use Prim.Native.Nat.{_-_}
@@ -84,7 +82,7 @@ loop-less : tie.Need-loop-less Inv-loop μ-loop
 loop-less c = omega arith
 
 loop-again : tie.Need-loop-again Inv-loop μ-loop
-loop-again c = 
+loop-again c =
     ⊎-elim
     (λ w. (
       within-turn (c .before .before .before .before .before .before .before .before .before .args .p) (c .before .before .before .before .before .before .before .before .before .args .columns) (c .before .before .before .before .before .before .before .before .before .args .x .now) (c .before .before .before .before .before .before .before .before .before .args .groups .now) (c .before .before .before .before .before .before .before .before .before .args .mu .now) _ (c .before .before .before .loop .sw) (c .before .before .before .loop .inv .0) (c .before .before .loop-test .taken) (c .before .entry .ensures) (w .0 .taken) (c .before .before .before .loop .inv .1) (w .4 .ensures) (w .12 ∙ w .9 .ensures),

@@ -1,7 +1,6 @@
 -- `moments::count_groups` meets its contract. After i turns the first i samples are counted.
 -- Assumes nothing.
 
-
 use mathlib.Core.Path.{sym, subst}
 use mathlib.Core.Logic.{⊎-elim}
 use mathlib.Core.List.{List}
@@ -48,12 +47,12 @@ loop-less : tie.Need-loop-less Inv-loop μ-loop
 loop-less c = omega arith
 
 loop-again : tie.Need-loop-again Inv-loop μ-loop
-loop-again c = 
+loop-again c =
     ⊎-elim
     (λ w. subst (λ (l : List ℕ). Counting (c .before .before .before .before .before .before .args .groups .now) (length (c .before .before .before .before .before .before .args .counts .now)) l (c .before .before .before .loop .i + 1)) (sym (w .2))
-        (counting-next (c .before .before .before .before .before .before .args .groups .now) (length (c .before .before .before .before .before .before .args .counts .now)) (c .before .before .before .loop .inv) (c .before .before .loop-test .taken) (is-numbered (c .before .before .before .before .before .before .args .groups .now) (c .before .before .before .loop .i) (c .before .entry .ensures) (length (c .before .before .before .before .before .before .args .counts .now)) (c .before .before .before .before .before .before .pre .1) (c .before .before .loop-test .taken) (w .0 .taken)) (sym (c .before .entry .ensures))))
+    (counting-next (c .before .before .before .before .before .before .args .groups .now) (length (c .before .before .before .before .before .before .args .counts .now)) (c .before .before .before .loop .inv) (c .before .before .loop-test .taken) (is-numbered (c .before .before .before .before .before .before .args .groups .now) (c .before .before .before .loop .i) (c .before .entry .ensures) (length (c .before .before .before .before .before .before .args .counts .now)) (c .before .before .before .before .before .before .pre .1) (c .before .before .loop-test .taken) (w .0 .taken)) (sym (c .before .entry .ensures))))
     (λ w. subst (λ (l : List ℕ). Counting (c .before .before .before .before .before .before .args .groups .now) (length (c .before .before .before .before .before .before .args .counts .now)) l (c .before .before .before .loop .i + 1)) (sym (w .1))
-        (counting-pass (c .before .before .before .before .before .before .args .groups .now) (length (c .before .before .before .before .before .before .args .counts .now)) (c .before .before .before .loop .inv) (c .before .before .loop-test .taken) (λ j h e. omega (arith, w .0 .left, c .before .entry .ensures))))
+    (counting-pass (c .before .before .before .before .before .before .args .groups .now) (length (c .before .before .before .before .before .before .args .counts .now)) (c .before .before .before .loop .inv) (c .before .before .loop-test .taken) (λ j h e. omega (arith, w .0 .left, c .before .entry .ensures))))
     (c .if1 .came)
 
 same-length : tie.Need-same-length Inv-loop μ-loop

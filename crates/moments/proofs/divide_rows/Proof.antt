@@ -1,8 +1,6 @@
 -- `moments::divide_rows` meets its contract. After j turns the first j rows are divided.
 -- Assumes nothing.
 
-
-
 use mathlib.Core.Path.{sym, ap, _∙_}
 use Prim.Native.Nat.{ℕ, _-_, _^_}
 use native.Mathlib.Omega.{arith}
@@ -63,7 +61,7 @@ loop-less : tie.Need-loop-less Inv-loop μ-loop
 loop-less c = omega (arith, row-end (c .before .before .before .before .before .before .before .before .before .before .args .p) (c .before .before .before .before .before .before .before .loop .j) (length (c .before .before .before .before .before .before .before .before .before .before .args .counts .now)) (c .before .before .before .before .before .before .loop-test .taken), c .before .before .before .before .before .before .before .loop .inv .long)
 
 loop-again : tie.Need-loop-again Inv-loop μ-loop
-loop-again c = 
+loop-again c =
     filling-part _ _ _ _ (c .before .before .before .before .before .before .before .loop .mu) _ (λ _ v. v ⊘ num (c .before .before .before .before .before .entry .result)) (c .before .before .before .before .before .before .before .loop .inv) (c .before .before .before .before .before .before .loop-test .taken) (c .before .before .divide .ensures)
     (λ i _. ap (λ (k : ℕ). entry (c .before .before .before .before .before .before .before .before .before .before .args .p) (c .before .before .before .before .before .before .before .before .before .before .args .mu .now) (c .before .before .before .before .before .before .before .loop .j) i ⊘ num k) (c .before .before .before .before .before .entry .ensures))
 
