@@ -5,3 +5,4 @@ pub mod Filters
 pub mod Sums
 pub mod Writes
 pub mod Rows
+pub mod Numbers

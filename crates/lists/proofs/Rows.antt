@@ -1,15 +1,20 @@
 -- Rows of a matrix as parts of one list. The part `&m[i * w..i * w + w]` as the check has it is row i, and the part put back is row i put back.
 -- Assumes nothing.
-use mathlib.Core.Path.{_≡_, sym, ap, _∙_}
-use mathlib.Core.List.{List}
-use Prim.Native.Nat.{ℕ, _+_, _-_, _*_, _<_, _≤_}
-use native.Mathlib.Nat.{add-sub-cancel-left, mul-le-mul-right, suc-mul}
+use mathlib.Core.Path.{_≡_, refl, sym, ap, _∙_}
+use mathlib.Core.Bool.{Bool, true, false}
+use mathlib.Core.List.{List, _++_}
+use Prim.Native.Nat.{ℕ, zero, suc, _+_, _-_, _*_, _<_, _≤_}
+use native.Mathlib.Nat.{add-sub-cancel-left, mul-le-mul-right, suc-mul, not-suc-le-zero}
 use native.Mathlib.Omega.{arith}
-use lib.ListN.{length, getD, take, drop, length-drop}
-use lib.Seq.{length-take-le, take-all, getD-take, getD-drop}
+use lib.Dec.{ltb}
+use lib.ListN.{length, getD, take, drop, length-drop, List·getD-append}
+use lib.Seq.{length-take-le, take-all, getD-take, getD-drop, getD-append-add}
 use lib.Ieee.{nan, Float}
+use borrow.Author.Tests.{ltb-true, ltb-false}
 use borrow.Rule.Slice.PartMut.{putMid, same-len-mid}
+use Rattle.lists.specs.Ranges.{table, rows, grid}
 use Rattle.lists.specs.Rows.{entry, row, putRow, onRow}
+use Rattle.lists.proofs.Ranges.{length-table, getD-table, length-rows}
 
 -- row i of n ends within the n rows, and so does each of its entries
 pub row-end : (w i n : ℕ) → i < n → i * w + w ≤ n * w
@@ -61,3 +66,26 @@ module _ {A : Type 0} (w i : ℕ) where
 pub row-entry : (w i j : ℕ) (l : List Float) → j < w → getD (row w i l) j nan ≡ entry w l i j
 unfolding entry
 row-entry w i j l h = getD-row w i l j nan h
+
+-- ---- entries of rows made by a rule
+
+pub getD-rows : {A : Type 0} (w : ℕ) (f : ℕ → List A) (n i j : ℕ) (d : A) → ((k : ℕ) → length (f k) ≡ w) → i < n → j < w → getD (rows n f) (i * w + j) d ≡ getD (f i) j d
+unfolding rows
+getD-rows w f zero i j d each h g = absurd (not-suc-le-zero h)
+getD-rows w f (suc n) i j d each h g = go (ltb i n) refl (λ l. getD-rows w f n i j d each l g)
+  where
+    long : length (rows n f) ≡ n * w
+    long = length-rows w f n (λ k _. each k)
+
+    go : (b : Bool) → ltb i n ≡ b → (i < n → getD (rows n f) (i * w + j) d ≡ getD (f i) j d) → getD (rows n f ++ f n) (i * w + j) d ≡ getD (f i) j d
+    go true e before =
+        let at : i * w + j < n * w = cell-below w n i j (ltb-true i n e) g in
+        List·getD-append (rows n f) (f n) d (i * w + j) (omega (arith, long)) ∙ before (ltb-true i n e)
+    go false e before =
+        let last : i ≡ n = omega (arith, ltb-false i n e) in
+        let at : i * w + j ≡ length (rows n f) + j = ap (λ (k : ℕ). k * w + j) last ∙ ap (λ (k : ℕ). k + j) (sym long) in
+        ap (λ (k : ℕ). getD (rows n f ++ f n) k d) at ∙ getD-append-add (rows n f) (f n) j d ∙ ap (λ (k : ℕ). getD (f k) j d) (sym last)
+
+pub entry-grid : (n w : ℕ) (f : ℕ → ℕ → Float) (i j : ℕ) → i < n → j < w → entry w (grid n w f) i j ≡ f i j
+unfolding entry grid
+entry-grid n w f i j h g = getD-rows w (λ i. table w (f i)) n i j nan (λ k. length-table (f k) w) h g ∙ getD-table (f i) w j nan g

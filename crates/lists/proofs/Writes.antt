@@ -142,6 +142,10 @@ module _ {A : Type 0} (f : ℕ → A) (old : List A) where
       let len = length-table f i in
       ap (λ (t : List A). getD t i d) (w .held) ∙ getD-behind (table i f) old i d (omega arith)
 
+  -- only the front is written
+  pub writing-front : {l : List A} {i n : ℕ} → Writing f old l i → i ≡ n → l ≡ over (table n f) old
+  writing-front w e = w .held ∙ ap (λ (k : ℕ). over (table k f) old) e
+
   -- with the length by another name
   pub writing-table : {l : List A} {i n : ℕ} → Writing f old l i → length old ≡ n → n ≤ i → l ≡ table n f
   writing-table w e h = writing-all w (omega arith) ∙ ap (λ (k : ℕ). table k f) e
