@@ -13,12 +13,10 @@ use lib.ListN.{length, set, length-set}
 use lib.Ieee.{Float}
 use Rattle.float.specs.Floats.{_⊕_, _⊘_, 2·0}
 use Rattle.lists.specs.Loops.{inTurn, fromTo}
-use Rattle.lists.specs.Ranges.{grid}
 use Rattle.lists.specs.Rows.{entry}
 use Rattle.lists.proofs.Rows.{row-end, cell-below}
-use Rattle.moments.proofs.Extra.{grid-of}
 use Rattle.cholesky.specs.Cholesky.{evened, evenedRow, symmetrised}
-use Rattle.cholesky.proofs.Extra.{inTurn-carries, fromTo-carries, entry-set, entry-set-other}
+use Rattle.moments.proofs.Extra.{inTurn-carries, fromTo-carries, grid-of, entry-set, entry-set-other}
 
 module _ (p : ℕ) (t : List Float) where
   mean : ℕ → ℕ → Float

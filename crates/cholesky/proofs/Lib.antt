@@ -1,5 +1,4 @@
--- Loops that carry a fact from turn to turn, the factor's rows, and the mean of a matrix and its transpose.
-pub mod Extra
+-- The factor's rows, and the mean of a matrix and its transpose.
 pub mod Pivots
 pub mod Evening
 pub mod Solved

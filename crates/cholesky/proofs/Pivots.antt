@@ -4,7 +4,7 @@ use mathlib.Core.Bool.{Bool, true, false, not, _||_}
 use mathlib.Core.List.{List}
 use Prim.Native.Nat.{ℕ, _+_, _*_, _<_, _≤_}
 use native.Mathlib.Omega.{arith}
-use lib.ListN.{length, set, replicate, length-set}
+use lib.ListN.{length, replicate}
 use lib.Seq.{getD-set-other}
 use lib.Ieee.{Float, nan, lt}
 use Rattle.float.specs.Floats.{_⊖_, _⊗_, zero⁺}
@@ -15,7 +15,7 @@ use Rattle.lists.specs.Rows.{entry}
 use Rattle.lists.proofs.Loops.{inTurn-next}
 use Rattle.lists.proofs.Rows.{row-end}
 use Rattle.cholesky.specs.Cholesky.{reduced, cholEntry, cholRow, factor, pivotFails}
-use Rattle.cholesky.proofs.Extra.{inTurn-carries, inTurn-ext, any-more, any-same}
+use Rattle.moments.proofs.Extra.{inTurn-carries, inTurn-ext, any-more, any-same}
 
 pub or-true : (b : Bool) → (b || true) ≡ true
 or-true true = refl

@@ -1,7 +1,6 @@
 -- How many samples each of g groups has, counted in one pass. The invariant `Counting`: i samples are counted, and with what is left each group has its
 -- whole count. Assumes nothing.
-use mathlib.Core.Path.{_≡_, refl, sym, ap, subst, _∙_}
-use mathlib.Core.Bool.{Bool, true, false}
+use mathlib.Core.Path.{_≡_, sym, ap, _∙_}
 use mathlib.Core.List.{List}
 use Prim.Native.Nat.{ℕ, _+_, _-_, _<_, _≤_}
 use native.Mathlib.Decide.{ℕ-discrete}
@@ -10,7 +9,7 @@ use borrow.Author.Tests.{eq-eqb, ne-eqb}
 use lib.ListN.{length, getD, set, replicate, length-set, length-replicate, getD-replicate}
 use lib.Seq.{getD-set-same, getD-set-other, ext-getD}
 use Rattle.lists.specs.Ranges.{range, table}
-use Rattle.lists.specs.Filters.{countIf, keep}
+use Rattle.lists.specs.Filters.{countIf}
 use Rattle.lists.specs.Numbers.{inGroup, members}
 use Rattle.lists.proofs.Ranges.{length-range, length-table, getD-table}
 use Rattle.lists.proofs.Filters.{range-count-yes, range-count-no, range-count-none, countIf-below, length-keep}

@@ -1,23 +1,96 @@
--- Laws of the shared words that stand in no crate below: entries of a matrix that is filled, and of one of which a row was put back. Assumes nothing.
-use mathlib.Core.Path.{_≡_, refl, sym, ap, subst, _∙_}
-use mathlib.Core.List.{List, _++_}
+-- Laws of the shared words that stand in no crate below. Assumes nothing.
+use mathlib.Core.Path.{_≡_, refl, sym, ap, ap₂, subst, _∙_}
+use mathlib.Core.Bool.{Bool, true, false, _||_}
+use mathlib.Core.List.{List, [], _∷_, _++_}
 use Prim.Native.Nat.{ℕ, zero, suc, _+_, _-_, _*_, _/_, _%_, _<_, _≤_}
-use native.Mathlib.Nat.{add-sub-cancel-left, not-suc-le-zero, zero-mul, zero-add, mul-zero, div-add-mod', mod-lt, div-lt-iff-lt-mul}
+use native.Mathlib.Nat.{add-sub-cancel-left, mul-zero, div-add-mod', mod-lt, div-lt-iff-lt-mul}
+use native.Mathlib.Numerals.{add-one}
 use native.Mathlib.Decide.{ℕ-discrete, decLt}
 use native.Mathlib.Omega.{arith}
 use lib.ListN.{length, getD, take, drop, set, replicate, length-drop, length-replicate, getD-replicate, replicate-append-replicate, List·getD-append}
-use lib.Seq.{length-take-le, getD-take, getD-drop, getD-append-add, getD-set-same, getD-set-other, take-at, ext-getD}
+use lib.Seq.{length-take-le, getD-take, getD-drop, getD-append-add, getD-set-same, getD-set-other, take-at, drop-at, ext-getD}
 use lib.Ieee.{Float, nan}
 use borrow.Rule.Slice.PartMut.{putMid}
-use Rattle.lists.specs.Ranges.{table, rows, grid}
-use Rattle.lists.specs.Rows.{entry}
-use Rattle.lists.proofs.Ranges.{length-table, getD-table, table-ext, length-rows, rows-ext, length-grid}
-use Rattle.lists.proofs.Rows.{row-end, cell-below}
-use Rattle.lists.proofs.Writes.{Writing, getD-behind}
+use Rattle.lists.specs.Ranges.{range, table, rows, grid}
+use Rattle.lists.specs.Loops.{inTurn, fromTo}
+use Rattle.lists.specs.Filters.{any}
+use Rattle.lists.specs.Rows.{entry, row}
+use Rattle.lists.proofs.Ranges.{range-none, range-last, table-ext, length-rows, rows-ext, length-grid}
+use Rattle.lists.proofs.Rows.{row-end, cell-below, entry-grid}
+use Rattle.lists.proofs.Writes.{Filling, drop-over}
 
--- the entry that a loop writes next is still the old one
-pub writing-here : {A : Type 0} (f : ℕ → A) (old : List A) (d : A) {l : List A} {i : ℕ} → Writing f old l i → getD l i d ≡ getD old i d
-writing-here {A} f old d {l} {i} w = ap (λ (t : List A). getD t i d) (w .held) ∙ getD-behind (table i f) old i d (omega (arith, length-table f i))
+-- ---- loops
+
+module _ {A : Type 0} where
+  -- a loop carries a fact from turn to turn
+  pub inTurn-carries : (P : ℕ → A → Type 0) (step : ℕ → A → A) (n : ℕ) (a : A) → P 0 a → ((k : ℕ) (b : A) → k < n → P k b → P (k + 1) (step k b)) → P n (inTurn step n a)
+  unfolding inTurn
+  inTurn-carries P step zero a p carries = p
+  inTurn-carries P step (suc n) a p carries =
+      subst (λ (k : ℕ). P k (step n (inTurn step n a))) (add-one n)
+      (carries n (inTurn step n a) (omega arith) (inTurn-carries P step n a p (λ k b h. carries k b (omega arith))))
+
+  pub fromTo-carries : (P : ℕ → A → Type 0) (step : ℕ → A → A) (lo hi : ℕ) (a : A) → lo ≤ hi → P lo a
+      → ((k : ℕ) (b : A) → lo ≤ k → k < hi → P k b → P (k + 1) (step k b)) → P hi (fromTo step lo hi a)
+  unfolding fromTo
+  fromTo-carries P step lo hi a h p carries =
+      let start : lo ≡ lo + 0 = omega arith in
+      let end : lo + (hi - lo) ≡ hi = omega arith in
+      subst (λ (k : ℕ). P k (inTurn (λ j. step (lo + j)) (hi - lo) a)) end
+      (inTurn-carries (λ j b. P (lo + j) b) (λ j. step (lo + j)) (hi - lo) a (subst (λ (k : ℕ). P k a) start p)
+      (λ j b g q. let next : lo + j + 1 ≡ lo + (j + 1) = omega arith in subst (λ (k : ℕ). P k (step (lo + j) b)) next (carries (lo + j) b (omega arith) (omega arith) q)))
+
+  -- equal steps, equal loops
+  pub inTurn-ext : (f h : ℕ → A → A) (n : ℕ) (a : A) → ((k : ℕ) (b : A) → k < n → f k b ≡ h k b) → inTurn f n a ≡ inTurn h n a
+  unfolding inTurn
+  inTurn-ext f h zero a e = refl
+  inTurn-ext f h (suc n) a e = ap (f n) (inTurn-ext f h n a (λ k b g. e k b (omega arith))) ∙ e n (inTurn h n a) (omega arith)
+
+-- ---- a search through a range, one more at its end
+
+any-append : {A : Type 0} (p : A → Bool) (xs ys : List A) → any p (xs ++ ys) ≡ (any p xs || any p ys)
+unfolding any
+any-append p [] ys = refl
+any-append p (x ∷ xs) ys = ap (λ (b : Bool). p x || b) (any-append p xs ys) ∙ assoc (p x) (any p xs) (any p ys)
+  where
+    assoc : (a b c : Bool) → (a || (b || c)) ≡ ((a || b) || c)
+    assoc true b c = refl
+    assoc false b c = refl
+
+pub any-more : (p : ℕ → Bool) (i : ℕ) {b : Bool} → p i ≡ b → any p (range 0 (i + 1)) ≡ (any p (range 0 i) || b)
+unfolding any
+any-more p i {b} e = ap (any p) (range-last 0 i (omega arith)) ∙ any-append p (range 0 i) (i ∷ []) ∙ ap (λ (t : Bool). any p (range 0 i) || t) (last (p i) ∙ e)
+  where
+    last : (t : Bool) → (t || false) ≡ t
+    last true = refl
+    last false = refl
+
+pub any-same : (p q : ℕ → Bool) (n : ℕ) → ((i : ℕ) → i < n → p i ≡ q i) → any p (range 0 n) ≡ any q (range 0 n)
+unfolding any
+any-same p q zero e = ap (any p) (range-none 0 0 (omega arith)) ∙ ap (any q) (sym (range-none 0 0 (omega arith)))
+any-same p q (suc n) e =
+    let one : n + 1 ≡ suc n = add-one n in
+    ap (λ (k : ℕ). any p (range 0 k)) (sym one)
+    ∙ any-more p n refl
+    ∙ ap₂ (λ (a b : Bool). a || b) (any-same p q n (λ i h. e i (omega arith))) (e n (omega arith))
+    ∙ sym (any-more q n refl)
+    ∙ ap (λ (k : ℕ). any q (range 0 k)) one
+
+-- ---- one value everywhere
+
+pub take-replicate : {A : Type 0} (k n : ℕ) (v : A) → k ≤ n → take k (replicate n v) ≡ replicate k v
+take-replicate {A} k n v h =
+    let split : k + (n - k) ≡ n = omega arith in
+    ap (λ (t : ℕ). take k (replicate t v)) (sym split)
+    ∙ ap (take k) (sym (replicate-append-replicate k (n - k) v))
+    ∙ take-at (replicate k v) (replicate (n - k) v) k (length-replicate k v)
+
+drop-replicate : {A : Type 0} (k n : ℕ) (v : A) → k ≤ n → drop k (replicate n v) ≡ replicate (n - k) v
+drop-replicate {A} k n v h =
+    let split : k + (n - k) ≡ n = omega arith in
+    ap (λ (t : ℕ). drop k (replicate t v)) (sym split)
+    ∙ ap (drop k) (sym (replicate-append-replicate k (n - k) v))
+    ∙ drop-at (replicate k v) (replicate (n - k) v) k (length-replicate k v)
 
 -- ---- the first k entries of row i, as the check has the part `&m[i * w..i * w + k]`
 
@@ -29,25 +102,7 @@ module _ (w i k : ℕ) (l : List Float) where
   pub length-front : i * w + k ≤ length l → length (take (i * w + k - i * w) (drop (i * w) l)) ≡ k
   length-front h = rw add-sub-cancel-left (length-take-le k (drop (i * w) l) (omega (arith, length-drop (i * w) l)))
 
--- ---- entries of rows
-
-pub getD-rows : {A : Type 0} (w : ℕ) (f : ℕ → List A) (each : (i : ℕ) → length (f i) ≡ w) (n i j : ℕ) (d : A) → i < n → j < w
-    → getD (rows n f) (i * w + j) d ≡ getD (f i) j d
-unfolding rows
-getD-rows w f each zero i j d h g = absurd (not-suc-le-zero h)
-getD-rows w f each (suc n) i j d h g =
-    let len : length (rows n f) ≡ n * w = length-rows w f n (λ k _. each k) in
-    elim (ℕ-discrete i n) [
-      | yes e ↦ rw (e, ← len) (getD-append-add (rows n f) (f n) j d)
-      | no ne ↦
-          let below : i < n = omega arith in
-          let within : i * w + j < n * w = cell-below w n i j below g in
-          List·getD-append (rows n f) (f n) d (i * w + j) (omega arith) ∙ getD-rows w f each n i j d below g
-    ]
-
-pub entry-grid : (n w : ℕ) (f : ℕ → ℕ → Float) (i j : ℕ) → i < n → j < w → entry w (grid n w f) i j ≡ f i j
-unfolding entry grid
-entry-grid n w f i j h g = getD-rows w (λ k. table w (f k)) (λ k. length-table (f k) w) n i j nan h g ∙ getD-table (f i) w j nan g
+-- ---- grids
 
 -- equal rules, equal grids
 pub grid-ext : {A : Type 0} (n w : ℕ) (f h : ℕ → ℕ → A) → ((i j : ℕ) → i < n → j < w → f i j ≡ h i j) → grid n w f ≡ grid n w h
@@ -136,9 +191,22 @@ pub entry-replicate : (n w : ℕ) (v : Float) (i j : ℕ) → i < n → j < w �
 unfolding entry
 entry-replicate n w v i j h g = getD-replicate (n * w) (i * w + j) v nan (cell-below w n i j h g)
 
-pub take-replicate : {A : Type 0} (k n : ℕ) (v : A) → k ≤ n → take k (replicate n v) ≡ replicate k v
-take-replicate {A} k n v h =
-    let split : k + (n - k) ≡ n = omega arith in
-    ap (λ (t : ℕ). take k (replicate t v)) (sym split)
-    ∙ ap (take k) (sym (replicate-append-replicate k (n - k) v))
-    ∙ take-at (replicate k v) (replicate (n - k) v) k (length-replicate k v)
+-- ---- rows that a loop has not reached
+
+module _ {A : Type 0} (n w : ℕ) (f : ℕ → List A) (each : (i : ℕ) → length (f i) ≡ w) (old : List A) where
+  -- the row that is filled next is still the old one
+  pub filling-here : (l : List A) {k : ℕ} → Filling n w f old l k → take (k * w + w - k * w) (drop (k * w) l) ≡ row w k old
+  unfolding row
+  filling-here l {k} s =
+      rw add-sub-cancel-left
+      (ap (λ (t : List A). take w (drop (k * w) t)) (s .held) ∙ ap (take w) (drop-over (rows k f) old (k * w) (length-rows w f k (λ i _. each i))))
+
+  -- where all held one value
+  pub filling-blank : (v : A) (l : List A) {k : ℕ} → old ≡ replicate (n * w) v → Filling n w f old l k → k < n → take (k * w + w - k * w) (drop (k * w) l) ≡ replicate w v
+  unfolding row
+  filling-blank v l {k} blank s h =
+      let room : k * w + w ≤ n * w = row-end w k n h in
+      filling-here l s
+      ∙ ap (λ (t : List A). take w (drop (k * w) t)) blank
+      ∙ ap (take w) (drop-replicate (k * w) (n * w) v (omega arith))
+      ∙ take-replicate w (n * w - k * w) v (omega arith)

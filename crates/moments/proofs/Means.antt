@@ -1,7 +1,7 @@
 -- A sample more in the sums of all, and in those of its group. Assumes nothing.
 -- x are rows of `columns`, of which the first p entries are added; `&x[i * columns..i * columns + p]` is lent as `take .. (drop ..)`.
-use mathlib.Core.Path.{_≡_, refl, sym, ap, ap₂, subst, _∙_}
-use mathlib.Core.Bool.{Bool, true, not}
+use mathlib.Core.Path.{_≡_, sym, ap, ap₂, subst, _∙_}
+use mathlib.Core.Bool.{Bool, not}
 use mathlib.Core.List.{List, map}
 use Prim.Native.Nat.{ℕ, _+_, _-_, _*_, _<_, _≤_}
 use native.Mathlib.Omega.{arith}
@@ -14,14 +14,14 @@ use Rattle.lists.specs.Numbers.{inGroup, members}
 use Rattle.lists.specs.Sums.{sumFrom}
 use Rattle.lists.specs.Rows.{entry}
 use Rattle.lists.proofs.Ranges.{length-table, getD-table, table-ext}
-use Rattle.lists.proofs.Rows.{row-end, length-part}
+use Rattle.lists.proofs.Rows.{row-end, length-part, entry-grid}
 use Rattle.lot.specs.Lot.{none}
 use Rattle.lot.specs.Kept.{sizes}
-use Rattle.moments.specs.Moments.{Numbered, grouped, overallMean, columnMean, meanOf, groupMeans}
-use Rattle.moments.proofs.Extra.{part-entry, first-row, grid-one, grid-ext, entry-grid, entry-replicate}
+use Rattle.moments.specs.Moments.{grouped, overallMean, columnMean, meanOf, groupMeans}
+use Rattle.moments.proofs.Extra.{part-entry, first-row, grid-one, grid-ext, entry-replicate}
 use Rattle.moments.proofs.Adding.{Adding, adding-grid, adding-pass, adding-row, adding-all, cellSum}
 use Rattle.moments.proofs.Counting.{length-sizes, getD-sizes}
-use Rattle.moments.proofs.Groups.{has-group, has-none, is-numbered, in-own, in-one, in-none}
+use Rattle.moments.proofs.Groups.{has-group, has-none, in-own, in-one, in-none}
 
 abbrev pub hasGroup : List ℕ → ℕ → Bool
 hasGroup groups i = not (inGroup groups none i)

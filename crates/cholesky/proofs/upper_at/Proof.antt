@@ -32,7 +32,7 @@ loop-holds : tie.Need-loop-holds Inv-loop μ-loop
 loop-holds c = (omega arith, omega arith, fromTo-none _ _ _)
 
 at-requires : tie.Need-at-requires Inv-loop μ-loop
-at-requires c κs = (c .before .before .before .before .before .before .pre .0, omega arith, c .before .before .before .before .before .before .pre .3)
+at-requires c κs = (c .before .before .before .before .before .before .pre .0, omega arith, omega arith)
 
 mul-s-2 : tie.Need-mul-s-2 Inv-loop μ-loop
 mul-s-2 c = omega arith

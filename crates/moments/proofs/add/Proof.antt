@@ -1,13 +1,13 @@
 -- `moments::add` meets its contract. After c turns the first c entries are written, and the others stand as they were.
 -- Assumes nothing.
+
 use mathlib.Core.Path.{ap}
 use Prim.Native.Nat.{_-_}
 use native.Mathlib.Omega.{arith}
 use lib.ListN.{length, getD}
 use lib.Ieee.{Float, nan}
 use Rattle.float.specs.Floats.{_⊕_}
-use Rattle.lists.proofs.Writes.{Writing, writing-none, writing-next, writing-all}
-use Rattle.moments.proofs.Extra.{writing-here}
+use Rattle.lists.proofs.Writes.{Writing, writing-none, writing-next, writing-here, writing-all}
 use Rattle.moments.proofs.add.Statement.{statement}
 use Rattle.moments.proofs.add.Tie as tie
 

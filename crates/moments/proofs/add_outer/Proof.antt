@@ -9,18 +9,18 @@ use lib.Ieee.{nan}
 use Rattle.float.specs.Floats.{_⊕_, _⊗_}
 use Rattle.lists.specs.Rows.{entry}
 use Rattle.lists.proofs.Rows.{row-end, length-part}
-use Rattle.moments.proofs.Filling.{Filling, filling-none, filling-all, filling-part}
+use Rattle.moments.proofs.InPlace.{Reworked, reworked-none, reworked-row, reworked-all}
 use Rattle.moments.proofs.add_outer.Statement.{statement}
 use Rattle.moments.proofs.add_outer.Tie as tie
 
 abbrev Inv-loop : tie.InvT-loop
-Inv-loop m₀ p s d a₀ m a = Filling p p (λ k i. entry p m₀ k i ⊕ getD s k nan ⊗ getD d i nan) m₀ m a
+Inv-loop m₀ p s d a₀ m a = Reworked p p (λ k i. entry p m₀ k i ⊕ getD s k nan ⊗ getD d i nan) m₀ m a
 
 abbrev μ-loop : tie.MeasureT-loop
 μ-loop m₀ p s d a₀ m a = p - a
 
 loop-holds : tie.Need-loop-holds Inv-loop μ-loop
-loop-holds c = filling-none _ _ _ _ (c .before .before .before .pre .0)
+loop-holds c = reworked-none _ _ _ _ (c .before .before .before .pre .0)
 
 mul-add-multiple : tie.Need-mul-add-multiple Inv-loop μ-loop
 mul-add-multiple c = omega (arith, row-end (c .before .before .before .before .before .args .p) (c .before .loop .a) (c .before .before .before .before .before .args .p) (c .loop-test .taken), c .before .loop .inv .long)
@@ -60,13 +60,13 @@ loop-less c = omega (arith, row-end (c .before .before .before .before .before .
 
 loop-again : tie.Need-loop-again Inv-loop μ-loop
 loop-again c =
-    filling-part _ _ _ _ (c .before .before .before .before .before .before .loop .m) _ (λ i v. v ⊕ getD (c .before .before .before .before .before .before .before .before .before .before .args .s .now) (c .before .before .before .before .before .before .loop .a) nan ⊗ getD (c .before .before .before .before .before .before .before .before .before .before .args .d .now) i nan) (c .before .before .before .before .before .before .loop .inv) (c .before .before .before .before .before .loop-test .taken) (c .before .before .add-multiple .ensures) (λ i _. refl)
+    reworked-row _ _ _ _ (c .before .before .before .before .before .before .loop .m) _ (λ i v. v ⊕ getD (c .before .before .before .before .before .before .before .before .before .before .args .s .now) (c .before .before .before .before .before .before .loop .a) nan ⊗ getD (c .before .before .before .before .before .before .before .before .before .before .args .d .now) i nan) (c .before .before .before .before .before .before .before .before .before .before .pre .0) (c .before .before .before .before .before .before .loop .inv) (c .before .before .before .before .before .loop-test .taken) (c .before .before .add-multiple .ensures) (λ i _. refl)
 
 same-length : tie.Need-same-length Inv-loop μ-loop
-same-length c = c .before .loop .inv .long ∙ sym (c .before .before .before .before .before .pre .0)
+same-length c = c .before .loop .inv .long
 
 returns : tie.Need-returns Inv-loop μ-loop
-returns c = filling-all _ _ _ _ (c .before .loop .inv) (c .loop-test .left)
+returns c = reworked-all _ _ _ _ (c .before .before .before .before .before .pre .0) (c .before .loop .inv) (c .loop-test .left)
 
 pub add-outer-spec : {M : Type 1} → statement M
 add-outer-spec =

@@ -1,7 +1,7 @@
 -- `moments::divide_rows` meets its contract. After j turns the first j rows are divided.
 -- Assumes nothing.
 
-use mathlib.Core.Path.{sym, ap, _∙_}
+use mathlib.Core.Path.{ap}
 use Prim.Native.Nat.{ℕ, _-_, _^_}
 use native.Mathlib.Omega.{arith}
 use lib.Dec.{le→leb}
@@ -10,18 +10,18 @@ use lib.Ieee.{inFloat}
 use Rattle.float.specs.Floats.{_⊘_, num}
 use Rattle.lists.specs.Rows.{entry}
 use Rattle.lists.proofs.Rows.{row-end}
-use Rattle.moments.proofs.Filling.{Filling, filling-none, filling-all, filling-part}
+use Rattle.moments.proofs.InPlace.{Reworked, reworked-none, reworked-row, reworked-all}
 use Rattle.moments.proofs.divide_rows.Statement.{statement}
 use Rattle.moments.proofs.divide_rows.Tie as tie
 
 abbrev Inv-loop : tie.InvT-loop
-Inv-loop mu₀ p counts j₀ j-end mu j = Filling (length counts) p (λ k i. entry p mu₀ k i ⊘ num (getD counts k 0)) mu₀ mu j
+Inv-loop mu₀ p counts j₀ j-end mu j = Reworked (length counts) p (λ k i. entry p mu₀ k i ⊘ num (getD counts k 0)) mu₀ mu j
 
 abbrev μ-loop : tie.MeasureT-loop
 μ-loop mu₀ p counts j₀ j-end mu j = length counts - j
 
 loop-holds : tie.Need-loop-holds Inv-loop μ-loop
-loop-holds c = filling-none _ _ _ _ (c .before .before .pre)
+loop-holds c = reworked-none _ _ _ _ (c .before .before .pre)
 
 entry-requires : tie.Need-entry-requires Inv-loop μ-loop
 entry-requires c κs = omega arith
@@ -62,14 +62,14 @@ loop-less c = omega (arith, row-end (c .before .before .before .before .before .
 
 loop-again : tie.Need-loop-again Inv-loop μ-loop
 loop-again c =
-    filling-part _ _ _ _ (c .before .before .before .before .before .before .before .loop .mu) _ (λ _ v. v ⊘ num (c .before .before .before .before .before .entry .result)) (c .before .before .before .before .before .before .before .loop .inv) (c .before .before .before .before .before .before .loop-test .taken) (c .before .before .divide .ensures)
+    reworked-row _ _ _ _ (c .before .before .before .before .before .before .before .loop .mu) _ (λ _ v. v ⊘ num (c .before .before .before .before .before .entry .result)) (c .before .before .before .before .before .before .before .before .before .before .pre) (c .before .before .before .before .before .before .before .loop .inv) (c .before .before .before .before .before .before .loop-test .taken) (c .before .before .divide .ensures)
     (λ i _. ap (λ (k : ℕ). entry (c .before .before .before .before .before .before .before .before .before .before .args .p) (c .before .before .before .before .before .before .before .before .before .before .args .mu .now) (c .before .before .before .before .before .before .before .loop .j) i ⊘ num k) (c .before .before .before .before .before .entry .ensures))
 
 same-length : tie.Need-same-length Inv-loop μ-loop
-same-length c = c .before .loop .inv .long ∙ sym (c .before .before .before .before .pre)
+same-length c = c .before .loop .inv .long
 
 returns : tie.Need-returns Inv-loop μ-loop
-returns c = filling-all _ _ _ _ (c .before .loop .inv) (c .loop-test .left)
+returns c = reworked-all _ _ _ _ (c .before .before .before .before .pre) (c .before .loop .inv) (c .loop-test .left)
 
 pub divide-rows-spec : {M : Type 1} → statement M
 divide-rows-spec =

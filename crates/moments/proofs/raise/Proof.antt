@@ -11,18 +11,18 @@ use lib.Ieee.{Float}
 use Rattle.float.specs.Floats.{_⊕_}
 use Rattle.lists.specs.Rows.{entry}
 use Rattle.lists.proofs.Rows.{cell-below}
-use Rattle.moments.proofs.Filling.{Filling, filling-none, filling-all, filling-diagonal}
+use Rattle.moments.proofs.InPlace.{Reworked, reworked-entry, reworked-none, reworked-diagonal, reworked-all}
 use Rattle.moments.proofs.raise.Statement.{statement}
 use Rattle.moments.proofs.raise.Tie as tie
 
 abbrev Inv-loop : tie.InvT-loop
-Inv-loop sw₀ p r a₀ sw a = Filling p p (λ k i. cond (eqb k i) (entry p sw₀ k i ⊕ r) (entry p sw₀ k i)) sw₀ sw a
+Inv-loop sw₀ p r a₀ sw a = Reworked p p (λ k i. cond (eqb k i) (entry p sw₀ k i ⊕ r) (entry p sw₀ k i)) sw₀ sw a
 
 abbrev μ-loop : tie.MeasureT-loop
 μ-loop sw₀ p r a₀ sw a = p - a
 
 loop-holds : tie.Need-loop-holds Inv-loop μ-loop
-loop-holds c = filling-none _ _ _ _ (c .pre)
+loop-holds c = reworked-none _ _ _ _ (c .pre)
 
 mul-k : tie.Need-mul-k Inv-loop μ-loop
 mul-k c = omega (arith, cell-below (c .before .before .args .p) (c .before .before .args .p) (c .before .loop .a) (c .before .loop .a) (c .loop-test .taken) (c .loop-test .taken), c .before .loop .inv .long)
@@ -52,16 +52,16 @@ loop-again : tie.Need-loop-again Inv-loop μ-loop
 unfolding entry
 loop-again c =
     let old : ℕ → Float = entry (c .before .before .before .args .p) (c .before .before .before .args .sw .now) (c .before .before .loop .a) in
-    filling-diagonal _ _ _ _ (c .before .before .loop .sw) _ (c .before .before .loop .inv) (c .before .loop-test .taken) (c .before .loop-test .taken)
-    (ap (λ (v : Float). v ⊕ c .before .before .before .args .r) (c .before .before .loop .inv .rest (c .before .before .loop .a) (c .before .before .loop .a) (omega arith) (c .before .loop-test .taken) (c .before .loop-test .taken))
+    reworked-diagonal _ _ _ _ (c .before .before .loop .sw) _ (c .before .before .before .pre) (c .before .before .loop .inv) (c .before .loop-test .taken) (c .before .loop-test .taken)
+    (ap (λ (v : Float). v ⊕ c .before .before .before .args .r) (reworked-entry _ _ _ _ (c .before .before .loop .sw) (c .before .before .loop .inv) (c .before .before .loop .a) (c .before .loop-test .taken))
     ∙ ap (λ (b : Bool). cond b (old (c .before .before .loop .a) ⊕ c .before .before .before .args .r) (old (c .before .before .loop .a))) (sym (eq-eqb (c .before .before .loop .a) (c .before .before .loop .a) refl)))
     (λ i ne _. ap (λ (b : Bool). cond b (old i ⊕ c .before .before .before .args .r) (old i)) (sym (ne-eqb (c .before .before .loop .a) i (λ e. ne (sym e)))))
 
 same-length : tie.Need-same-length Inv-loop μ-loop
-same-length c = c .before .loop .inv .long ∙ sym (c .before .before .pre)
+same-length c = c .before .loop .inv .long
 
 returns : tie.Need-returns Inv-loop μ-loop
-returns c = filling-all _ _ _ _ (c .before .loop .inv) (c .loop-test .left)
+returns c = reworked-all _ _ _ _ (c .before .before .pre) (c .before .loop .inv) (c .loop-test .left)
 
 pub raise-spec : {M : Type 1} → statement M
 raise-spec =
