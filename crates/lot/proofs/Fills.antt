@@ -1,0 +1,79 @@
+-- The front of a slice filled one entry after the other. Assumes nothing.
+use mathlib.Core.Path.{_≡_, refl, sym, ap, _∙_, subst}
+use mathlib.Core.Bool.{Bool, true, false}
+use mathlib.Core.List.{List, [], _∷_, _++_}
+use Prim.Native.Nat.{ℕ, _+_, _<_, _≤_}
+use native.Mathlib.Omega.{arith}
+use lib.ListN.{length, take, set, length-append, length-set}
+use lib.Seq.{length-take-le}
+use Rattle.lists.specs.Ranges.{range, table}
+use Rattle.lists.specs.Filters.{keep}
+use Rattle.lists.specs.Writes.{over}
+use Rattle.lists.proofs.Filters.{kept-last-yes, kept-last-no}
+use Rattle.lists.proofs.Writes.{over-none, over-next, length-over, take-over, table-none, table-next}
+use Rattle.lot.specs.Filled.{Filled}
+use Rattle.lot.proofs.Extra.{over-over, over-take}
+
+-- a list's own front
+pub filled-take : (l : List ℕ) (k : ℕ) → k ≤ length l → Filled (take k l) l l k
+filled-take l k h = record { held = sym (over-take l k h); many = sym (length-take-le k l h) }
+
+module _ (old : List ℕ) where
+  pub filled-none : Filled [] old old 0
+  filled-none = record { held = sym (over-none old); many = refl }
+
+  pub filled-more : {l new : List ℕ} {k x y : ℕ} → Filled l old new k → x ≡ y → k < length old → Filled (l ++ (y ∷ [])) old (set new k x) (k + 1)
+  filled-more {l} {new} {k} {x} {y} f e h = record {
+    held = over-next l old (f .held) (sym (f .many)) e h;
+    many = omega (arith, length-append l (y ∷ []), f .many);
+  }
+
+  pub filled-as : {l l′ new : List ℕ} {k : ℕ} → l ≡ l′ → Filled l old new k → Filled l′ old new k
+  filled-as {l} {l′} {new} {k} e f = subst (λ (t : List ℕ). Filled t old new k) e f
+
+  -- another list over the same front, no shorter
+  pub filled-over : {l l′ new new′ : List ℕ} {k k′ : ℕ} → Filled l old new k → Filled l′ new new′ k′ → length l ≤ length l′ → Filled l′ old new′ k′
+  filled-over {l} {l′} f f′ h = record {
+    held = f′ .held ∙ ap (over l′) (f .held) ∙ over-over l′ l old h;
+    many = f′ .many;
+  }
+
+  module _ {l new : List ℕ} {k : ℕ} (f : Filled l old new k) where
+    pub filled-long : k ≤ length old → length new ≡ length old
+    filled-long h = ap length (f .held) ∙ length-over l old (omega (arith, f .many))
+
+    pub filled-front : take k new ≡ l
+    filled-front = ap (take k) (f .held) ∙ take-over l old k (sym (f .many))
+
+    pub filled-part : k ≡ length (take k new)
+    filled-part = f .many ∙ sym (ap length filled-front)
+
+-- ---- a loop that keeps those of a range that pass a test
+
+module _ (p : ℕ → Bool) (old : List ℕ) {out out′ : List ℕ} {k k′ : ℕ} (i : ℕ) (f : Filled (keep p (range 0 i)) old out k) where
+  pub keeping-yes : p i ≡ true → k < length old → out′ ≡ set out k i → k′ ≡ k + 1 → Filled (keep p (range 0 (i + 1))) old out′ k′
+  keeping-yes e h at one = rw (at, one) (filled-as old (sym (kept-last-yes p 0 i (omega arith) e)) (filled-more old f refl h))
+
+  pub keeping-no : p i ≡ false → out′ ≡ out → k′ ≡ k → Filled (keep p (range 0 (i + 1))) old out′ k′
+  keeping-no e at one = rw (at, one) (filled-as old (sym (kept-last-no p 0 i (omega arith) e)) f)
+
+-- ---- a loop that writes the first n entries by a rule: k are written
+
+pub record Fronting {A : Type 0} (f : ℕ → A) (n : ℕ) (old l : List A) (k : ℕ) : Type 0 where
+  pub most : k ≤ n
+  pub long : length l ≡ length old
+  pub held : l ≡ over (table k f) old
+
+module _ {A : Type 0} (f : ℕ → A) (n : ℕ) (old : List A) where
+  pub fronting-none : Fronting f n old old 0
+  fronting-none = record { most = omega arith; long = refl; held = table-none f old }
+
+  pub fronting-next : {l : List A} {k : ℕ} {x : A} → Fronting f n old l k → k < n → n ≤ length old → x ≡ f k → Fronting f n old (set l k x) (k + 1)
+  fronting-next {l} {k} {x} w h room e = record {
+    most = omega arith;
+    long = length-set l k x ∙ w .long;
+    held = table-next f old k (w .held) e (omega arith);
+  }
+
+  pub fronting-all : {l : List A} {k : ℕ} → Fronting f n old l k → n ≤ k → l ≡ over (table n f) old
+  fronting-all {l} {k} w h = let done : k ≡ n = omega (arith, w .most) in w .held ∙ ap (λ (j : ℕ). over (table j f) old) done

@@ -1,0 +1,184 @@
+-- What is a member of a list: of a range, of those kept, and what a member does to a count or a test of the whole. Names nothing of a lot. Assumes nothing.
+use mathlib.Core.Path.{_≡_, refl, sym, ap, ap₂, _∙_}
+use mathlib.Core.Bool.{Bool, true, false, _||_, cond, true≢false}
+use mathlib.Core.Logic.{_⊎_, inl, inr, ⊎-elim}
+use mathlib.Core.List.{List, [], _∷_, _++_, map, foldl, List·Memᴰ as Member, List·Memᴰ·head as here, List·Memᴰ·tail as there, List·Memᴰ·cases-cons as cases-cons, List·Memᴰ·not-nil as not-nil, Memᴰ·append-left, Memᴰ·append-right, Memᴰ·cast}
+use Prim.Native.Nat.{ℕ, zero, suc, _+_, _-_, _<_, _≤_, suc-le-suc}
+use native.Mathlib.Omega.{arith}
+use native.Mathlib.Decide.{ℕ-discrete}
+use borrow.Author.Tests.{eq-eqb, eqb-true}
+use lib.Dec.{eqb}
+use lib.ListN.{length, getD}
+use Rattle.lists.specs.Ranges.{upFrom, range}
+use Rattle.lists.specs.Filters.{keep, countIf, any}
+use Rattle.lists.specs.Numbers.{howMany, stands, firsts, Below}
+
+-- ---- ranges
+
+pub member-upFrom : (lo n i : ℕ) → Member i (upFrom lo n) → (lo ≤ i) × (i < lo + n)
+unfolding upFrom
+member-upFrom lo zero i m = absurd (not-nil m)
+member-upFrom lo (suc n) i m = ⊎-elim (λ e. (omega arith, omega arith)) (λ t. let r = member-upFrom (suc lo) n i t in (omega (arith, r .0), omega (arith, r .1))) (cases-cons m)
+
+pub upFrom-member : (lo n i : ℕ) → lo ≤ i → i < lo + n → Member i (upFrom lo n)
+unfolding upFrom
+upFrom-member lo zero i h g = absurd (omega arith)
+upFrom-member lo (suc n) i h g = elim (ℕ-discrete i lo) [ yes e ↦ here e | no d ↦ there (upFrom-member (suc lo) n i (omega arith) (omega arith)) ]
+
+pub member-range : (n i : ℕ) → Member i (range 0 n) → i < n
+unfolding range
+member-range n i m = omega (arith, member-upFrom 0 (n - 0) i m .1)
+
+pub range-member : (n i : ℕ) → i < n → Member i (range 0 n)
+unfolding range
+range-member n i h = upFrom-member 0 (n - 0) i (omega arith) (omega arith)
+
+-- ---- entries
+
+pub member-getD : {A : Type 0} (xs : List A) (i : ℕ) (d : A) → i < length xs → Member (getD xs i d) xs
+member-getD [] i d h = absurd (omega arith)
+member-getD (x ∷ xs) zero d h = here refl
+member-getD (x ∷ xs) (suc i) d h = there (member-getD xs i d (omega arith))
+
+-- ---- tests
+
+module _ {A : Type 0} (p : A → Bool) where
+  keep-in : (b : Bool) (x y : A) (rest : List A) → (x ≡ y → b ≡ true) → (x ≡ y) ⊎ Member x rest → Member x (cond b (y ∷ rest) rest)
+  keep-in true x y rest h c = ⊎-elim (λ s. here s) (λ t. there t) c
+  keep-in false x y rest h c = ⊎-elim (λ s. absurd (true≢false (sym (h s)))) (λ t. t) c
+
+  keep-out : (b : Bool) (x y : A) (rest : List A) → Member x (cond b (y ∷ rest) rest) → ((x ≡ y) × (b ≡ true)) ⊎ Member x rest
+  keep-out true x y rest m = ⊎-elim (λ s. inl (s, refl)) (λ t. inr t) (cases-cons m)
+  keep-out false x y rest m = inr m
+
+  -- what is kept are the members that pass
+  pub member-keep : (xs : List A) (x : A) → Member x xs → p x ≡ true → Member x (keep p xs)
+  unfolding keep
+  member-keep [] x m e = absurd (not-nil m)
+  member-keep (y ∷ ys) x m e = keep-in (p y) x y (keep p ys) (λ s. ap p (sym s) ∙ e) (⊎-elim (λ s. inl s) (λ t. inr (member-keep ys x t e)) (cases-cons m))
+
+  pub keep-member : (xs : List A) (x : A) → Member x (keep p xs) → (p x ≡ true) × Member x xs
+  unfolding keep
+  keep-member [] x m = absurd (not-nil m)
+  keep-member (y ∷ ys) x m = ⊎-elim
+      (λ s. (ap p (s .0) ∙ s .1, here (s .0)))
+      (λ t. let r = keep-member ys x t in (r .0, there (r .1)))
+      (keep-out (p y) x y (keep p ys) m)
+
+  -- one passes: a member that passes, and the other way round
+  any-in : (a b : Bool) → (a ≡ true) ⊎ (b ≡ true) → (a || b) ≡ true
+  any-in true b c = refl
+  any-in false b c = ⊎-elim (λ e. absurd (true≢false (sym e))) (λ e. e) c
+
+  any-out : (a b : Bool) → (a || b) ≡ true → (a ≡ true) ⊎ (b ≡ true)
+  any-out true b e = inl refl
+  any-out false b e = inr e
+
+  pub member-any : (xs : List A) (x : A) → Member x xs → p x ≡ true → any p xs ≡ true
+  unfolding any
+  member-any [] x m e = absurd (not-nil m)
+  member-any (y ∷ ys) x m e = any-in (p y) (any p ys) (⊎-elim (λ s. inl (ap p (sym s) ∙ e)) (λ t. inr (member-any ys x t e)) (cases-cons m))
+
+  pub any-member : (xs : List A) → any p xs ≡ true → (x : A) × Member x xs × (p x ≡ true)
+  unfolding any
+  any-member [] e = absurd (true≢false (sym e))
+  any-member (y ∷ ys) e = ⊎-elim (λ s. (y, here refl, s)) (λ t. let r = any-member ys t in (r .0, there (r .1), r .2)) (any-out (p y) (any p ys) e)
+
+  -- none passes
+  pub none-any : (xs : List A) → ((x : A) → Member x xs → p x ≡ false) → any p xs ≡ false
+  unfolding any
+  none-any [] h = refl
+  none-any (y ∷ ys) h = ap₂ (λ (a b : Bool). a || b) (h y (here refl)) (none-any ys (λ x m. h x (there m)))
+
+  pub any-fails : (xs : List A) → any p xs ≡ false → (x : A) → Member x xs → p x ≡ false
+  any-fails xs e x m = one (p x) refl
+    where
+      one : (b : Bool) → p x ≡ b → p x ≡ false
+      one true h = absurd (true≢false (sym (member-any xs x m h) ∙ e))
+      one false h = h
+
+-- ---- equal tests
+
+module _ {A : Type 0} (p q : A → Bool) where
+  pub keep-cong : (xs : List A) → ((x : A) → Member x xs → p x ≡ q x) → keep p xs ≡ keep q xs
+  unfolding keep
+  keep-cong [] h = refl
+  keep-cong (x ∷ xs) h = λ i. cond (h x (here refl) i) (x ∷ keep-cong xs (λ y m. h y (there m)) i) (keep-cong xs (λ y m. h y (there m)) i)
+
+  pub countIf-cong : (xs : List A) → ((x : A) → Member x xs → p x ≡ q x) → countIf p xs ≡ countIf q xs
+  unfolding countIf
+  countIf-cong [] h = refl
+  countIf-cong (x ∷ xs) h = ap₂ _+_ (ap (λ (b : Bool). cond b 1 0) (h x (here refl))) (countIf-cong xs (λ y m. h y (there m)))
+
+pub countIf-map : {A B : Type 0} (p : B → Bool) (f : A → B) (xs : List A) → countIf p (map f xs) ≡ countIf (λ x. p (f x)) xs
+unfolding countIf
+countIf-map p f [] = refl
+countIf-map p f (x ∷ xs) = ap (λ (k : ℕ). cond (p (f x)) 1 0 + k) (countIf-map p f xs)
+
+-- ---- numbers below g
+
+pub below-map : {A : Type 0} (g : ℕ) (f : A → ℕ) (xs : List A) → ((x : A) → Member x xs → f x < g) → Below g (map f xs)
+below-map g f [] h i l = absurd (omega arith)
+below-map g f (x ∷ xs) h zero l = h x (here refl)
+below-map g f (x ∷ xs) h (suc i) l = below-map g f xs (λ y m. h y (there m)) i (omega arith)
+
+pub below-member : (g : ℕ) (xs : List ℕ) (j : ℕ) → Below g xs → Member j xs → j < g
+below-member g [] j h m = absurd (not-nil m)
+below-member g (x ∷ xs) j h m = ⊎-elim (λ s. omega (arith, h 0 (omega arith))) (λ t. below-member g xs j (λ i b. h (suc i) (suc-le-suc b)) t) (cases-cons m)
+
+-- ---- a member is counted, and what is counted is a member
+
+pub member-howMany : (x : ℕ) (xs : List ℕ) → Member x xs → 0 < howMany x xs
+unfolding howMany countIf
+member-howMany x [] m = absurd (not-nil m)
+member-howMany x (y ∷ ys) m = ⊎-elim
+    (λ e. omega (arith, ap {B = ℕ} (λ (b : Bool). cond b 1 0) (eq-eqb x y e)))
+    (λ t. omega (arith, member-howMany x ys t))
+    (cases-cons m)
+
+counted-cases : (b : Bool) (x y : ℕ) (ys : List ℕ) → eqb x y ≡ b → (0 < countIf (eqb x) ys → Member x ys) → 0 < cond b 1 0 + countIf (eqb x) ys → Member x (y ∷ ys)
+counted-cases true x y ys e f h = here (eqb-true x y e)
+counted-cases false x y ys e f h = there (f (omega arith))
+
+pub howMany-member : (x : ℕ) (xs : List ℕ) → 0 < howMany x xs → Member x xs
+unfolding howMany countIf
+howMany-member x [] h = absurd (omega arith)
+howMany-member x (y ∷ ys) h = counted-cases (eqb x y) x y ys refl (howMany-member x ys) h
+
+-- ---- numbers without repeats, by first appearance: every number is there
+
+stands-step : (a : Bool) (x y : ℕ) (ys : List ℕ) (b : Bool) → (a ≡ true → x ≡ y) → (b ≡ true → Member x ys) → (a || b) ≡ true → Member x (y ∷ ys)
+stands-step true x y ys b f h e = here (f refl)
+stands-step false x y ys b f h e = there (h e)
+
+pub stands-member : (x : ℕ) (ys : List ℕ) → stands x ys ≡ true → Member x ys
+unfolding stands any
+stands-member x [] e = absurd (true≢false (sym e))
+stands-member x (y ∷ ys) e = stands-step (eqb x y) x y ys (any (eqb x) ys) (λ f. eqb-true x y f) (λ f. stands-member x ys f) e
+
+-- one number more of those seen
+abbrev pub see : List ℕ → ℕ → List ℕ
+see seen x = cond (stands x seen) seen (seen ++ (x ∷ []))
+
+seen-stays : (b : Bool) (x z : ℕ) (seen : List ℕ) → Member z seen → Member z (cond b seen (seen ++ (x ∷ [])))
+seen-stays true x z seen m = m
+seen-stays false x z seen m = Memᴰ·append-left (x ∷ []) m
+
+seen-has : (b : Bool) (x : ℕ) (seen : List ℕ) → (b ≡ true → Member x seen) → Member x (cond b seen (seen ++ (x ∷ [])))
+seen-has true x seen h = h refl
+seen-has false x seen h = Memᴰ·append-right seen (here refl)
+
+firsts-stay : (xs seen : List ℕ) (z : ℕ) → Member z seen → Member z (foldl see seen xs)
+firsts-stay [] seen z m = m
+firsts-stay (x ∷ xs) seen z m = firsts-stay xs (see seen x) z (seen-stays (stands x seen) x z seen m)
+
+firsts-enter : (xs seen : List ℕ) (z : ℕ) → Member z xs → Member z (foldl see seen xs)
+firsts-enter [] seen z m = absurd (not-nil m)
+firsts-enter (x ∷ xs) seen z m = ⊎-elim
+    (λ s. Memᴰ·cast s (firsts-stay xs (see seen x) x (seen-has (stands x seen) x seen (stands-member x seen))))
+    (λ t. firsts-enter xs (see seen x) z t)
+    (cases-cons m)
+
+pub member-firsts : (xs : List ℕ) (z : ℕ) → Member z xs → Member z (firsts xs)
+unfolding firsts
+member-firsts xs z m = firsts-enter xs [] z m

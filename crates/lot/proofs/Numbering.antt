@@ -1,0 +1,187 @@
+-- Strata are named by first appearance, and numbered: one sample more. Assumes nothing.
+use mathlib.Core.Path.{_≡_, refl, sym, ap, ap₂, _∙_}
+use mathlib.Core.Bool.{Bool, true, false, not, cond}
+use mathlib.Core.List.{List, [], _∷_, _++_, map, foldl}
+use Prim.Native.Nat.{ℕ, zero, _+_, _-_, _<_, _≤_}
+use native.Mathlib.Nat.{add-zero}
+use native.Mathlib.Omega.{arith}
+use borrow.Author.Tests.{eq-eqb, ne-eqb}
+use lib.Dec.{eqb}
+use lib.ListN.{length, getD, take, drop, set, replicate, length-append, length-map}
+use lib.Seq.{length-take-le, take-all}
+use Rattle.lists.specs.Ranges.{table}
+use Rattle.lists.specs.Filters.{keep, countIf}
+use Rattle.lists.specs.Numbers.{howMany, stands, position, firsts}
+use Rattle.lists.specs.Writes.{over, cleared}
+use Rattle.lists.proofs.Ranges.{length-table}
+use Rattle.lists.proofs.Filters.{keep-last-yes, keep-last-no, length-keep, countIf-below, countIf-append, countIf-yes, countIf-no}
+use Rattle.lists.proofs.Writes.{Writing, writing-none, writing-next, writing-all}
+use Rattle.lot.specs.Lot.{none}
+use Rattle.lot.specs.Filled.{Filled}
+use Rattle.lot.specs.Kept.{gathered}
+use Rattle.lot.specs.Strata.{named, noted, numbered}
+use Rattle.lot.specs.Described.{Stratified}
+use Rattle.lot.proofs.Extra.{over-part, over-back, getD-either, take-more, writing-here}
+use Rattle.lot.proofs.Membership.{see}
+use Rattle.lot.proofs.Fills.{filled-none, filled-take, filled-as, filled-more, filled-over, filled-front}
+use Rattle.lot.proofs.Samples.{front-gathered, length-gathered}
+
+-- ---- named strata, one sample more
+
+see-last : (xs seen : List ℕ) (x : ℕ) → foldl see seen (xs ++ (x ∷ [])) ≡ see (foldl see seen xs) x
+see-last [] seen x = refl
+see-last (y ∷ xs) seen x = see-last xs (see seen y) x
+
+named-last : (held : List ℕ) (s : ℕ) (b : Bool) → eqb s none ≡ b → named (held ++ (s ∷ [])) ≡ cond b (named held) (see (named held) s)
+unfolding named firsts
+named-last held s true e = ap (foldl see []) (keep-last-no (λ t. not (eqb t none)) held s (ap not e))
+named-last held s false e =
+    ap (foldl see []) (keep-last-yes (λ t. not (eqb t none)) held s (ap not e)) ∙ see-last (keep (λ t. not (eqb t none)) held) [] s
+
+pub named-more : (held : List ℕ) (i : ℕ) → i < length held → named (take (i + 1) held) ≡ noted (named (take i held)) (getD held i 0)
+unfolding noted
+named-more held i h = ap named (take-more held i 0 h) ∙ named-last (take i held) (getD held i 0) (eqb (getD held i 0) none) refl
+
+-- ---- how many there are
+
+see-longer : (seen : List ℕ) (x : ℕ) (b : Bool) → (length seen ≤ length (cond b seen (seen ++ (x ∷ [])))) × (length (cond b seen (seen ++ (x ∷ []))) ≤ length seen + 1)
+see-longer seen x true = (omega arith, omega arith)
+see-longer seen x false = let e = length-append seen (x ∷ []) in (omega arith, omega arith)
+
+seen-few : (xs seen : List ℕ) → length (foldl see seen xs) ≤ length seen + length xs
+seen-few [] seen = omega arith
+seen-few (x ∷ xs) seen = omega (arith, seen-few xs (see seen x), see-longer seen x (stands x seen))
+
+pub length-named : (held : List ℕ) → length (named held) ≤ length held
+unfolding named firsts
+length-named held =
+    let p : ℕ → Bool = λ s. not (eqb s none) in
+    omega (arith, seen-few (keep p held) [], length-keep p held, countIf-below p held)
+
+noted-longer : (ns : List ℕ) (s : ℕ) (b : Bool) → length ns ≤ length (cond b ns (see ns s))
+noted-longer ns s true = omega arith
+noted-longer ns s false = see-longer ns s (stands s ns) .0
+
+length-noted : (ns : List ℕ) (s : ℕ) → length ns ≤ length (noted ns s)
+unfolding noted
+length-noted ns s = noted-longer ns s (eqb s none)
+
+-- ---- one stratum noted at place k: it is none, it stands there, or it is new
+
+module _ (l : List ℕ) (k s : ℕ) (h : k < length l) where
+  pub note-none : s ≡ none → Filled (noted (take k l) s) l l k
+  unfolding noted
+  note-none e = rw (eq-eqb s none e) (filled-take l k (omega arith))
+
+  pub note-seen : (s ≡ none → ⊥) → stands s (take k l) ≡ true → Filled (noted (take k l) s) l l k
+  unfolding noted
+  note-seen d e = rw (ne-eqb s none d, e) (filled-take l k (omega arith))
+
+  pub note-new : (s ≡ none → ⊥) → stands s (take k l) ≡ false → Filled (noted (take k l) s) l (set l k s) (k + 1)
+  unfolding noted
+  note-new d e = rw (ne-eqb s none d, e) (filled-more l (filled-take l k (omega arith)) refl h)
+
+-- ---- the loop that names them
+
+pub naming-none : (held old : List ℕ) → Filled (named (take 0 held)) old old 0
+unfolding named firsts keep
+naming-none held old = filled-none old
+
+module _ (held old : List ℕ) (i : ℕ) (h : i < length held) {ns : List ℕ} {k : ℕ} (f : Filled (named (take i held)) old ns k) where
+  pub naming-room : k < length held
+  naming-room = omega (arith, f .many, length-named (take i held), length-take-le i held (omega arith))
+
+  pub naming-turn : {ns′ : List ℕ} {k′ : ℕ} → Filled (noted (take k ns) (getD held i 0)) ns ns′ k′ → Filled (named (take (i + 1) held)) old ns′ k′
+  naming-turn {ns′} {k′} f′ =
+      let s = getD held i 0 in
+      filled-as old (sym (named-more held i h))
+      (filled-over old f (filled-as ns (ap (λ (t : List ℕ). noted t s) (filled-front old f)) f′) (length-noted (named (take i held)) s))
+
+-- ---- numbers
+
+-- the number of the sample k
+abbrev pub numberAt : List ℕ → List ℕ → ℕ → ℕ
+numberAt held ns k = cond (eqb (getD held k none) none) (length ns + howMany none (take k held)) (position (getD held k none) ns)
+
+-- k samples have their numbers, and `next` is that of the next sample with none
+pub record Numbering (held ns now : List ℕ) (next k : ℕ) : Type 0 where
+  pub written : Writing (numberAt held ns) held now k
+  pub upto : next ≡ length ns + howMany none (take k held)
+
+module _ (held ns : List ℕ) where
+  pub numbering-none : Numbering held ns held (length ns) 0
+  unfolding howMany countIf
+  numbering-none = record { written = writing-none (numberAt held ns) held; upto = sym (add-zero (length ns)) }
+
+  module _ {now : List ℕ} {next k : ℕ} (n : Numbering held ns now next k) (h : k < length held) where
+    stood : getD now k 0 ≡ getD held k none
+    stood = writing-here (numberAt held ns) held 0 (n .written) ∙ getD-either held k 0 none h
+
+    counted : (b : Bool) → eqb none (getD held k none) ≡ b → howMany none (take (k + 1) held) ≡ howMany none (take k held) + cond b 1 0
+    unfolding howMany countIf
+    counted b e =
+        ap (countIf (eqb none)) (take-more held k none h)
+        ∙ countIf-append (eqb none) (take k held) (getD held k none ∷ [])
+        ∙ ap (λ (m : ℕ). countIf (eqb none) (take k held) + m) (one b e)
+      where
+        one : (b : Bool) → eqb none (getD held k none) ≡ b → countIf (eqb none) (getD held k none ∷ []) ≡ cond b 1 0
+        one true e = countIf-yes (eqb none) (getD held k none) [] e
+        one false e = countIf-no (eqb none) (getD held k none) [] e
+
+    pub next-fits : next ≤ length ns + k
+    unfolding howMany
+    next-fits = omega (arith, n .upto, countIf-below (eqb none) (take k held), length-take-le k held (omega arith))
+
+    pub numbering-alone : {now′ : List ℕ} {next′ : ℕ} → getD now k 0 ≡ none → now′ ≡ set now k next → next′ ≡ next + 1 → Numbering held ns now′ next′ (k + 1)
+    numbering-alone is at one =
+        let e : getD held k none ≡ none = sym stood ∙ is in
+        rw (at, one) (record {
+          written = writing-next (numberAt held ns) held (n .written) h (n .upto ∙ sym (ap (λ (b : Bool). cond b (length ns + howMany none (take k held)) (position (getD held k none) ns)) (eq-eqb _ _ e)));
+          upto = omega (arith, n .upto, counted true (eq-eqb _ _ (sym e)));
+        })
+
+    pub numbering-named : {now′ : List ℕ} {next′ p : ℕ} → (getD now k 0 ≡ none → ⊥) → p ≡ position (getD now k 0) ns → now′ ≡ set now k p → next′ ≡ next → Numbering held ns now′ next′ (k + 1)
+    numbering-named other is at one =
+        let d : getD held k none ≡ none → ⊥ = λ e. other (stood ∙ e) in
+        rw (at, one) (record {
+          written = writing-next (numberAt held ns) held (n .written) h (is ∙ ap (λ (s : ℕ). position s ns) stood ∙ sym (ap (λ (b : Bool). cond b (length ns + howMany none (take k held)) (position (getD held k none) ns)) (ne-eqb _ _ d)));
+          upto = omega (arith, n .upto, counted false (ne-eqb _ _ (λ e. d (sym e))));
+        })
+
+  module _ {now : List ℕ} {next k : ℕ} (n : Numbering held ns now next k) (end : length held ≤ k) (are : ns ≡ named held) where
+    pub numbering-all : now ≡ numbered held
+    unfolding numbered
+    numbering-all = writing-all (numberAt held ns) held (n .written) end ∙ ap (λ (ms : List ℕ). table (length held) (numberAt held ms)) are
+
+    pub numbering-count : next ≡ length (named held) + howMany none held
+    numbering-count = n .upto ∙ ap₂ (λ (ms l : List ℕ). length ms + howMany none l) are (take-all k held end)
+
+-- ---- the strata of samples, gathered and numbered, or all one
+
+pub length-numbered : (held : List ℕ) → length (numbered held) ≡ length held
+unfolding numbered
+length-numbered held = length-table (numberAt held (named held)) (length held)
+
+module _ (given ks out : List ℕ) {stratified : Bool} {r : List ℕ} where
+  pub stratified-numbered : {out′ : List ℕ} {n : ℕ} → stratified ≡ true → out′ ≡ over (gathered given ks) out → r ≡ numbered (take (length ks) out′)
+      → n ≡ length (named (take (length ks) out′)) + howMany none (take (length ks) out′) → Stratified stratified given ks out (r ++ drop (length ks) out′) n
+  stratified-numbered {out′} {n} is gathers e c =
+      let held = gathered given ks in
+      let front : take (length ks) out′ ≡ held = front-gathered given ks out gathers in
+      let whole : r ≡ numbered held = e ∙ ap numbered front in
+      let many : length r ≡ length ks = ap length whole ∙ length-numbered held ∙ length-gathered given ks in
+      rw is (record {
+        numbers = over-back held out r gathers (length-gathered given ks) many ∙ ap (λ (t : List ℕ). over t out) whole;
+        count = c ∙ ap (λ (t : List ℕ). length (named t) + howMany none t) front;
+      })
+
+  pub stratified-one : stratified ≡ false → length ks ≤ length out → r ≡ cleared 0 (take (length ks) out) → Stratified stratified given ks out (r ++ drop (length ks) out) 1
+  unfolding cleared
+  stratified-one is room e =
+      let zeros : r ≡ map (λ (i : ℕ). 0) ks = e ∙ ap (λ (n : ℕ). replicate n 0) (length-take-le (length ks) out room) ∙ sym (zeros-map ks) in
+      let many : length r ≡ length ks = ap length zeros ∙ length-map ks (λ (i : ℕ). zero) in
+      rw is (record { numbers = over-part r out many ∙ ap (λ (t : List ℕ). over t out) zeros; count = refl })
+    where
+      zeros-map : (l : List ℕ) → map {B = ℕ} (λ (i : ℕ). 0) l ≡ replicate (length l) 0
+      zeros-map [] = refl
+      zeros-map (x ∷ l) = ap (λ (t : List ℕ). 0 ∷ t) (zeros-map l)

@@ -1,0 +1,64 @@
+-- `lot::groups::name_groups` meets its contract. The labels of the kept samples, gathered, give way to their groups. Assumes nothing.
+use mathlib.Core.Path.{sym, ap, subst}
+use Prim.Native.Nat.{_-_}
+use native.Mathlib.Omega.{arith}
+use borrow.Author.Needs.{needs}
+use lib.ListN.{length}
+use lib.Seq.{length-take-le}
+use Rattle.lists.specs.Numbers.{Below}
+use Rattle.lot.specs.Kept.{kept}
+use Rattle.lot.proofs.Samples.{kept-below, kept-few, front-few, named-groups, numbered-groups}
+use Rattle.lot.proofs.groups.name_groups.Statement.{statement}
+use Rattle.lot.proofs.groups.name_groups.Tie as tie
+
+gather-requires : tie.Need-gather-requires
+gather-requires c κs =
+    let start = c .before .before .before .before .before in (
+      subst (Below (length (start .args .labels .now))) (sym (start .pre .1)) (kept-below (start .args .labels .now)),
+      omega (arith, ap length (start .pre .1), kept-few (start .args .labels .now)),
+    )
+
+slice-relend-prefix-number-labels : tie.Need-slice-relend-prefix-number-labels
+slice-relend-prefix-number-labels c =
+    let start = c .before .before .before .before .before .before .before .before in
+    omega (arith, ap length (start .pre .1), kept-few (start .args .labels .now), c .before .before .gather .kept .1 .1 .0)
+
+slice-aggregate-number-labels : tie.Need-slice-aggregate-number-labels
+slice-aggregate-number-labels c =
+    let start = c .before .before .before .before .before .before .before .before .before in
+    sym (length-take-le (length (start .args .ks .now)) (c .before .before .before .gather .last .1 .1 .0) (omega (arith, ap length (start .pre .1), kept-few (start .args .labels .now), c .before .before .before .gather .kept .1 .1 .0)))
+
+number-labels-requires : tie.Need-number-labels-requires
+number-labels-requires c κs =
+    let start = c .before .before .before .before .before .before .before .before .before .before in
+    let few = front-few (start .args .labels .now) (start .args .ks .now) (start .args .gs .now) (c .before .before .before .before .gather .last .1 .1 .0) (start .pre .1) (c .before .before .before .before .gather .ensures) in
+    (omega arith, omega arith)
+
+same-length : tie.Need-same-length
+same-length c = search needs
+
+same-length-2 : tie.Need-same-length-2
+same-length-2 c = search needs
+
+returns : tie.Need-returns
+returns c =
+    let start = c .before .before .before .before .before .before .before .before .before .before .before .before .before .before .before in
+    let labels = start .args .labels .now in
+    let ks = start .args .ks .now in
+    let gs = start .args .gs .now in
+    let held = c .before .before .before .before .before .before .before .before .before .gather .last .1 .1 .0 in (
+      named-groups labels ks gs held (start .pre .1) (c .before .before .before .before .before .before .before .before .before .gather .ensures) (c .before .before .before .before .number-labels .ensures .0),
+      numbered-groups labels ks gs held (start .pre .1) (c .before .before .before .before .before .before .before .before .before .gather .ensures) (c .before .before .before .before .number-labels .ensures .1),
+    )
+
+pub name-groups-spec : {M : Type 1} → statement M
+name-groups-spec =
+    tie.close
+    (tie.spec
+    gather-requires
+    slice-relend-prefix-number-labels
+    slice-aggregate-number-labels
+    number-labels-requires
+    same-length
+    same-length-2
+    returns)

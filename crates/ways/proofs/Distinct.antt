@@ -1,0 +1,174 @@
+-- Lists of which no member stands at two places: how they are made, and sums, products and counts over them. Assumes nothing.
+use mathlib.Core.Path.{_≡_, refl, sym, ap, ap₂, _∙_}
+use mathlib.Core.Bool.{Bool, true, false, cond}
+use mathlib.Core.Logic.{_⊎_, ⊎-elim}
+use mathlib.Core.List.{List, [], _∷_, _++_, map, List·Memᴰ as Member, List·Memᴰ·head as here, List·Memᴰ·tail as there, List·Memᴰ·cases-cons as cases-cons, List·Memᴰ·append-cases as append-cases, List·Memᴰ·not-nil as not-nil, Memᴰ·append-left, Memᴰ·append-right, Memᴰ·of-map, Memᴰ·cast}
+use Prim.Native.Nat.{ℕ, zero, suc, _*_, _≤_, _<_}
+use native.Mathlib.Nat.{le-antisymm, mul-assoc, mul-left-comm, mul-one}
+use native.Mathlib.Omega.{arith}
+use native.Mathlib.Decide.{ℕ-discrete}
+use lib.Dec.{eqb, ltb}
+use borrow.Author.Tests.{eq-eqb, ne-eqb, ltb-true, ltb-false, eqb-false}
+use Rattle.lists.specs.Ranges.{upFrom, rows}
+use Rattle.lists.specs.Filters.{countIf}
+use Rattle.lists.specs.Numbers.{addUp, multiply, insertUp, upward}
+use Rattle.lists.proofs.Filters.{countIf-append}
+use Rattle.lot.specs.Way.{δ}
+use Rattle.ways.specs.Every.{Distinct}
+use Rattle.ways.proofs.Extra.{map-cong, addUp-zeros, multiply-ones, member-upFrom, member-rows, insertUp-member}
+
+module _ {A : Type 0} where
+  pub distinct-append : (xs ys : List A) → Distinct xs → Distinct ys → ((x : A) → Member x xs → Member x ys → ⊥) → Distinct (xs ++ ys)
+  unfolding Distinct
+  distinct-append [] ys dx dy apart = dy
+  distinct-append (x ∷ xs) ys dx dy apart = (
+    (λ m. ⊎-elim (dx .0) (apart x (here refl)) (append-cases xs m)),
+    distinct-append xs ys (dx .1) dy (λ y l r. apart y (there l) r),
+  )
+
+  -- lists of which no two share a member, one after the other
+  pub distinct-rows : (n : ℕ) (f : ℕ → List A) → ((i : ℕ) → Distinct (f i)) → ((i j : ℕ) (x : A) → Member x (f i) → Member x (f j) → i ≡ j) → Distinct (rows n f)
+  unfolding Distinct rows
+  distinct-rows zero f d apart = tt
+  distinct-rows (suc n) f d apart = distinct-append (rows n f) (f n) (distinct-rows n f d apart) (d n)
+      (λ x l r. let w = member-rows n f x l in omega (arith, apart (w .0) n x (w .2) r, w .1))
+
+pub distinct-map : {A B : Type 0} (f : A → B) → ((x y : A) → f x ≡ f y → x ≡ y) → (xs : List A) → Distinct xs → Distinct (map f xs)
+unfolding Distinct
+distinct-map f one [] d = tt
+distinct-map f one (x ∷ xs) d = (
+  (λ m. let r = Memᴰ·of-map f xs m in d .0 (Memᴰ·cast (one x (r .0) (sym (r .2))) (r .1))),
+  distinct-map f one xs (d .1),
+)
+
+pub distinct-upFrom : (lo n : ℕ) → Distinct (upFrom lo n)
+unfolding Distinct upFrom
+distinct-upFrom lo zero = tt
+distinct-upFrom lo (suc n) = ((λ m. omega (arith, member-upFrom (suc lo) n lo m)), distinct-upFrom (suc lo) n)
+
+-- ---- a list without repeats, upward: each number is below all after it
+
+Upward : List ℕ → Type 0
+Upward [] = Unit {0}
+Upward (x ∷ xs) = ((y : ℕ) → Member y xs → x < y) × Upward xs
+
+insert-step : (a b : Bool) (x y : ℕ) (ys rest : List ℕ) → ltb x y ≡ a → eqb x y ≡ b → Upward (y ∷ ys) → Upward rest
+    → ((z : ℕ) → Member z rest → (z ≡ x) ⊎ Member z ys) → Upward (cond a (x ∷ y ∷ ys) (cond b (y ∷ ys) (y ∷ rest)))
+unfolding Upward
+insert-step true b x y ys rest e f u v h =
+    let less : x < y = ltb-true x y e in
+    (λ z m. ⊎-elim (λ s. omega arith) (λ t. omega (arith, u .0 z t)) (cases-cons m), u)
+insert-step false true x y ys rest e f u v h = u
+insert-step false false x y ys rest e f u v h =
+    (λ z m. ⊎-elim (λ s. omega (arith, ltb-false x y e, eqb-false x y f)) (λ t. u .0 z t) (h z m), v)
+
+insert-upward : (x : ℕ) (ys : List ℕ) → Upward ys → Upward (insertUp x ys)
+unfolding Upward insertUp
+insert-upward x [] u = (λ y m. absurd (not-nil m), tt)
+insert-upward x (y ∷ ys) u = insert-step (ltb x y) (eqb x y) x y ys (insertUp x ys) refl refl u (insert-upward x ys (u .1)) (λ z m. insertUp-member x z ys m)
+
+goes-upward : (xs : List ℕ) → Upward (upward xs)
+unfolding Upward upward
+goes-upward [] = tt
+goes-upward (x ∷ xs) = insert-upward x (upward xs) (goes-upward xs)
+
+upward-distinct : (xs : List ℕ) → Upward xs → Distinct xs
+unfolding Upward Distinct
+upward-distinct [] u = tt
+upward-distinct (x ∷ xs) u = ((λ m. omega (arith, u .0 x m)), upward-distinct xs (u .1))
+
+pub distinct-upward : (xs : List ℕ) → Distinct (upward xs)
+distinct-upward xs = upward-distinct (upward xs) (goes-upward xs)
+
+-- ---- sums and products
+
+pub δ-same : (a b : ℕ) → a ≡ b → δ a b ≡ 1
+unfolding δ
+δ-same a b e = ap (λ (t : Bool). cond t 1 0) (eq-eqb a b e)
+
+pub δ-other : (a b : ℕ) → (a ≡ b → ⊥) → δ a b ≡ 0
+unfolding δ
+δ-other a b d = ap (λ (t : Bool). cond t 1 0) (ne-eqb a b d)
+
+-- k stands once in the list
+pub addUp-δ : (k : ℕ) (xs : List ℕ) → Distinct xs → Member k xs → addUp (map (λ i. δ i k) xs) ≡ 1
+unfolding Distinct addUp
+addUp-δ k [] d m = absurd (not-nil m)
+addUp-δ k (x ∷ xs) d m = elim (ℕ-discrete x k) [
+  | yes e ↦ omega (arith, δ-same x k e, addUp-zeros (λ i. δ i k) xs (λ i n. δ-other i k (λ q. d .0 (Memᴰ·cast (e ∙ sym q) n))))
+  | no f ↦ omega (arith, δ-other x k f, ⊎-elim (λ e. absurd (f (sym e))) (addUp-δ k xs (d .1)) (cases-cons m))
+]
+
+-- two products that differ in one factor, which in the first is a times that in the second
+pub multiply-scale : (k a : ℕ) (f h : ℕ → ℕ) (xs : List ℕ) → Distinct xs → Member k xs → f k ≡ a * h k → ((i : ℕ) → (i ≡ k → ⊥) → f i ≡ h i)
+    → multiply (map f xs) ≡ a * multiply (map h xs)
+unfolding Distinct multiply
+multiply-scale k a f h [] d m e s = absurd (not-nil m)
+multiply-scale k a f h (x ∷ xs) d m e s = elim (ℕ-discrete x k) [
+  | yes q ↦
+      ap₂ _*_ (ap f q ∙ e ∙ ap (λ (i : ℕ). a * h i) (sym q)) (ap multiply (map-cong f h xs (λ i n. s i (λ r. d .0 (Memᴰ·cast (q ∙ sym r) n)))))
+      ∙ mul-assoc a (h x) (multiply (map h xs))
+  | no r ↦
+      ap₂ _*_ (s x r) (multiply-scale k a f h xs (d .1) (⊎-elim (λ e. absurd (r (sym e))) (λ t. t) (cases-cons m)) e s)
+      ∙ mul-left-comm (h x) a (multiply (map h xs))
+]
+
+-- f with 1 at k
+except : (ℕ → ℕ) → ℕ → ℕ → ℕ
+except f k i = cond (eqb i k) 1 (f i)
+
+except-same : (f : ℕ → ℕ) (k i : ℕ) → i ≡ k → except f k i ≡ 1
+unfolding except
+except-same f k i e = ap (λ (t : Bool). cond t 1 (f i)) (eq-eqb i k e)
+
+except-other : (f : ℕ → ℕ) (k i : ℕ) → (i ≡ k → ⊥) → except f k i ≡ f i
+unfolding except
+except-other f k i d = ap (λ (t : Bool). cond t 1 (f i)) (ne-eqb i k d)
+
+-- more members, whose factors are 1
+pub multiply-more : (f : ℕ → ℕ) (xs ys : List ℕ) → Distinct xs → Distinct ys → ((x : ℕ) → Member x xs → Member x ys)
+    → ((y : ℕ) → Member y ys → (Member y xs → ⊥) → f y ≡ 1) → multiply (map f ys) ≡ multiply (map f xs)
+unfolding Distinct multiply
+multiply-more f [] ys dx dy inside ones = multiply-ones f ys (λ y m. ones y m not-nil)
+multiply-more f (x ∷ xs) ys dx dy inside ones =
+    multiply-scale x (f x) f (except f x) ys dy (inside x (here refl))
+    (sym (ap (λ (k : ℕ). f x * k) (except-same f x x refl) ∙ mul-one (f x)))
+    (λ i d. sym (except-other f x i d))
+    ∙ ap (λ (k : ℕ). f x * k)
+    (multiply-more (except f x) xs ys (dx .1) dy (λ z m. inside z (there m)) fewer
+    ∙ ap multiply (map-cong (except f x) f xs (λ z m. except-other f x z (λ e. dx .0 (Memᴰ·cast (sym e) m)))))
+  where
+    fewer : (y : ℕ) → Member y ys → (Member y xs → ⊥) → except f x y ≡ 1
+    fewer y m out = elim (ℕ-discrete y x) [
+      | yes e ↦ except-same f x y e
+      | no d ↦ except-other f x y d ∙ ones y m (λ n. ⊎-elim d out (cases-cons n))
+    ]
+
+-- ---- any order: two lists of the same members, each once, have as many that pass any test
+
+module _ {A : Type 0} where
+  -- a list with a member, and without it
+  split : (x : A) (ys : List A) → Member x ys → (before : List A) × (after : List A) × (ys ≡ before ++ (x ∷ after))
+  split x [] m = absurd (not-nil m)
+  split x (y ∷ ys) m = ⊎-elim
+      (λ e. ([], ys, ap (λ (z : A). z ∷ ys) (sym e)))
+      (λ t. let r = split x ys t in (y ∷ r .0, r .1, ap (λ (zs : List A). y ∷ zs) (r .2)))
+      (cases-cons m)
+
+  apart : (x y : A) (before after : List A) → (y ≡ x → ⊥) → Member y (before ++ (x ∷ after)) → Member y (before ++ after)
+  apart x y before after d m = ⊎-elim
+      (λ l. Memᴰ·append-left after l)
+      (λ r. ⊎-elim (λ e. absurd (d e)) (λ t. Memᴰ·append-right before t) (cases-cons r))
+      (append-cases before m)
+
+  fewer-pass : (p : A → Bool) (xs ys : List A) → Distinct xs → ((x : A) → Member x xs → Member x ys) → countIf p xs ≤ countIf p ys
+  unfolding Distinct countIf
+  fewer-pass p [] ys d inside = omega arith
+  fewer-pass p (x ∷ xs) ys d inside =
+      let s = split x ys (inside x (here refl)) in
+      let rest = fewer-pass p xs (s .0 ++ s .1) (d .1) (λ z m. apart x z (s .0) (s .1) (λ e. d .0 (Memᴰ·cast (sym e) m)) (rw (s .2) at (inside z (there m)))) in
+      omega (arith, rest, ap (countIf p) (s .2), countIf-append p (s .0) (s .1), countIf-append p (s .0) (x ∷ s .1))
+
+  pub any-order : (xs ys : List A) → Distinct xs → Distinct ys → ((x : A) → Member x xs → Member x ys) → ((x : A) → Member x ys → Member x xs)
+      → (p : A → Bool) → countIf p xs ≡ countIf p ys
+  any-order xs ys dx dy into back p = le-antisymm (fewer-pass p xs ys dx into) (fewer-pass p ys xs dy back)

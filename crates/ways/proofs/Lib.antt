@@ -1,0 +1,10 @@
+-- The laws of the ways.
+pub mod Extra
+pub mod Distinct
+pub mod Dealt
+pub mod Every
+pub mod Level
+pub mod Number
+pub mod Counts
+pub mod Turns
+pub mod Cases

@@ -1,0 +1,96 @@
+-- `ways::count_ways` meets its contract: m is M of the samples from k on, and at most 20,000. Assumes nothing.
+use mathlib.Core.Path.{_≡_, refl, sym}
+use Prim.Native.Nat.{_≤_, _-_}
+use native.Mathlib.Nat.{mul-le-mul}
+use native.Mathlib.Omega.{arith}
+use lib.ListN.{length, drop}
+use Rattle.ways.specs.Ways.{wayCountOf, mostWays}
+use Rattle.ways.proofs.Number.{count-none, count-turn, count-size, count-stops, count-ends, tally-pos}
+use Rattle.ways.proofs.count_ways.Statement.{statement}
+use Rattle.ways.proofs.count_ways.Tie as tie
+
+abbrev Inv-loop : tie.InvT-loop
+Inv-loop strata groups m₀ k₀ m k = (k ≤ length strata) × (m ≤ mostWays) × (m ≡ wayCountOf (drop k strata) (drop k groups))
+
+abbrev μ-loop : tie.MeasureT-loop
+μ-loop strata groups m₀ k₀ m k = k
+
+loop-holds : tie.Need-loop-holds Inv-loop μ-loop
+loop-holds c = (omega arith, omega arith, sym (count-none _ (c .before .before .args .strata .now) (c .before .before .args .groups .now) refl))
+
+sub-k : tie.Need-sub-k Inv-loop μ-loop
+sub-k c = omega arith
+
+mul-s : tie.Need-mul-s Inv-loop μ-loop
+mul-s c = omega arith
+
+shared-slice-read-s : tie.Need-shared-slice-read-s Inv-loop μ-loop
+shared-slice-read-s c = omega arith
+
+mul-j : tie.Need-mul-j Inv-loop μ-loop
+mul-j c = omega arith
+
+shared-slice-read-j : tie.Need-shared-slice-read-j Inv-loop μ-loop
+shared-slice-read-j c = omega arith
+
+size-from-requires : tie.Need-size-from-requires Inv-loop μ-loop
+size-from-requires c κs = omega arith
+
+mul-m : tie.Need-mul-m Inv-loop μ-loop
+mul-m c =
+    let a = c .before .before .before .before .before .before .before .args in
+    let few = count-size (a .strata .now) (a .groups .now) (omega arith) (c .before .before .before .before .loop .k - 1) _ (c .size-from .ensures) in
+    omega (arith, mul-le-mul (c .before .before .before .before .loop .inv .1) few, c .before .before .before .before .before .before .before .pre .0)
+
+label-from-requires : tie.Need-label-from-requires Inv-loop μ-loop
+label-from-requires c κs = omega arith
+
+div-m : tie.Need-div-m Inv-loop μ-loop
+div-m c =
+    let a = c .before .before .before .before .before .before .before .before .args in
+    let l = c .before .before .before .before .before .loop in
+    omega (arith, c .label-from .ensures, tally-pos (a .strata .now) (a .groups .now) (l .k - 1) (omega arith) (omega arith))
+
+returns : tie.Need-returns Inv-loop μ-loop
+returns c =
+    let a = c .before .before .before .before .before .before .before .before .before .args in
+    let l = c .before .before .before .before .before .before .loop in
+    let more = count-turn (a .strata .now) (a .groups .now) (omega arith) {k = l .k} (omega arith) (omega arith) (l .inv .2) (c .before .before .size-from .ensures) (c .before .label-from .ensures) in
+    count-stops (a .strata .now) (a .groups .now) (omega arith) (l .k - 1) more (c .if1 .taken)
+
+loop-less : tie.Need-loop-less Inv-loop μ-loop
+loop-less c = omega arith
+
+loop-again : tie.Need-loop-again Inv-loop μ-loop
+loop-again c =
+    let a = c .before .before .before .before .before .before .before .before .before .args in
+    let l = c .before .before .before .before .before .before .loop in
+    let more = count-turn (a .strata .now) (a .groups .now) (omega arith) {k = l .k} (omega arith) (omega arith) (l .inv .2) (c .before .before .size-from .ensures) (c .before .label-from .ensures) in
+    (omega arith, omega arith, more)
+
+returns-2 : tie.Need-returns-2 Inv-loop μ-loop
+returns-2 c =
+    let a = c .before .before .before .before .args in
+    let l = c .before .loop in
+    count-ends (a .strata .now) (a .groups .now) (omega arith) (l .k) (c .loop-test .left) (l .inv .2) (l .inv .1)
+
+pub count-ways-spec : {M : Type 1} → statement M
+count-ways-spec =
+    tie.close
+    (tie.spec
+    Inv-loop
+    μ-loop
+    loop-holds
+    sub-k
+    mul-s
+    shared-slice-read-s
+    mul-j
+    shared-slice-read-j
+    size-from-requires
+    mul-m
+    label-from-requires
+    div-m
+    returns
+    loop-less
+    loop-again
+    returns-2)

@@ -1,0 +1,79 @@
+-- `ways::label_from` meets its contract: what is counted and what is still to come make up the whole. Assumes nothing.
+use mathlib.Core.Path.{_≡_, sym}
+use mathlib.Core.Logic.{⊎-elim}
+use Prim.Native.Nat.{_+_, _≤_, _-_}
+use native.Mathlib.Omega.{arith}
+use lib.ListN.{length, getD, drop}
+use Rattle.lot.specs.Way.{tally}
+use Rattle.ways.proofs.Dealt.{mark-same, mark-stratum, mark-label}
+use Rattle.ways.proofs.Number.{tally-step, tally-end}
+use Rattle.ways.proofs.label_from.Statement.{statement}
+use Rattle.ways.proofs.label_from.Tie as tie
+
+abbrev Inv-loop : tie.InvT-loop
+Inv-loop strata groups from s j n₀ i₀ i-end n i =
+    (i-end ≡ length strata) × (i ≤ length strata) × (n ≤ i)
+    × (n + tally (drop i strata) (drop i groups) s j ≡ tally (drop from strata) (drop from groups) s j)
+
+abbrev μ-loop : tie.MeasureT-loop
+μ-loop strata groups from s j n₀ i₀ i-end n i = i-end - i
+
+loop-holds : tie.Need-loop-holds Inv-loop μ-loop
+loop-holds c = omega arith
+
+mul-if1 : tie.Need-mul-if1 Inv-loop μ-loop
+mul-if1 c = omega arith
+
+shared-slice-read-if1 : tie.Need-shared-slice-read-if1 Inv-loop μ-loop
+shared-slice-read-if1 c = omega arith
+
+mul-if2 : tie.Need-mul-if2 Inv-loop μ-loop
+mul-if2 c = omega arith
+
+shared-slice-read-if2 : tie.Need-shared-slice-read-if2 Inv-loop μ-loop
+shared-slice-read-if2 c = omega arith
+
+add-n : tie.Need-add-n Inv-loop μ-loop
+add-n c = omega arith
+
+add-i : tie.Need-add-i Inv-loop μ-loop
+add-i c = omega arith
+
+loop-less : tie.Need-loop-less Inv-loop μ-loop
+loop-less c = omega arith
+
+loop-again : tie.Need-loop-again Inv-loop μ-loop
+loop-again c =
+    let a = c .before .before .before .before .args in
+    let i = c .before .before .before .loop .i in
+    let s′ = getD (a .strata .now) i 0 in
+    let j′ = getD (a .groups .now) i 0 in
+    let step = tally-step (a .strata .now) (a .groups .now) i (omega arith) (omega arith) (a .s) (a .j) in
+    ⊎-elim
+    (λ w. omega (arith, step, mark-same s′ j′ (a .s) (a .j) (sym (w .0 .taken)) (sym (w .2 .taken))))
+    (⊎-elim
+    (λ w. omega (arith, step, mark-label s′ j′ (a .s) (a .j) (λ e. w .2 .left (sym e))))
+    (λ w. omega (arith, step, mark-stratum s′ j′ (a .s) (a .j) (λ e. w .0 .left (sym e)))))
+    (c .if1 .came)
+
+returns : tie.Need-returns Inv-loop μ-loop
+returns c =
+    let a = c .before .before .args in
+    omega (arith, tally-end (a .strata .now) (a .groups .now) (c .before .loop .i) (a .s) (a .j) (omega arith))
+
+pub label-from-spec : {M : Type 1} → statement M
+label-from-spec =
+    tie.close
+    (tie.spec
+    Inv-loop
+    μ-loop
+    loop-holds
+    mul-if1
+    shared-slice-read-if1
+    mul-if2
+    shared-slice-read-if2
+    add-n
+    add-i
+    loop-less
+    loop-again
+    returns)
