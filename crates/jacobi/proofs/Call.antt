@@ -1,0 +1,197 @@
+-- What a call finds, and what it leaves in everything lent. Assumes nothing.
+use mathlib.Core.Path.{_≡_, refl, sym, ap, ap₂, _∙_}
+use mathlib.Core.Bool.{Bool, true, false, cond}
+use mathlib.Core.List.{List, _++_}
+use Prim.Native.Nat.{ℕ, _+_, _*_, _≤_}
+use native.Mathlib.Omega.{arith}
+use borrow.Author.Tests.{not-false, eqb-true, ltb-false}
+use lib.Dec.{ltb}
+use lib.ListN.{length, take, drop, replicate, length-map, length-append, length-replicate, take-append-drop}
+use lib.Seq.{take-at, drop-at}
+use lib.Ieee.{Float, isNan}
+use Rattle.float.specs.Floats.{zero⁺}
+use Rattle.lists.specs.Filters.{any, all}
+use Rattle.lists.specs.Writes.{over, cleared}
+use Rattle.lists.proofs.Ranges.{length-rows}
+use Rattle.lists.proofs.Writes.{over-all}
+use Rattle.outcome.specs.declared.Refusal.{Refusal}
+use Rattle.outcome.specs.declared.Refusal.the-variants.{Length, Limit, Value, Unordered}
+use Rattle.outcome.specs.declared.Check.{Check}
+use Rattle.outcome.specs.declared.Check.the-variants as check
+use Rattle.outcome.specs.Refusals.{first, unfit, short}
+use Rattle.outcome.specs.Outcome.{Outcome, answered, refused, judged, andThen}
+use Rattle.outcome.specs.Slices.{output, work, untouched}
+use Rattle.jacobi.specs.declared.Answer.{Answer}
+use Rattle.jacobi.specs.declared.Answer.the-variants.{Sweeps, Refused}
+use Rattle.rotation.specs.Rotation.{turned}
+use Rattle.rotation.specs.Sweeps.{Swept, swept, sweepsFrom}
+use Rattle.jacobi.specs.Eigen.{identity, diagonal, descending, valuesIn, vectorsIn, Eigen, eigenpairs, jacobi}
+use Rattle.jacobi.specs.Call.{misfits, notFinite, jacobiLines, sweepsOf, written, Called, leaves, jacobiCall, outcomeOf, called, eigenOf, Solved, solved, solution}
+use Rattle.jacobi.proofs.Extra.{over-front, or-false, first-passed, first-untouched}
+use Rattle.jacobi.proofs.Order.{length-descending, descending-below}
+use Rattle.jacobi.proofs.Filling.{length-gathered}
+
+-- ---- how many values and how many entries of vectors are written
+
+pub length-values : (d : List Float) → length (valuesIn (descending d) d) ≡ length d
+unfolding valuesIn
+length-values d = length-map (descending d) _ ∙ length-descending d
+
+pub length-vectors : (n : ℕ) (d v : List Float) → length d ≡ n → length v ≡ n * n → length (vectorsIn (descending d) n v) ≡ n * n
+unfolding vectorsIn
+length-vectors n d v hd hv =
+    let below = rw hd at (descending-below d) in
+    length-rows n _ n (λ i _. length-gathered n v (descending d) hv (length-descending d ∙ hd) below i)
+
+-- ---- what is found, of what the sweeps left: the diagonal d, and the vectors v
+
+module _ (n : ℕ) (a : List Float) {m v d : List Float} {k : ℕ} (e : swept k (turned m v) ≡ sweepsFrom 100 n 0 (turned a (identity n))) (f : d ≡ diagonal n m) where
+  nan-there : {b : Bool} → any isNan d ≡ b → any isNan (diagonal n m) ≡ b
+  nan-there t = ap (any isNan) (sym f) ∙ t
+
+  jacobi-unordered : any isNan d ≡ true → refused Unordered ≡ jacobi n a
+  unfolding jacobi eigenpairs
+  jacobi-unordered t =
+      let here : refused Unordered ≡ eigenpairs n (swept k (turned m v)) = rw (nan-there t, eigenpairs) in
+      here ∙ ap (eigenpairs n) e
+
+  jacobi-ordered : any isNan d ≡ false → answered (record { values = valuesIn (descending d) d; vectors = vectorsIn (descending d) n v; sweeps = k }) ≡ jacobi n a
+  unfolding jacobi eigenpairs
+  jacobi-ordered t =
+      let here : answered (record { values = valuesIn (descending d) d; vectors = vectorsIn (descending d) n v; sweeps = k }) ≡ eigenpairs n (swept k (turned m v)) =
+      rw (f, nan-there t, eigenpairs) in
+      here ∙ ap (eigenpairs n) e
+
+  -- the output, of just the length, is zero, or holds the values and the vectors
+  module _ (out : List Float) (len : length out ≡ n + n * n) {out′ : List Float} where
+    pub solved-unordered : any isNan d ≡ true → out′ ≡ cleared zero⁺ out → solved n (Refused Unordered) out′ ≡ solution n a out
+    unfolding solution written output cleared
+    solved-unordered t h =
+        let found = jacobi-unordered t in
+        let many = length-replicate (n + n * n) zero⁺ in
+        let all : out′ ≡ over (replicate (n + n * n) zero⁺) out =
+        h ∙ ap (λ (j : ℕ). replicate j zero⁺) len ∙ sym (over-all (replicate (n + n * n) zero⁺) out (omega arith)) in
+        ap₂ (λ (o : Outcome Eigen) (l : List Float). record { found = o; out = l }) found (all ∙ ap (λ (o : Outcome Eigen). written n o out) found)
+
+    pub solved-ordered : length d ≡ n → length v ≡ n * n → any isNan d ≡ false → out′ ≡ valuesIn (descending d) d ++ vectorsIn (descending d) n v → solved n (Sweeps k) out′ ≡ solution n a out
+    unfolding solution written output
+    solved-ordered hd hv t h =
+        let values = valuesIn (descending d) d in
+        let vectors = vectorsIn (descending d) n v in
+        let many = length-values d ∙ hd in
+        let more = length-vectors n d v hd hv in
+        let both = length-append values vectors in
+        let front : take n out′ ≡ values = ap (take n) h ∙ take-at values vectors n many in
+        let back : drop n out′ ≡ vectors = ap (drop n) h ∙ drop-at values vectors n many in
+        let found : eigenOf n (Sweeps k) out′ ≡ jacobi n a =
+        ap₂ (λ (x y : List Float). answered (record { values = x; vectors = y; sweeps = k })) front back ∙ jacobi-ordered t in
+        let all : out′ ≡ over (values ++ vectors) out = h ∙ sym (over-all (values ++ vectors) out (omega arith)) in
+        ap₂ (λ (o : Outcome Eigen) (l : List Float). record { found = o; out = l }) found (all ∙ ap (λ (o : Outcome Eigen). written n o out) (jacobi-ordered t))
+
+-- ---- the same on slices that may be longer, with the work cleared
+
+sweeps-read : (n : ℕ) (r : Answer) (out : List Float) → outcomeOf r ≡ sweepsOf (eigenOf n r out)
+unfolding sweepsOf andThen
+sweeps-read n (Sweeps k) out = refl
+sweeps-read n (Refused r) out = refl
+
+-- the first part written, and the rest
+written-front : (n : ℕ) (out : List Float) {part : List Float} (o : Outcome Eigen) → length part ≡ n + n * n → part ≡ written n o (take (n + n * n) out)
+    → part ++ drop (n + n * n) out ≡ written n o out
+unfolding written output over
+written-front n out {part} (answered e) many f =
+    let k = n + n * n in
+    let new = e .values ++ e .vectors in
+    let whole = ap length f ∙ length-append new (drop (length new) (take k out)) in
+    ap (λ (t : List Float). t ++ drop k out) f ∙ over-front new out k (omega arith)
+written-front n out {part} (refused r) many f = by (untouched r) f
+  where
+    by : (t : Bool) → part ≡ cond t (take (n + n * n) out) (over (replicate (n + n * n) zero⁺) (take (n + n * n) out))
+        → part ++ drop (n + n * n) out ≡ cond t out (over (replicate (n + n * n) zero⁺) out)
+    by true f = ap (λ (t : List Float). t ++ drop (n + n * n) out) f ∙ take-append-drop (n + n * n) out
+    by false f =
+        let zeros = length-replicate (n + n * n) zero⁺ in
+        ap (λ (t : List Float). t ++ drop (n + n * n) out) f ∙ over-front (replicate (n + n * n) zero⁺) out (n + n * n) (omega arith)
+
+-- 11 and an answer alike clear the work
+jacobi-work : (n : ℕ) (a l : List Float) → cleared zero⁺ l ≡ work zero⁺ (jacobi n a) l
+unfolding jacobi eigenpairs work
+jacobi-work n a l = by (sweepsFrom 100 n 0 (turned a (identity n))) _ refl
+  where
+    by : (w : Swept) (b : Bool) → any isNan (diagonal n (w .left .matrix)) ≡ b → cleared zero⁺ l ≡ work zero⁺ (eigenpairs n w) l
+    by w true t = rw (t, eigenpairs)
+    by w false t = rw (t, eigenpairs)
+
+module _ (n : ℕ) (a out m v : List Float) where
+  pub solved-leaves : (r : Answer) {part m′ v′ : List Float} → solved n r part ≡ solution n a (take (n + n * n) out) → length part ≡ n + n * n
+      → m′ ≡ cleared zero⁺ m → v′ ≡ cleared zero⁺ v → called r (part ++ drop (n + n * n) out) m′ v′ ≡ leaves n (jacobi n a) out m v
+  unfolding solution leaves
+  solved-leaves r {part} {m′} {v′} e many hm hv =
+      let found : eigenOf n r part ≡ jacobi n a = ap (λ (s : Solved). s .found) e in
+      let answer : outcomeOf r ≡ sweepsOf (jacobi n a) = sweeps-read n r part ∙ ap sweepsOf found in
+      let first : part ++ drop (n + n * n) out ≡ written n (jacobi n a) out = written-front n out (jacobi n a) many (ap (λ (s : Solved). s .out) e) in
+      let m-is : m′ ≡ work zero⁺ (jacobi n a) m = hm ∙ jacobi-work n a m in
+      let v-is : v′ ≡ work zero⁺ (jacobi n a) v = hv ∙ jacobi-work n a v in
+      λ i. record { answer = answer i; out = first i; m = m-is i; v = v-is i }
+
+  -- ---- a refused call leaves all as it was, and one that passes is what `jacobi` leaves
+
+  untouched-line : {e : Refusal} → check.Refused e ≡ first (jacobiLines n a (length out) (length m) (length v)) → untouched e ≡ true
+  unfolding jacobiLines all
+  untouched-line h = first-untouched (jacobiLines n a (length out) (length m) (length v)) refl h
+
+  pub call-refused : {e : Refusal} → check.Refused e ≡ first (jacobiLines n a (length out) (length m) (length v)) → called (Refused e) out m v ≡ jacobiCall n a out m v
+  unfolding jacobiCall leaves sweepsOf andThen written output work
+  call-refused {e} h =
+      let kept : called (Refused e) out m v ≡ leaves n (refused e) out m v = rw (untouched-line h) in
+      kept ∙ ap (λ (c : Check). leaves n (judged c (jacobi n a)) out m v) h
+
+  pub call-passed : {c : Called} → check.Passed ≡ first (jacobiLines n a (length out) (length m) (length v)) → c ≡ leaves n (jacobi n a) out m v → c ≡ jacobiCall n a out m v
+  unfolding jacobiCall
+  call-passed h e = e ∙ ap (λ (c : Check). leaves n (judged c (jacobi n a)) out m v) h
+
+-- ---- the lines of the table, one by one
+
+module _ (n : ℕ) (a : List Float) (out m v : ℕ) where
+  pub line-length : misfits n a out m v ≡ true → check.Refused Length ≡ first (jacobiLines n a out m v)
+  unfolding jacobiLines first
+  line-length h = rw h
+
+  module _ (h : misfits n a out m v ≡ false) where
+    pub line-limit : ltb 256 n ≡ true → check.Refused Limit ≡ first (jacobiLines n a out m v)
+    unfolding jacobiLines first
+    line-limit g = rw (h, g)
+
+    pub line-value : ltb 256 n ≡ false → any notFinite a ≡ true → check.Refused Value ≡ first (jacobiLines n a out m v)
+    unfolding jacobiLines first
+    line-value g f = rw (h, g, f)
+
+    pub line-none : ltb 256 n ≡ false → any notFinite a ≡ false → check.Passed ≡ first (jacobiLines n a out m v)
+    unfolding jacobiLines first
+    line-none g f = rw (h, g, f)
+
+-- ---- what the lengths are where no line holds
+
+pub record Fits (n : ℕ) (a out m v : ℕ) : Type 0 where
+  pub a-fits : a ≡ n * n
+  pub out-fits : n + n * n ≤ out
+  pub m-fits : n * n ≤ m
+  pub v-fits : n * n ≤ v
+  pub n-fits : n ≤ 256
+
+pub passed-fits : (n : ℕ) (a : List Float) (out m v : ℕ) → check.Passed ≡ first (jacobiLines n a out m v) → Fits n (length a) out m v
+unfolding jacobiLines misfits short any
+passed-fits n a out m v e =
+    let one = first-passed Length _ (misfits n a out m v) e in
+    let two = first-passed Limit _ (ltb 256 n) (one .1) in
+    let lengths = or-false (unfit a (n * n)) _ (one .0) in
+    let o = or-false (ltb out (n + n * n)) _ (lengths .1) in
+    let w = or-false (ltb m (n * n)) _ (o .1) in
+    let x = or-false (ltb v (n * n)) _ (w .1) in
+    record {
+      a-fits = eqb-true _ _ (not-false _ (lengths .0));
+      out-fits = ltb-false _ _ (o .0);
+      m-fits = ltb-false _ _ (w .0);
+      v-fits = ltb-false _ _ (x .0);
+      n-fits = ltb-false _ _ (two .0);
+    }

@@ -1,0 +1,6 @@
+-- What the proofs of the functions share.
+pub mod Extra
+pub mod Order
+pub mod Filling
+pub mod Call
+pub mod Cases

@@ -1,0 +1,88 @@
+-- `jacobi::eigen` meets its contract. By whether a NaN stands on the diagonal. Assumes nothing.
+use mathlib.Core.Path.{sym, _∙_}
+use borrow.Author.Needs.{needs}
+use Rattle.jacobi.proofs.Call.{solved-unordered, solved-ordered}
+use Rattle.jacobi.proofs.eigen.Statement.{statement}
+use Rattle.jacobi.proofs.eigen.Tie as tie
+
+diagonalise-requires : tie.Need-diagonalise-requires
+diagonalise-requires c κs = search needs
+
+has-nan-requires : tie.Need-has-nan-requires
+has-nan-requires c κs = search needs
+
+clear-requires : tie.Need-clear-requires
+clear-requires c κs = search needs
+
+same-length : tie.Need-same-length
+same-length c = search needs
+
+same-length-2 : tie.Need-same-length-2
+same-length-2 c = search needs
+
+same-length-3 : tie.Need-same-length-3
+same-length-3 c = search needs
+
+same-length-4 : tie.Need-same-length-4
+same-length-4 c = search needs
+
+returns : tie.Need-returns
+returns c =
+    let at-clear = c .before .before in
+    let at-if1 = at-clear .before .before in
+    let at-has-nan = at-if1 .before in
+    let at-diagonalise = at-has-nan .before .before .before .before .before .before .before .before in
+    let at-start = at-diagonalise .before .before .before .before .before .before .before .before .before .before in
+    let a = at-start .args in
+    let done = at-diagonalise .diagonalise .ensures in
+    solved-unordered (a .n) (a .a .now) (done .0) (done .1) (a .out .now) (at-start .pre .0 .1) (sym (at-has-nan .has-nan .ensures) ∙ at-if1 .if1 .taken) (at-clear .clear .ensures)
+
+arrange-requires : tie.Need-arrange-requires
+arrange-requires c κs = search needs
+
+same-length-5 : tie.Need-same-length-5
+same-length-5 c = search needs
+
+same-length-6 : tie.Need-same-length-6
+same-length-6 c = search needs
+
+same-length-7 : tie.Need-same-length-7
+same-length-7 c = search needs
+
+same-length-8 : tie.Need-same-length-8
+same-length-8 c = search needs
+
+same-length-9 : tie.Need-same-length-9
+same-length-9 c = search needs
+
+returns-2 : tie.Need-returns-2
+returns-2 c =
+    let at-arrange = c .before .before .before .before in
+    let at-if1 = at-arrange .before .before .before .before .before in
+    let at-has-nan = at-if1 .before in
+    let at-diagonalise = at-has-nan .before .before .before .before .before .before .before .before in
+    let at-start = at-diagonalise .before .before .before .before .before .before .before .before .before .before in
+    let a = at-start .args in
+    let done = at-diagonalise .diagonalise in
+    solved-ordered (a .n) (a .a .now) (done .ensures .0) (done .ensures .1) (a .out .now) (at-start .pre .0 .1)
+    (done .kept .1 .1 .0 ∙ at-start .pre .1 .0) (done .kept .1 .0 ∙ at-start .pre .0 .3) (sym (at-has-nan .has-nan .ensures) ∙ at-if1 .if1 .left) (at-arrange .arrange .ensures)
+
+pub eigen-spec : {M : Type 1} → statement M
+eigen-spec =
+    tie.close
+    (tie.spec
+    diagonalise-requires
+    has-nan-requires
+    clear-requires
+    same-length
+    same-length-2
+    same-length-3
+    same-length-4
+    returns
+    arrange-requires
+    same-length-5
+    same-length-6
+    same-length-7
+    same-length-8
+    same-length-9
+    returns-2)

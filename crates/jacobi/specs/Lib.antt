@@ -1,0 +1,3 @@
+-- Section 4 of document 01: `jacobi_eigen`.
+pub mod Eigen
+pub mod Call

@@ -1,0 +1,4 @@
+-- What the proofs of the functions share.
+pub mod Extra
+pub mod Rotation
+pub mod Sweeping

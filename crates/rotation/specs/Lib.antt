@@ -1,0 +1,3 @@
+-- Section 4 of document 01, `jacobi_eigen`: rotations and sweeps.
+pub mod Rotation
+pub mod Sweeps
