@@ -14,6 +14,9 @@ ghost use Rattle.lists.specs.Rows.{entry};
 ghost use Rattle.lot.specs.Kept.{sizes};
 ghost use Rattle.moments.specs.Moments.{Numbered, grouped, off, groupOff, meanOf, groupMeans, scatterWithin, scatterBetween, ridged, Filled};
 
+// No group, as an index.
+pub const NONE: usize = 65535;
+
 // ---- rows, entry by entry
 
 // row + other.
@@ -74,7 +77,7 @@ fn count_groups(counts: &mut [u16], groups: &[u16])
 {
     for i in 0..groups.len() {
         let j = lists::entry(groups, i);
-        if j != 65535 {
+        if j != NONE {
             counts[j] = counts[j] + 1;
         }
     }
@@ -86,7 +89,7 @@ fn add_grouped(sum: &mut [f64], p: usize, x: &[f64], groups: &[u16], columns: us
     ensures { λ _. ⌜ now (sum .exit) ≡ table p (λ c. sumFrom (getD (now (sum .entry)) c nan) (map (λ i. entry columns (now (x .entry)) i c) (grouped (now (groups .entry))))) ⌝ }
 {
     for i in 0..groups.len() {
-        if lists::entry(groups, i) != 65535 {
+        if lists::entry(groups, i) != NONE {
             add(sum, &x[i * columns..i * columns + p]);
         }
     }
@@ -99,7 +102,7 @@ fn add_members(mu: &mut [f64], p: usize, g: usize, x: &[f64], groups: &[u16], co
 {
     for i in 0..groups.len() {
         let j = lists::entry(groups, i);
-        if j != 65535 {
+        if j != NONE {
             add(&mut mu[j * p..j * p + p], &x[i * columns..i * columns + p]);
         }
     }
@@ -171,7 +174,7 @@ fn add_within(
 {
     for i in 0..groups.len() {
         let j = lists::entry(groups, i);
-        if j != 65535 {
+        if j != NONE {
             subtract(d, &x[i * columns..i * columns + p], &mu[j * p..j * p + p]);
             let e = &d[..];
             add_outer(sw, p, e, e);
