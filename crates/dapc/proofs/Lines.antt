@@ -1,0 +1,155 @@
+-- The lines of the table, and what holds where all are passed. Assumes nothing.
+use mathlib.Core.Path.{_≡_, refl, sym, ap, ap₂, _∙_}
+use mathlib.Core.Bool.{Bool, true, false, not, _||_}
+use mathlib.Core.List.{List, [], _∷_, _++_}
+use Prim.Native.Nat.{ℕ, _+_, _-_, _*_, _/_, _<_, _≤_, min}
+use native.Mathlib.Nat.{mul-comm, zero-mul, div-lt-iff-lt-mul, le-div-iff-mul-le, min-le-right, min-eq-left, min-eq-right}
+use native.Mathlib.Omega.{arith}
+use borrow.Author.Tests.{lt-ltb, le-ltb, eq-eqb, ne-eqb, not-false, eqb-true, ltb-false}
+use lib.Dec.{eqb, ltb}
+use lib.ListN.{length}
+use lib.Ieee.{Float}
+use Rattle.lists.specs.Filters.{any}
+use Rattle.outcome.specs.declared.Refusal.{Refusal}
+use Rattle.outcome.specs.declared.Refusal.the-variants.{Length, Limit, Value, Labels, Columns}
+use Rattle.outcome.specs.declared.Check.{Check}
+use Rattle.outcome.specs.declared.Check.the-variants as check
+use Rattle.outcome.specs.Refusals.{Line, first, short}
+use Rattle.jacobi.proofs.Extra.{or-false, first-passed}
+use Rattle.dapc.specs.Dapc.{leading}
+use Rattle.dapc.specs.Call.{misfits, badCoordinate, shapeLines, groupLines}
+
+-- ---- line 1: the product is compared without being made where it would not fit
+
+module _ (len n columns : ℕ) where
+  pub product-none : n ≡ 0 → eqb len 0 ≡ eqb len (n * columns)
+  product-none e = ap (eqb len) (sym (ap (λ (k : ℕ). k * columns) e ∙ zero-mul columns))
+
+  pub product-past : (n ≡ 0 → ⊥) → len / n < columns → false ≡ eqb len (n * columns)
+  product-past ne h =
+      let some : 0 < n = omega arith in
+      let past : len < columns * n = div-lt-iff-lt-mul some .0 h in
+      sym (ne-eqb len (n * columns) (λ e. omega (arith, mul-comm columns n)))
+
+  pub product-fits : (n ≡ 0 → ⊥) → columns ≤ len / n → n * columns ≤ len
+  product-fits ne h =
+      let some : 0 < n = omega arith in
+      let most : columns * n ≤ len = le-div-iff-mul-le some .0 h in
+      omega (arith, mul-comm columns n)
+
+module _ (n columns x labels out assigned : ℕ) where
+  abbrev tests : Bool → Bool → Bool → Bool → Bool
+  tests p l o a = not p || not l || (o || (a || false))
+
+  -- the tests one after the other
+  misfits-by : {p l o a : Bool} → eqb x (n * columns) ≡ p → eqb labels n ≡ l → ltb out (columns + n * columns) ≡ o → ltb assigned n ≡ a
+      → misfits n columns x labels out assigned ≡ tests p l o a
+  unfolding misfits short any
+  misfits-by {p} {l} {o} {a} e f h k = λ i. tests (e i) (f i) (h i) (k i)
+
+  pub misfit-product : eqb x (n * columns) ≡ false → true ≡ misfits n columns x labels out assigned
+  misfit-product e = sym (misfits-by e refl refl refl)
+
+  module _ (e : eqb x (n * columns) ≡ true) where
+    pub misfit-labels : (labels ≡ n → ⊥) → true ≡ misfits n columns x labels out assigned
+    misfit-labels ne = sym (misfits-by e (ne-eqb labels n ne) refl refl)
+
+    module _ (f : labels ≡ n) where
+      pub misfit-out : out < columns + x → true ≡ misfits n columns x labels out assigned
+      misfit-out h = sym (misfits-by e (eq-eqb labels n f) (lt-ltb out (columns + n * columns) (omega (arith, eqb-true x (n * columns) e))) refl)
+
+      pub misfit-assigned : columns + x ≤ out → ltb assigned n ≡ misfits n columns x labels out assigned
+      misfit-assigned h =
+          sym (misfits-by e (eq-eqb labels n f) (le-ltb out (columns + n * columns) (omega (arith, eqb-true x (n * columns) e))) refl ∙ or-none (ltb assigned n))
+        where
+          or-none : (b : Bool) → (b || false) ≡ b
+          or-none true = refl
+          or-none false = refl
+
+-- ---- lines 1 to 3
+
+module _ (n columns : ℕ) (x : List Float) (labels out assigned : ℕ) where
+  pub line-length : misfits n columns (length x) labels out assigned ≡ true → check.Refused Length ≡ first (shapeLines n columns x labels out assigned)
+  unfolding shapeLines first
+  line-length h = rw h
+
+  module _ (h : misfits n columns (length x) labels out assigned ≡ false) where
+    pub line-samples : ltb 256 n ≡ true → check.Refused Limit ≡ first (shapeLines n columns x labels out assigned)
+    unfolding shapeLines first
+    line-samples g = rw (h, g)
+
+    module _ (g : ltb 256 n ≡ false) where
+      pub line-columns : ltb 16 columns ≡ true → check.Refused Limit ≡ first (shapeLines n columns x labels out assigned)
+      unfolding shapeLines first
+      line-columns k = rw (h, g, k)
+
+      pub line-value : ltb 16 columns ≡ false → any badCoordinate x ≡ true → check.Refused Value ≡ first (shapeLines n columns x labels out assigned)
+      unfolding shapeLines first
+      line-value k v = rw (h, g, k, v)
+
+      pub line-none : ltb 16 columns ≡ false → any badCoordinate x ≡ false → check.Passed ≡ first (shapeLines n columns x labels out assigned)
+      unfolding shapeLines first
+      line-none k v = rw (h, g, k, v)
+
+-- what the lengths are where none of them holds
+pub record Shaped (n columns : ℕ) (x : List Float) (labels out assigned : ℕ) : Type 0 where
+  pub coordinates : length x ≡ n * columns
+  pub labelled : labels ≡ n
+  pub few : n ≤ 256
+  pub narrow : columns ≤ 16
+  pub room : columns + n * columns ≤ out
+  pub places : n ≤ assigned
+
+pub passed-shape : (n columns : ℕ) (x : List Float) (labels out assigned : ℕ) → check.Passed ≡ first (shapeLines n columns x labels out assigned)
+    → Shaped n columns x labels out assigned
+unfolding shapeLines misfits short any
+passed-shape n columns x labels out assigned e =
+    let one = first-passed Length _ (misfits n columns (length x) labels out assigned) e in
+    let two = first-passed Limit _ (ltb 256 n || ltb 16 columns) (one .1) in
+    let limits = or-false (ltb 256 n) (ltb 16 columns) (two .0) in
+    let lengths = or-false (not (eqb (length x) (n * columns)) || not (eqb labels n)) _ (one .0) in
+    let inputs = or-false (not (eqb (length x) (n * columns))) (not (eqb labels n)) (lengths .0) in
+    let o = or-false (ltb out (columns + n * columns)) _ (lengths .1) in
+    let a = or-false (ltb assigned n) false (o .1) in
+    record {
+      coordinates = eqb-true (length x) (n * columns) (not-false _ (inputs .0));
+      labelled = eqb-true labels n (not-false _ (inputs .1));
+      few = ltb-false 256 n (limits .0);
+      narrow = ltb-false 16 columns (limits .1);
+      room = ltb-false out (columns + n * columns) (o .0);
+      places = ltb-false assigned n (a .0);
+    }
+
+-- ---- lines 5 and 9
+
+module _ (columns m g : ℕ) where
+  pub leading-none : m ≤ g → 0 ≡ leading columns m g
+  unfolding leading
+  leading-none h = let none : m - (g + 1) ≡ 0 = omega arith in sym (ap (min columns) none ∙ omega (arith, min-le-right columns 0))
+
+  pub leading-columns : columns < m - (g + 1) → columns ≡ leading columns m g
+  unfolding leading
+  leading-columns h = sym (min-eq-left (omega arith))
+
+  pub leading-rest : m - (g + 1) ≤ columns → m - (g + 1) ≡ leading columns m g
+  unfolding leading
+  leading-rest h = sym (min-eq-right h)
+
+  pub line-labels : ltb g 2 ≡ true → check.Refused Labels ≡ first (groupLines columns m g)
+  unfolding groupLines first
+  line-labels h = rw h
+
+  pub line-leading : ltb g 2 ≡ false → ltb (leading columns m g) 2 ≡ true → check.Refused Columns ≡ first (groupLines columns m g)
+  unfolding groupLines first
+  line-leading h k = rw (h, k)
+
+  pub line-passed : ltb g 2 ≡ false → ltb (leading columns m g) 2 ≡ false → check.Passed ≡ first (groupLines columns m g)
+  unfolding groupLines first
+  line-passed h k = rw (h, k)
+
+  pub passed-groups : check.Passed ≡ first (groupLines columns m g) → (2 ≤ g) × (2 ≤ leading columns m g)
+  unfolding groupLines
+  passed-groups e =
+      let one = first-passed Labels _ (ltb g 2) e in
+      let two = first-passed Columns _ (ltb (leading columns m g) 2) (one .1) in
+      (ltb-false g 2 (one .0), ltb-false (leading columns m g) 2 (two .0))

@@ -1,0 +1,29 @@
+-- `dapc::check_groups` meets its contract. The lines go by their numbers.
+-- Assumes nothing.
+
+
+
+
+use mathlib.Core.Path.{sym, ap, _∙_}
+use Prim.Native.Nat.{ℕ, _-_}
+use borrow.Author.Needs.{needs}
+use borrow.Author.Tests.{lt-ltb, le-ltb}
+use lib.Dec.{ltb}
+use Rattle.dapc.proofs.Lines.{line-labels, line-leading, line-passed}
+use Rattle.dapc.proofs.check_groups.Statement.{statement}
+use Rattle.dapc.proofs.check_groups.Tie as tie
+
+returns : tie.Need-returns
+returns c = line-labels (c .before .args .columns) (c .before .args .m) (c .before .args .g) (lt-ltb (c .before .args .g) 2 (c .if1 .taken))
+
+leading-of-requires : tie.Need-leading-of-requires
+leading-of-requires c κs = search needs
+
+returns-2 : tie.Need-returns-2
+returns-2 c = line-leading (c .before .before .before .args .columns) (c .before .before .before .args .m) (c .before .before .before .args .g) (le-ltb (c .before .before .before .args .g) 2 (c .before .before .if1 .left)) (ap (λ (k : ℕ). ltb k 2) (sym (c .before .leading-of .ensures)) ∙ lt-ltb (c .before .leading-of .result) 2 (c .if2 .taken))
+
+returns-3 : tie.Need-returns-3
+returns-3 c = line-passed (c .before .before .before .args .columns) (c .before .before .before .args .m) (c .before .before .before .args .g) (le-ltb (c .before .before .before .args .g) 2 (c .before .before .if1 .left)) (ap (λ (k : ℕ). ltb k 2) (sym (c .before .leading-of .ensures)) ∙ le-ltb (c .before .leading-of .result) 2 (c .if2 .left))
+
+pub check-groups-spec : {M : Type 1} → statement M
+check-groups-spec = tie.close (tie.spec returns leading-of-requires returns-2 returns-3)

@@ -1,0 +1,98 @@
+-- Section 5: a whole call of `dapc`, its answer and what all that is lent holds afterwards (document 01, the table and below it). Definitions and statements only.
+use Prim.Native.Nat.{ℕ, _+_, _*_, _≤_}
+use mathlib.Core.Bool.{Bool, not, _&&_, _||_}
+use mathlib.Core.Path.{_≡_}
+use mathlib.Core.List.{List, [], _∷_, _++_}
+use lib.Dec.{eqb, ltb}
+use lib.ListN.{length}
+use lib.Ieee.{Float, neg, le}
+use Rattle.float.specs.Floats.{zero⁺, 2^40}
+use Rattle.lists.specs.Filters.{any}
+use Rattle.outcome.specs.declared.Refusal.{Refusal}
+use Rattle.outcome.specs.declared.Refusal.the-variants.{Length, Limit, Value, Labels, Columns}
+use Rattle.outcome.specs.Refusals.{Line, _when_, first, _of_, short}
+use Rattle.outcome.specs.Outcome.{Outcome, answered, refused, judged, andThen}
+use Rattle.outcome.specs.Slices.{output}
+use Rattle.lot.specs.Kept.{groupEach, keptCount, groupCount}
+use Rattle.moments.specs.Moments.{Numbered}
+use Rattle.dapc.specs.declared.Separation.{Separation}
+use Rattle.dapc.specs.declared.Answer.{Answer}
+use Rattle.dapc.specs.declared.Answer.the-variants.{Scored, Refused}
+use Rattle.dapc.specs.Dapc.{Scores, leading, axesOf, dapc}
+
+-- ---- the lines
+
+-- line 1, for slices of these lengths: coordinates or labels do not fit n, or an output is short
+unfoldable pub misfits : ℕ → ℕ → ℕ → ℕ → ℕ → ℕ → Bool
+misfits n columns x labels out assigned = not (eqb x (n * columns)) || not (eqb labels n) || short ((out of columns + n * columns) ∷ (assigned of n) ∷ [])
+
+-- line 3: a coordinate is NaN or beyond 2^40 in magnitude
+abbrev pub badCoordinate : Float → Bool
+badCoordinate x = not (le (neg 2^40) x && le x 2^40)
+
+-- lines 1 to 3, then 5 and 9, of the table
+unfoldable pub shapeLines : ℕ → ℕ → List Float → ℕ → ℕ → ℕ → List Line
+shapeLines n columns x labels out assigned =
+    (Length when misfits n columns (length x) labels out assigned)
+    ∷ (Limit when ltb 256 n || ltb 16 columns)
+    ∷ (Value when any badCoordinate x)
+    ∷ []
+
+unfoldable pub groupLines : ℕ → ℕ → ℕ → List Line
+groupLines columns m g =
+    (Labels when ltb g 2)
+    ∷ (Columns when ltb (leading columns m g) 2)
+    ∷ []
+
+unfoldable pub dapcLines : ℕ → ℕ → List Float → List ℕ → ℕ → ℕ → List Line
+dapcLines n columns x labels out assigned =
+    shapeLines n columns x (length labels) out assigned ++ groupLines columns (keptCount labels) (groupCount labels)
+
+-- ---- a call
+
+-- the answer, and the outputs afterwards
+pub record Called : Type 0 where
+  pub answer : Outcome Separation
+  pub out : List Float
+  pub assigned : List ℕ
+
+-- what a call leaves, by what is found: one value per axis and then the scores, and a group number for each sample
+unfoldable pub leaves : ℕ → ℕ → ℕ → Outcome Scores → List Float → List ℕ → Called
+leaves n p axes o out assigned = record {
+  answer = andThen o (λ s. answered (record { columns = p; axes = axes; right = s .right }));
+  out = output zero⁺ (λ s. s .values ++ s .scores) (axes + n * axes) o out;
+  assigned = output 0 (λ s. s .assigned) n o assigned;
+}
+
+-- the meaning of a call of `dapc`
+unfoldable pub dapcCall : ℕ → ℕ → List Float → List ℕ → List Float → List ℕ → Called
+dapcCall n columns x labels out assigned =
+    let g = groupCount labels in
+    let p = leading columns (keptCount labels) g in
+    leaves n p (axesOf g p) (judged (first (dapcLines n columns x labels (length out) (length assigned))) (dapc n columns x (groupEach labels) g)) out assigned
+
+-- ---- how a contract says it: the enum that is returned, and what the outputs hold
+
+abbrev pub outcomeOf : Answer → Outcome Separation
+outcomeOf (Scored s) = answered s
+outcomeOf (Refused r) = refused r
+
+abbrev pub called : Answer → List Float → List ℕ → Called
+called r out assigned = record { answer = outcomeOf r; out = out; assigned = assigned }
+
+-- a refusal, with outputs that hold these
+abbrev pub refusal : Refusal → List Float → List ℕ → Called
+refusal r out assigned = record { answer = refused r; out = out; assigned = assigned }
+
+-- ---- below the table: what `discriminate` asks of its arguments, with outputs of these lengths. p columns lead, and there are g groups.
+pub record Ready (columns p axes g : ℕ) (x : List Float) (groups : List ℕ) (out assigned : ℕ) : Type 0 where
+  pub coordinates : length x ≡ length groups * columns
+  pub leads : p ≤ columns
+  pub narrow : p ≤ 16
+  pub two : 2 ≤ g
+  pub most : g ≤ 128
+  pub numbered : Numbered g groups
+  pub few : length groups ≤ 256
+  pub axial : axes ≡ axesOf g p
+  pub room : axes + length groups * axes ≤ out
+  pub places : length groups ≤ assigned

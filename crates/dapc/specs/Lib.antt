@@ -1,0 +1,3 @@
+-- Section 5 of document 01: discriminant scores, `dapc`.
+pub mod Dapc
+pub mod Call
