@@ -9,12 +9,11 @@ use borrow.Author.Tests.{ltb-true, ltb-false}
 use lib.Dec.{ltb}
 use lib.ListN.{length, getD, take, drop, take-append-drop}
 use lib.Seq.{length-take-le, take-suc, drop-append-add, drop-drop}
-use Rattle.lists.specs.Ranges.{upFrom, range, table}
+use Rattle.lists.specs.Ranges.{upFrom, range}
 use Rattle.lists.specs.Filters.{keep, any, firstAt}
 use Rattle.lists.specs.Numbers.{Below}
 use Rattle.lists.specs.Writes.{over}
-use Rattle.lists.proofs.Ranges.{length-table}
-use Rattle.lists.proofs.Writes.{Writing, getD-behind, drop-over}
+use Rattle.lists.proofs.Writes.{drop-over}
 
 -- ---- tests joined
 
@@ -52,23 +51,18 @@ module _ {A : Type 0} where
       ∙ ap (λ (k : ℕ). drop k old) (sym e))
 
   -- a part of the front, put back as r
-  pub over-part : (r l : List A) {m : ℕ} → length r ≡ m → r ++ drop m l ≡ over r l
+  pub over-lent : (r l : List A) {m : ℕ} → length r ≡ m → r ++ drop m l ≡ over r l
   unfolding over
-  over-part r l {m} same = ap (λ (k : ℕ). r ++ drop k l) (sym same)
+  over-lent r l {m} same = ap (λ (k : ℕ). r ++ drop k l) (sym same)
 
   -- the same of a part written before
   pub over-back : (mid old r : List A) {l : List A} {m : ℕ} → l ≡ over mid old → length mid ≡ m → length r ≡ m → r ++ drop m l ≡ over r old
-  over-back mid old r {l} {m} e long same = ap (λ (t : List A). r ++ t) (ap (drop m) e ∙ drop-over mid old m long) ∙ over-part r old same
+  over-back mid old r {l} {m} e long same = ap (λ (t : List A). r ++ t) (ap (drop m) e ∙ drop-over mid old m long) ∙ over-lent r old same
 
   -- the front of a list over the list
   pub over-take : (l : List A) (n : ℕ) → n ≤ length l → over (take n l) l ≡ l
   unfolding over
   over-take l n h = ap (λ (k : ℕ). take n l ++ drop k l) (length-take-le n l h) ∙ take-append-drop n l
-
-  -- a loop that writes over all of a list has not yet come to place i
-  pub writing-here : (f : ℕ → A) (old : List A) {l : List A} {i : ℕ} (d : A) → Writing f old l i → getD l i d ≡ getD old i d
-  writing-here f old {l} {i} d w =
-      ap (λ (t : List A). getD t i d) (w .held) ∙ getD-behind (table i f) old i d (omega (arith, length-table f i))
 
   -- a search that ends before the end has found one
   pub any-found : (p : A → Bool) (l : List A) → firstAt p l < length l → any p l ≡ true

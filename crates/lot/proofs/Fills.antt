@@ -4,13 +4,13 @@ use mathlib.Core.Bool.{Bool, true, false}
 use mathlib.Core.List.{List, [], _∷_, _++_}
 use Prim.Native.Nat.{ℕ, _+_, _<_, _≤_}
 use native.Mathlib.Omega.{arith}
-use lib.ListN.{length, take, set, length-append, length-set}
+use lib.ListN.{length, take, set, length-append}
 use lib.Seq.{length-take-le}
-use Rattle.lists.specs.Ranges.{range, table}
+use Rattle.lists.specs.Ranges.{range}
 use Rattle.lists.specs.Filters.{keep}
 use Rattle.lists.specs.Writes.{over}
 use Rattle.lists.proofs.Filters.{kept-last-yes, kept-last-no}
-use Rattle.lists.proofs.Writes.{over-none, over-next, length-over, take-over, table-none, table-next}
+use Rattle.lists.proofs.Writes.{over-none, over-next, length-over, take-over}
 use Rattle.lot.specs.Filled.{Filled}
 use Rattle.lot.proofs.Extra.{over-over, over-take}
 
@@ -56,24 +56,3 @@ module _ (p : ℕ → Bool) (old : List ℕ) {out out′ : List ℕ} {k k′ : �
 
   pub keeping-no : p i ≡ false → out′ ≡ out → k′ ≡ k → Filled (keep p (range 0 (i + 1))) old out′ k′
   keeping-no e at one = rw (at, one) (filled-as old (sym (kept-last-no p 0 i (omega arith) e)) f)
-
--- ---- a loop that writes the first n entries by a rule: k are written
-
-pub record Fronting {A : Type 0} (f : ℕ → A) (n : ℕ) (old l : List A) (k : ℕ) : Type 0 where
-  pub most : k ≤ n
-  pub long : length l ≡ length old
-  pub held : l ≡ over (table k f) old
-
-module _ {A : Type 0} (f : ℕ → A) (n : ℕ) (old : List A) where
-  pub fronting-none : Fronting f n old old 0
-  fronting-none = record { most = omega arith; long = refl; held = table-none f old }
-
-  pub fronting-next : {l : List A} {k : ℕ} {x : A} → Fronting f n old l k → k < n → n ≤ length old → x ≡ f k → Fronting f n old (set l k x) (k + 1)
-  fronting-next {l} {k} {x} w h room e = record {
-    most = omega arith;
-    long = length-set l k x ∙ w .long;
-    held = table-next f old k (w .held) e (omega arith);
-  }
-
-  pub fronting-all : {l : List A} {k : ℕ} → Fronting f n old l k → n ≤ k → l ≡ over (table n f) old
-  fronting-all {l} {k} w h = let done : k ≡ n = omega (arith, w .most) in w .held ∙ ap (λ (j : ℕ). over (table j f) old) done

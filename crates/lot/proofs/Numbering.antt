@@ -15,13 +15,13 @@ use Rattle.lists.specs.Numbers.{howMany, stands, position, firsts}
 use Rattle.lists.specs.Writes.{over, cleared}
 use Rattle.lists.proofs.Ranges.{length-table}
 use Rattle.lists.proofs.Filters.{keep-last-yes, keep-last-no, length-keep, countIf-below, countIf-append, countIf-yes, countIf-no}
-use Rattle.lists.proofs.Writes.{Writing, writing-none, writing-next, writing-all}
+use Rattle.lists.proofs.Writes.{Writing, writing-none, writing-next, writing-here, writing-all}
 use Rattle.lot.specs.Lot.{none}
 use Rattle.lot.specs.Filled.{Filled}
 use Rattle.lot.specs.Kept.{gathered}
 use Rattle.lot.specs.Strata.{named, noted, numbered}
 use Rattle.lot.specs.Described.{Stratified}
-use Rattle.lot.proofs.Extra.{over-part, over-back, getD-either, take-more, writing-here}
+use Rattle.lot.proofs.Extra.{over-lent, over-back, getD-either, take-more}
 use Rattle.lot.proofs.Membership.{see}
 use Rattle.lot.proofs.Fills.{filled-none, filled-take, filled-as, filled-more, filled-over, filled-front}
 use Rattle.lot.proofs.Samples.{front-gathered, length-gathered}
@@ -180,7 +180,7 @@ module _ (given ks out : List ℕ) {stratified : Bool} {r : List ℕ} where
   stratified-one is room e =
       let zeros : r ≡ map (λ (i : ℕ). 0) ks = e ∙ ap (λ (n : ℕ). replicate n 0) (length-take-le (length ks) out room) ∙ sym (zeros-map ks) in
       let many : length r ≡ length ks = ap length zeros ∙ length-map ks (λ (i : ℕ). zero) in
-      rw is (record { numbers = over-part r out many ∙ ap (λ (t : List ℕ). over t out) zeros; count = refl })
+      rw is (record { numbers = over-lent r out many ∙ ap (λ (t : List ℕ). over t out) zeros; count = refl })
     where
       zeros-map : (l : List ℕ) → map {B = ℕ} (λ (i : ℕ). 0) l ≡ replicate (length l) 0
       zeros-map [] = refl

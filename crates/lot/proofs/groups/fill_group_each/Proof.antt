@@ -1,28 +1,28 @@
 -- `lot::groups::fill_group_each` meets its contract. After i turns the first i entries stand. Assumes nothing.
-use mathlib.Core.Path.{sym, ap, _∙_}
+use mathlib.Core.Path.{_≡_, sym, ap, _∙_}
 use mathlib.Core.Bool.{cond}
 use mathlib.Core.List.{List, map}
-use Prim.Native.Nat.{ℕ, _-_}
+use Prim.Native.Nat.{ℕ, _-_, _≤_}
 use native.Mathlib.Omega.{arith}
 use lib.ListN.{length, getD}
 use Rattle.lists.specs.Numbers.{stands, position}
 use Rattle.lists.specs.Writes.{over}
 use Rattle.lists.proofs.Ranges.{map-table}
+use Rattle.lists.proofs.Writes.{Writing, writing-none, writing-next, writing-front}
 use Rattle.lot.specs.Lot.{none}
 use Rattle.lot.specs.Kept.{groupEach}
-use Rattle.lot.proofs.Fills.{Fronting, fronting-none, fronting-next, fronting-all}
 use Rattle.lot.proofs.Samples.{names-few}
 use Rattle.lot.proofs.groups.fill_group_each.Statement.{statement}
 use Rattle.lot.proofs.groups.fill_group_each.Tie as tie
 
 abbrev Inv-loop : tie.InvT-loop
-Inv-loop labels ns out₀ i₀ i-end out i = Fronting (λ j. cond (stands (getD labels j 0) ns) (position (getD labels j 0) ns) none) (length labels) out₀ out i
+Inv-loop labels ns out₀ i₀ i-end out i = (i ≤ length labels) × Writing (λ j. cond (stands (getD labels j 0) ns) (position (getD labels j 0) ns) none) out₀ out i
 
 abbrev μ-loop : tie.MeasureT-loop
 μ-loop labels ns out₀ i₀ i-end out i = length labels - i
 
 loop-holds : tie.Need-loop-holds Inv-loop μ-loop
-loop-holds c = fronting-none _ _ _
+loop-holds c = (omega arith, writing-none _ _)
 
 mul-group-of : tie.Need-mul-group-of Inv-loop μ-loop
 mul-group-of c = omega arith
@@ -38,12 +38,12 @@ group-of-requires c κs =
 mul-out : tie.Need-mul-out Inv-loop μ-loop
 mul-out c =
     let start = c .before .before .before .before .before .before .before in
-    omega (arith, c .before .before .before .loop .inv .long, start .pre .2)
+    omega (arith, c .before .before .before .loop .inv .1 .long, start .pre .2)
 
 slice-write-out : tie.Need-slice-write-out Inv-loop μ-loop
 slice-write-out c =
     let start = c .before .before .before .before .before .before .before in
-    omega (arith, c .before .before .before .loop .inv .long, start .pre .2)
+    omega (arith, c .before .before .before .loop .inv .1 .long, start .pre .2)
 
 add-i : tie.Need-add-i Inv-loop μ-loop
 add-i c = omega arith
@@ -53,14 +53,13 @@ loop-less c = omega arith
 
 loop-again : tie.Need-loop-again Inv-loop μ-loop
 loop-again c =
-    let at-loop = c .before .before .before in
-    let start = at-loop .before .before .before .before in
+    let start = c .before .before .before .before .before .before .before in
     let labels = start .args .labels .now in
     let ns = start .args .ns .now in
-    fronting-next (λ j. cond (stands (getD labels j 0) ns) (position (getD labels j 0) ns) none) _ _ (at-loop .loop .inv) (c .before .before .loop-test .taken) (start .pre .2) (c .group-of .ensures)
+    (omega arith, writing-next (λ j. cond (stands (getD labels j 0) ns) (position (getD labels j 0) ns) none) _ (c .before .before .before .loop .inv .1) (omega arith) (c .group-of .ensures))
 
 same-length : tie.Need-same-length Inv-loop μ-loop
-same-length c = c .before .loop .inv .long
+same-length c = c .before .loop .inv .1 .long
 
 returns : tie.Need-returns Inv-loop μ-loop
 unfolding groupEach
@@ -69,7 +68,8 @@ returns c =
     let labels = start .args .labels .now in
     let ns = start .args .ns .now in
     let each : List ℕ → ℕ → ℕ = λ ms l. cond (stands l ms) (position l ms) none in
-    fronting-all (λ j. each ns (getD labels j 0)) _ _ (c .before .loop .inv) (c .loop-test .left)
+    let end : c .before .loop .i ≡ length labels = omega arith in
+    writing-front (λ j. each ns (getD labels j 0)) _ (c .before .loop .inv .1) end
     ∙ ap (λ (t : List ℕ). over t (start .args .out .now)) (sym (map-table (each ns) labels 0) ∙ ap (λ (ms : List ℕ). map (each ms) labels) (start .pre .1))
 
 pub fill-group-each-spec : {M : Type 1} → statement M
