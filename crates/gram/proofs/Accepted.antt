@@ -131,6 +131,7 @@ refusal-untouched (line ∷ lines) r u e = one (line .holds) e (λ q. refusal-un
     refusalOf : Check → Refusal
     refusalOf Passed = r
     refusalOf (Refused q) = q
+
     one : (b : Bool) → cond b (Refused (line .returned)) (first lines) ≡ Refused r → (first lines ≡ Refused r → untouched r ≡ true) → untouched r ≡ true
     one true q f = ap (λ (c : Check). untouched (refusalOf c)) (sym q) ∙ u .0
     one false q f = f q

@@ -4,10 +4,10 @@
 use outcome::Check;
 use outcome::Refusal;
 
-pub mod choose;
-pub mod fill;
-pub mod lines;
-pub mod rows;
+mod choose;
+mod fill;
+mod lines;
+mod rows;
 
 ghost use mathlib.Core.Path.{_≡_};
 ghost use Prim.Native.Nat.{_*_, _≤_, min};

@@ -69,12 +69,13 @@ slice-aggregate-fill-gram-2 c = sym (length-take-le (c .before .before .before .
 
 fill-gram-requires : tie.Need-fill-gram-requires
 fill-gram-requires c κs =
-    let a = c .before .before .before .before .before .before .before .before .before .before .before .before .before .before .before .before .before .before .before .before .before .before .before .before .before .before .before .args in
+    let s = c .before .before .before .before .before .before .before .before .before .before .before .before .before .before .before .before .before .before .before .before .before .before .before .before .before .before .before in
+    let a = s .args in
     let t = told (c .before .before .before .before .before) in
     let k = length-take-le (length (a .hashes .now)) (c .before .before .before .before .before .before .before .before .before .before .before .before .before .before .check-gram .last .1 .0) (t .2) in
     let m = length-take-le (c .before .before .before .before .before .before .a .given .0 .0) (c .before .before .before .before .before .before .before .before .before .before .before .before .before .before .check-gram .last .1 .1 .0) (t .3) in
     let room = long-enough (a .n) (length (a .out .now)) (length (a .words .now)) (sym (c .before .before .before .before .before .before .before .before .before .before .before .before .before .before .before .before .before .before .too-short .ensures) ∙ t .0 .enough) in
-    ((subst (Offsets (a .n) (a .offsets .now)) (sym k) (t .0 .sets), omega (arith, t .1)), (room .0, room .1, omega (arith, t .0 .few, c .before .before .before .before .before .before .before .before .before .before .before .before .before .before .before .before .before .before .before .before .before .before .before .before .before .before .before .pre .1 .1)))
+    ((subst (Offsets (a .n) (a .offsets .now)) (sym k) (t .0 .sets), omega (arith, t .1)), (room .0, room .1, omega (arith, t .0 .few, s .pre .1 .1)))
 
 same-length-4 : tie.Need-same-length-4
 same-length-4 c = search needs
