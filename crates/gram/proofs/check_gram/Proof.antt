@@ -4,7 +4,6 @@ use Prim.Native.Nat.{_≤_}
 use native.Mathlib.Omega.{arith}
 use lib.ListN.{length}
 use lib.Seq.{length-take-le, take-at}
-use Rattle.outcome.specs.Refusals.{short}
 use Rattle.gram.proofs.Accepted.{early-passed, checked-early, checked-late}
 use borrow.Author.Needs.{needs}
 use Rattle.gram.proofs.check_gram.Statement.{statement}
@@ -73,9 +72,10 @@ returns-2 c =
     let a = s .args in
     let k = length (a .hashes .now) in
     let p = passed (c .before .before .before .before .before .before .before .before .before .before .before) in
-    let long = c .before .before .before .before .before .before .before .choose .kept .1 .0 ∙ length-take-le k (a .columns .now) (omega arith) in
-    let front = take-at (c .before .before .before .before .before .before .before .choose .last .1 .0) _ k long in
-    checked-late (a .n) (a .hashes .now) (a .offsets .now) (a .short) (a .beyond) (sym (c .before .before .before .before .before .before .before .before .before .before .before .enum-told .given .1) ∙ c .before .before .before .before .before .before .before .before .before .before .before .before .before .early .ensures) (c .before .before .before .before .before .before .before .choose .ensures) (c .late .ensures) front (s .pre .2)
+    let asked = sym (c .before .before .before .before .before .before .before .before .before .before .before .enum-told .given .1) ∙ c .before .before .before .before .before .before .before .before .before .before .before .before .before .early .ensures in
+    let call = c .before .before .before .before .before .before .before .choose in
+    let long = call .kept .1 .0 ∙ length-take-le k (a .columns .now) (omega arith) in
+    checked-late (a .n) (a .hashes .now) (a .offsets .now) (a .short) (a .beyond) asked (call .ensures) (c .late .ensures) (take-at (call .last .1 .0) _ k long) (s .pre .2)
 
 pub check-gram-spec : {M : Type 1} → statement M
 check-gram-spec =

@@ -62,8 +62,12 @@ returns c =
     let a = s .args in
     let m = length (a .means .now) in
     let r = room (a .n) m (length (a .words .now)) (s .pre .0 .1) (s .pre .1 .1) in
-    let matrix = matrix-is (a .n) ((m + 63) / 64) (a .columns .now) (a .offsets .now) (a .means .now) (r .1) (a .words .now) (c .before .before .before .before .before .before .before .before .before .before .before .before .before .mark-sets .ensures) (a .sums .now) (c .before .before .before .before .before .before .before .before .before .before .before .before .before .before .before .before .before .mean-sums .ensures) (c .before .before .before .before .before .before .before .before .before .before .square-sum .ensures) in
-    (c .before .before .before .before .before .before .fill .ensures ∙ ap (λ (g : List Float). over g (a .out .now)) matrix, c .before .before .clear .ensures ∙ ap (λ (k : ℕ). replicate k 0) (c .before .before .before .before .before .before .before .before .before .before .before .before .before .mark-sets .kept .0))
+    let bits = c .before .before .before .before .before .before .before .before .before .before .before .before .before .mark-sets in
+    let summed = c .before .before .before .before .before .before .before .before .before .before .before .before .before .before .before .before .before .mean-sums .ensures in
+    let squares = c .before .before .before .before .before .before .before .before .before .before .square-sum .ensures in
+    let filled = c .before .before .before .before .before .before .fill .ensures in
+    let matrix = matrix-is (a .n) ((m + 63) / 64) (a .columns .now) (a .offsets .now) (a .means .now) (r .1) (a .words .now) (bits .ensures) (a .sums .now) summed squares in
+    (filled ∙ ap (λ (g : List Float). over g (a .out .now)) matrix, c .before .before .clear .ensures ∙ ap (λ (k : ℕ). replicate k 0) (bits .kept .0))
 
 pub fill-gram-spec : {M : Type 1} → statement M
 fill-gram-spec =
