@@ -1,7 +1,6 @@
 -- The lines of the table: what holds of sets that no line turns away, and that the lines may be asked in two parts. Assumes nothing.
 use mathlib.Core.Path.{_≡_, refl, sym, ap, ap₂, _∙_, subst}
 use mathlib.Core.Bool.{Bool, true, false, not, _||_, cond}
-use mathlib.Core.Logic.{_⊎_, inl, inr, ⊎-elim}
 use mathlib.Core.List.{List, map}
 use Prim.Native.Nat.{ℕ, zero, suc, _+_, _-_, _*_, _<_, _≤_}
 use native.Mathlib.Nat.{le-refl}
@@ -12,10 +11,8 @@ use lib.ListN.{length, getD, take, replicate, length-map}
 use lib.Seq.{take-all}
 use lib.Ieee.{Float}
 use Rattle.float.specs.Floats.{zero⁺}
-use Rattle.lists.specs.Ranges.{upFrom, range}
 use Rattle.lists.specs.Filters.{any}
 use Rattle.lists.specs.Writes.{over, cleared}
-use Rattle.lists.proofs.Ranges.{range-upFrom}
 use Rattle.outcome.specs.declared.Refusal.{Refusal}
 use Rattle.outcome.specs.declared.Refusal.the-variants.{Length, Limit, Ordination, Hashes}
 use Rattle.outcome.specs.declared.Check.{Check}
@@ -29,31 +26,11 @@ use Rattle.gram.specs.Gram.{selected, frequency, gram}
 use Rattle.gram.specs.Lines.{falls, badOffsets, tooShort, gramLines, earlyLines, lateLines}
 use Rattle.gram.specs.Columns.{Chosen, Offsets, columnGram}
 use Rattle.gram.specs.Call.{features, outcomeOf, Checked, Called, leaves, gramCall, called}
-use Rattle.sorting.proofs.Extra.{order}
-use Rattle.gram.proofs.Extra.{same-or-not}
+use Rattle.gram.proofs.Extra.{or-no, any-no}
 use Rattle.gram.proofs.Tables.{lines-pass, early-refuses, early-passes, refusal-untouched, answers, judged-passes, judged-refused}
 use Rattle.gram.proofs.Columns.{gram-is}
 
 -- ---- offsets that are not bad
-
-or-no : (a b : Bool) → (a || b) ≡ false → (a ≡ false) × (b ≡ false)
-or-no true b e = let z : _≡_ {A = ℕ} 1 0 = ap (λ (t : Bool). cond t 1 0) e in absurd (omega arith)
-or-no false b e = (refl, e)
-
-any-from : (p : ℕ → Bool) (k lo : ℕ) → any p (upFrom lo k) ≡ false → (i : ℕ) → lo ≤ i → i < lo + k → p i ≡ false
-unfolding upFrom any
-any-from p zero lo e i g h = absurd (omega arith)
-any-from p (suc k) lo e i g h = one (same-or-not lo i) (or-no (p lo) (any p (upFrom (suc lo) k)) e) (λ d q. any-from p k (suc lo) q i (later d) (omega arith))
-  where
-    later : (lo ≡ i → ⊥) → suc lo ≤ i
-    later d = ⊎-elim (λ (q : suc lo ≤ i). q) (λ (q : i < suc lo). absurd (d (omega arith))) (order (suc lo) i)
-
-    one : (lo ≡ i) ⊎ (lo ≡ i → ⊥) → (p lo ≡ false) × (any p (upFrom (suc lo) k) ≡ false) → ((lo ≡ i → ⊥) → any p (upFrom (suc lo) k) ≡ false → p i ≡ false) → p i ≡ false
-    one (inl q) b r = ap p (sym q) ∙ b .0
-    one (inr d) b r = r d (b .1)
-
-any-no : (p : ℕ → Bool) (n : ℕ) → any p (range 0 n) ≡ false → (i : ℕ) → i < n → p i ≡ false
-any-no p n e i h = any-from p n 0 (ap (any p) (sym (range-upFrom n)) ∙ e) i (omega arith) (omega arith)
 
 -- numbers that never fall
 climbs : (o : ℕ → ℕ) (n : ℕ) → ((i : ℕ) → i < n → o i ≤ o (i + 1)) → (j k : ℕ) → j + k ≤ n → o j ≤ o (j + k)
