@@ -1,8 +1,7 @@
 -- The lines of the table: what holds of sets that no line turns away, and that the lines may be asked in two parts. Assumes nothing.
 use mathlib.Core.Path.{_≡_, refl, sym, ap, ap₂, _∙_, subst}
 use mathlib.Core.Bool.{Bool, true, false, not, _||_, cond}
-use mathlib.Core.Logic.{_⊎_, inl, inr, ⊎-elim}
-use mathlib.Core.List.{List, [], _∷_, _++_, map}
+use mathlib.Core.List.{List, map}
 use Prim.Native.Nat.{ℕ, zero, suc, _+_, _-_, _*_, _<_, _≤_}
 use native.Mathlib.Nat.{le-refl}
 use native.Mathlib.Omega.{arith}
@@ -12,15 +11,13 @@ use lib.ListN.{length, getD, take, replicate, length-map}
 use lib.Seq.{take-all}
 use lib.Ieee.{Float}
 use Rattle.float.specs.Floats.{zero⁺}
-use Rattle.lists.specs.Ranges.{upFrom, range}
 use Rattle.lists.specs.Filters.{any}
 use Rattle.lists.specs.Writes.{over, cleared}
-use Rattle.lists.proofs.Ranges.{range-upFrom}
 use Rattle.outcome.specs.declared.Refusal.{Refusal}
 use Rattle.outcome.specs.declared.Refusal.the-variants.{Length, Limit, Ordination, Hashes}
 use Rattle.outcome.specs.declared.Check.{Check}
 use Rattle.outcome.specs.declared.Check.the-variants.{Passed, Refused}
-use Rattle.outcome.specs.Refusals.{Line, _when_, first, short}
+use Rattle.outcome.specs.Refusals.{_when_, first, short}
 use Rattle.outcome.specs.Outcome.{Outcome, answered, refused, judged}
 use Rattle.outcome.specs.Slices.{untouched, output, work}
 use Rattle.gram.specs.declared.Answer.{Answer}
@@ -29,30 +26,11 @@ use Rattle.gram.specs.Gram.{selected, frequency, gram}
 use Rattle.gram.specs.Lines.{falls, badOffsets, tooShort, gramLines, earlyLines, lateLines}
 use Rattle.gram.specs.Columns.{Chosen, Offsets, columnGram}
 use Rattle.gram.specs.Call.{features, outcomeOf, Checked, Called, leaves, gramCall, called}
-use Rattle.sorting.proofs.Extra.{order}
-use Rattle.gram.proofs.Extra.{same-or-not}
+use Rattle.gram.proofs.Extra.{or-no, any-no}
+use Rattle.gram.proofs.Tables.{lines-pass, early-refuses, early-passes, refusal-untouched, answers, judged-passes, judged-refused}
 use Rattle.gram.proofs.Columns.{gram-is}
 
 -- ---- offsets that are not bad
-
-or-no : (a b : Bool) → (a || b) ≡ false → (a ≡ false) × (b ≡ false)
-or-no true b e = let z : _≡_ {A = ℕ} 1 0 = ap (λ (t : Bool). cond t 1 0) e in absurd (omega arith)
-or-no false b e = (refl, e)
-
-any-from : (p : ℕ → Bool) (k lo : ℕ) → any p (upFrom lo k) ≡ false → (i : ℕ) → lo ≤ i → i < lo + k → p i ≡ false
-unfolding upFrom any
-any-from p zero lo e i g h = absurd (omega arith)
-any-from p (suc k) lo e i g h = one (same-or-not lo i) (or-no (p lo) (any p (upFrom (suc lo) k)) e) (λ d q. any-from p k (suc lo) q i (later d) (omega arith))
-  where
-    later : (lo ≡ i → ⊥) → suc lo ≤ i
-    later d = ⊎-elim (λ (q : suc lo ≤ i). q) (λ (q : i < suc lo). absurd (d (omega arith))) (order (suc lo) i)
-
-    one : (lo ≡ i) ⊎ (lo ≡ i → ⊥) → (p lo ≡ false) × (any p (upFrom (suc lo) k) ≡ false) → ((lo ≡ i → ⊥) → any p (upFrom (suc lo) k) ≡ false → p i ≡ false) → p i ≡ false
-    one (inl q) b r = ap p (sym q) ∙ b .0
-    one (inr d) b r = r d (b .1)
-
-any-no : (p : ℕ → Bool) (n : ℕ) → any p (range 0 n) ≡ false → (i : ℕ) → i < n → p i ≡ false
-any-no p n e i h = any-from p n 0 (ap (any p) (sym (range-upFrom n)) ∙ e) i (omega arith) (omega arith)
 
 -- numbers that never fall
 climbs : (o : ℕ → ℕ) (n : ℕ) → ((i : ℕ) → i < n → o i ≤ o (i + 1)) → (j k : ℕ) → j + k ≤ n → o j ≤ o (j + k)
@@ -83,57 +61,6 @@ offsets-fit n hashes offsets e =
     bounded o j h e g = let same : j + (n - j) ≡ n = omega arith in subst (λ (k : ℕ). o j ≤ k) e (subst (λ (k : ℕ). o j ≤ o k) same h)
 
 -- ---- no line holds
-
-abbrev passed : Check → Bool
-passed Passed = true
-passed (Refused r) = false
-
-wrong : {A : Type 0} (r : Refusal) → Refused r ≡ Passed → A
-wrong r e = let z : _≡_ {A = ℕ} 0 1 = ap (λ (t : Check). cond (passed t) 1 0) e in absurd (omega arith)
-
--- the first line does not hold, and neither does any other
-lines-pass : (line : Line) (lines : List Line) → first (line ∷ lines) ≡ Passed → (line .holds ≡ false) × (first lines ≡ Passed)
-unfolding first
-lines-pass line lines e = one (line .holds) e
-  where
-    one : (b : Bool) → cond b (Refused (line .returned)) (first lines) ≡ Passed → (b ≡ false) × (first lines ≡ Passed)
-    one true q = wrong (line .returned) q
-    one false q = (refl, q)
-
--- lines asked in two parts: the first refuses, or leaves it to the second
-early-refuses : (xs ys : List Line) (r : Refusal) → first xs ≡ Refused r → first (xs ++ ys) ≡ Refused r
-unfolding first
-early-refuses [] ys r e = wrong r (sym e)
-early-refuses (line ∷ xs) ys r e = one (line .holds) e (λ q. early-refuses xs ys r q)
-  where
-    one : (b : Bool) → cond b (Refused (line .returned)) (first xs) ≡ Refused r → (first xs ≡ Refused r → first (xs ++ ys) ≡ Refused r)
-        → cond b (Refused (line .returned)) (first (xs ++ ys)) ≡ Refused r
-    one true q f = q
-    one false q f = f q
-
-early-passes : (xs ys : List Line) → first xs ≡ Passed → first (xs ++ ys) ≡ first ys
-unfolding first
-early-passes [] ys e = refl
-early-passes (line ∷ xs) ys e =
-    let p = lines-pass line xs e in
-    ap (λ (b : Bool). cond b (Refused (line .returned)) (first (xs ++ ys))) (p .0) ∙ early-passes xs ys (p .1)
-
--- where each line leaves everything untouched, so does the refusal
-abbrev Untouched : List Line → Type 0
-Untouched [] = Unit
-Untouched (line ∷ lines) = (untouched (line .returned) ≡ true) × Untouched lines
-
-refusal-untouched : (lines : List Line) (r : Refusal) → Untouched lines → first lines ≡ Refused r → untouched r ≡ true
-unfolding first
-refusal-untouched [] r u e = wrong r (sym e)
-refusal-untouched (line ∷ lines) r u e = one (line .holds) e (λ q. refusal-untouched lines r (u .1) q)
-  where
-    refusalOf : Check → Refusal
-    refusalOf Passed = r
-    refusalOf (Refused q) = q
-    one : (b : Bool) → cond b (Refused (line .returned)) (first lines) ≡ Refused r → (first lines ≡ Refused r → untouched r ≡ true) → untouched r ≡ true
-    one true q f = ap (λ (c : Check). untouched (refusalOf c)) (sym q) ∙ u .0
-    one false q f = f q
 
 pub record Accepted (n : ℕ) (hashes offsets : List ℕ) (short beyond : Bool) : Type 0 where
   pub sets : Offsets n offsets (length hashes)
@@ -199,18 +126,6 @@ module _ (n : ℕ) (hashes offsets : List ℕ) (short beyond : Bool) where
 
 -- ---- an answer is a number of hashes only where the lines pass
 
-abbrev answers : {A : Type 0} → Outcome A → Bool
-answers (answered a) = true
-answers (refused r) = false
-
-abbrev numberOf : Outcome ℕ → ℕ
-numberOf (answered m) = m
-numberOf (refused r) = 0
-
-judged-passes : (c : Check) (m k : ℕ) → answered m ≡ judged c (answered k) → (c ≡ Passed) × (m ≡ k)
-judged-passes Passed m k e = (refl, ap numberOf e)
-judged-passes (Refused r) m k e = let z : _≡_ {A = ℕ} 1 0 = ap (λ (t : Outcome ℕ). cond (answers t) 1 0) e in absurd (omega arith)
-
 late-passes : (m k : ℕ) → answered m ≡ judged (first (lateLines k)) (answered k) → (m ≡ k) × (k ≤ 4096)
 unfolding lateLines
 late-passes m k e =
@@ -265,14 +180,6 @@ module _ (n : ℕ) (hashes offsets : List ℕ) (short beyond : Bool) where
       ap₂ (λ (x : List ℕ) (y : List Float). columnGram n x offsets y) (c .placed m e) (c .averages m e) ∙ gram-is n hashes offsets (checked-answer c e .1 .most)
 
 -- ---- `gram_matrix`
-
-judged-refused : (c : Check) (r : Refusal) (m : ℕ) → refused r ≡ judged c (answered m) → c ≡ Refused r
-judged-refused Passed r m e = let z : _≡_ {A = ℕ} 0 1 = ap (λ (o : Outcome ℕ). cond (answers o) 1 0) e in absurd (omega arith)
-judged-refused (Refused q) r m e = ap Refused (ap (refusalOr q) (sym e))
-  where
-    refusalOr : Refusal → Outcome ℕ → Refusal
-    refusalOr d (answered k) = d
-    refusalOr d (refused k) = k
 
 pub long-enough : (n out words : ℕ) → tooShort n out words ≡ false → (n * n ≤ out) × (n * 64 ≤ words)
 unfolding tooShort short any

@@ -12,6 +12,7 @@ use lib.Seq.{drop-set-lt, drop-set-add, take-set-le}
 use Rattle.lists.specs.Filters.{countIf}
 use Rattle.lists.specs.Ranges.{range, table}
 use Rattle.lists.proofs.Ranges.{table-range}
+use Rattle.gram.proofs.Extra.{drop-map}
 use Rattle.gram.specs.Bits.{bit, pack, packed, common}
 
 -- ---- one word
@@ -125,11 +126,6 @@ pub both-table : (p q : ℕ → Bool) (m : ℕ) → both (table m p) (table m q)
 both-table p q m = ap₂ both (table-range p m) (table-range q m) ∙ both-map p q (range 0 m)
 
 -- no bit set
-drop-map : {A B : Type 0} (f : A → B) (d : ℕ) (l : List A) → drop d (map f l) ≡ map f (drop d l)
-drop-map f zero l = refl
-drop-map f (suc d) [] = refl
-drop-map f (suc d) (x ∷ l) = drop-map f d l
-
 pack-none : (d : ℕ) (l : List ℕ) → pack d (map (λ h. false) l) ≡ 0
 unfolding pack
 pack-none zero l = refl

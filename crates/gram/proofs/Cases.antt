@@ -1,4 +1,4 @@
--- Case (j) of document 01: sets {5}, {5}, {}, {}. Assumes nothing.
+-- Worked sets as theorems: case (j) of document 01, and a set with repeats. Assumes nothing.
 use Prim.Native.Nat.{ℕ, _≤_}
 use mathlib.Core.Path.{_≡_, refl}
 use mathlib.Core.List.{List, [], _∷_, map}
@@ -17,6 +17,8 @@ use Rattle.outcome.specs.Slices.{output, work}
 use Rattle.gram.specs.Gram.{setAt, sets, selected, frequency, meanSum, shared, gram}
 use Rattle.gram.specs.Lines.{falls, badOffsets, tooShort, earlyLines, lateLines, gramLines}
 use Rattle.gram.specs.Call.{features, leaves, gramCall}
+
+-- ---- case (j): sets {5}, {5}, {}, {}
 
 abbrev hashes : List ℕ
 hashes = 5 ∷ 5 ∷ []
@@ -39,3 +41,8 @@ pub case-j-call : (out : List Float) (words : List ℕ) → 16 ≤ length out �
     → gramCall 4 hashes offsets out words ≡ leaves (answered 1) (over (gram 4 hashes offsets) out) (cleared 0 words)
 unfolding gramCall features output work first earlyLines lateLines gramLines badOffsets falls tooShort short upFrom range keep countIf any howMany insertUp upward selected
 case-j-call out words h k = rw (le-ltb (length out) 16 h, le-ltb (length words) 256 k)
+
+-- ---- every occurrence counts: of the sets {1, 1, 2}, {2, 3}, {3}, {9} the hash 1 has frequency 2, in one set, and is selected; 9 is not
+pub repeats-count : selected 4 (1 ∷ 1 ∷ 2 ∷ 2 ∷ 3 ∷ 3 ∷ 9 ∷ []) ≡ 1 ∷ 2 ∷ 3 ∷ []
+unfolding keep countIf howMany insertUp upward selected
+repeats-count = refl

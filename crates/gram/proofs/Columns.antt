@@ -3,43 +3,29 @@ use mathlib.Core.Path.{_≡_, refl, sym, ap, ap₂, _∙_}
 use mathlib.Core.Bool.{Bool, true, false, _&&_, _||_, cond}
 use mathlib.Core.Logic.{_⊎_, inl, inr}
 use mathlib.Core.List.{List, [], _∷_, map}
-use Prim.Native.Nat.{ℕ, zero, suc, _+_, _-_, _*_, _<_, _≤_, min, max}
+use Prim.Native.Nat.{ℕ, _+_, _-_, _*_, _<_, _≤_, min, max}
 use native.Mathlib.Omega.{arith}
 use borrow.Author.Tests.{eq-eqb, ne-eqb, lt-ltb, le-ltb}
 use lib.Dec.{eqb, ltb}
 use lib.ListN.{length, getD, take, drop, length-map}
 use lib.Ieee.{Float, nan}
 use Rattle.float.specs.Floats.{_⊕_, _⊖_, num, zero⁻}
-use Rattle.lists.specs.Ranges.{upFrom, range, table, rows, grid}
+use Rattle.lists.specs.Ranges.{range, table, rows, grid}
 use Rattle.lists.specs.Filters.{keep, countIf, any, firstAt}
 use Rattle.lists.specs.Numbers.{stands, position}
 use Rattle.lists.specs.Rows.{row}
 use Rattle.lists.specs.Sums.{sumFrom}
 use Rattle.lists.specs.Writes.{over}
-use Rattle.lists.proofs.Ranges.{length-table, getD-table, table-ext, rows-ext, range-upFrom}
+use Rattle.lists.proofs.Ranges.{length-table, getD-table}
 use Rattle.lists.proofs.Filters.{drop-more}
 use Rattle.lists.proofs.Writes.{getD-over}
 use Rattle.sorting.proofs.Extra.{count-places}
 use Rattle.gram.specs.Gram.{setAt, sets, selected, frequency, meanSum, shared, gram}
 use Rattle.gram.specs.Bits.{packed, common}
 use Rattle.gram.specs.Columns.{none, columnOf, square, columnSum, present, entryAt, columnGram}
-use Rattle.gram.proofs.Extra.{same-or-not, row-rows}
+use Rattle.gram.proofs.Extra.{same-or-not, row-rows, never, stands-cons, drop-map, take-map, getD-map-in, count-below, grid-ext}
 use Rattle.gram.proofs.Bits.{common-packed, both-table, length-packed}
-use Rattle.gram.proofs.Upward.{Upward, never, stands-cons, upward-upward, position-at, stands-at}
-use Rattle.gram.proofs.Scans.{drop-map}
-
-grid-ext : {A : Type 0} (f g : ℕ → ℕ → A) (n w : ℕ) → ((i j : ℕ) → i < n → j < w → f i j ≡ g i j) → grid n w f ≡ grid n w g
-unfolding grid
-grid-ext f g n w e = rows-ext (λ i. table w (f i)) (λ i. table w (g i)) n (λ i h. table-ext (f i) (g i) w (λ j k. e i j h k))
-
--- tests that agree below n
-count-below : (p q : ℕ → Bool) (n : ℕ) → ((c : ℕ) → c < n → p c ≡ q c) → countIf p (range 0 n) ≡ countIf q (range 0 n)
-unfolding upFrom countIf
-count-below p q n e = ap (countIf p) (range-upFrom n) ∙ each n 0 (omega arith) ∙ sym (ap (countIf q) (range-upFrom n))
-  where
-    each : (k lo : ℕ) → lo + k ≤ n → countIf p (upFrom lo k) ≡ countIf q (upFrom lo k)
-    each zero lo h = refl
-    each (suc k) lo h = ap₂ (λ (b : Bool) (c : ℕ). cond b 1 0 + c) (e lo (omega arith)) (each k (suc lo) (omega arith))
+use Rattle.gram.proofs.Upward.{Upward, upward-upward, position-at, stands-at}
 
 -- ---- what the loops leave
 
@@ -168,16 +154,6 @@ module _ (chosen : List ℕ) (up : Upward chosen) (few : length chosen ≤ 4096)
         one false e r = r
 
 -- ---- the Gram matrix of the hashes
-
-take-map : {A B : Type 0} (f : A → B) (m : ℕ) (l : List A) → take m (map f l) ≡ map f (take m l)
-take-map f zero l = refl
-take-map f (suc m) [] = refl
-take-map f (suc m) (x ∷ l) = ap (λ (r : List _). f x ∷ r) (take-map f m l)
-
-getD-map-in : {A B : Type 0} (f : A → B) (l : List A) (i : ℕ) (d : B) (e : A) → i < length l → getD (map f l) i d ≡ f (getD l i e)
-getD-map-in f [] i d e h = absurd (omega arith)
-getD-map-in f (x ∷ l) zero d e h = refl
-getD-map-in f (x ∷ l) (suc i) d e h = getD-map-in f l i d e (omega arith)
 
 module _ (n : ℕ) (hashes offsets : List ℕ) (few : length (selected n hashes) ≤ 4096) where
   abbrev chosen : List ℕ

@@ -7,5 +7,6 @@ pub mod Upward
 pub mod Runs
 pub mod Scans
 pub mod Columns
+pub mod Tables
 pub mod Accepted
 pub mod Cases

@@ -4,10 +4,10 @@
 use outcome::Check;
 use outcome::Refusal;
 
-pub mod choose;
-pub mod fill;
-pub mod lines;
-pub mod rows;
+mod choose;
+mod fill;
+mod lines;
+mod rows;
 
 ghost use mathlib.Core.Path.{_≡_};
 ghost use Prim.Native.Nat.{_*_, _≤_, min};
@@ -140,7 +140,7 @@ fn gram_in(
     a
 }
 
-// Room for up to 4,096 hashes.
+// Room for up to 4,096 hashes, 50 KiB of stack.
 fn gram_small(
     out: &mut [f64],
     words: &mut [u64],
@@ -169,7 +169,7 @@ fn gram_small(
     )
 }
 
-// Room for as many hashes as the table allows.
+// Room for as many hashes as the table allows, 290 KiB of stack. Nothing lent may be written before their selection is known.
 fn gram_large(
     out: &mut [f64],
     words: &mut [u64],

@@ -4,7 +4,6 @@ use Prim.Native.Nat.{_≤_}
 use native.Mathlib.Omega.{arith}
 use lib.ListN.{length}
 use lib.Seq.{length-take-le, take-at}
-use Rattle.outcome.specs.Refusals.{first, short}
 use Rattle.gram.proofs.Accepted.{early-passed, checked-early, checked-late}
 use borrow.Author.Needs.{needs}
 use Rattle.gram.proofs.check_gram.Statement.{statement}
@@ -31,13 +30,17 @@ slice-relend-prefix-choose : tie.Need-slice-relend-prefix-choose
 slice-relend-prefix-choose c = omega (arith, passed c)
 
 slice-aggregate-choose : tie.Need-slice-aggregate-choose
-slice-aggregate-choose c = sym (length-take-le (length (c .before .before .before .before .before .before .before .before .before .args .hashes .now)) (c .before .before .before .before .before .before .before .before .before .args .order .now) (omega (arith, passed (c .before))))
+slice-aggregate-choose c =
+    let s = c .before .before .before .before .before .before .before .before .before in
+    sym (length-take-le (length (s .args .hashes .now)) (s .args .order .now) (omega (arith, passed (c .before))))
 
 slice-relend-prefix-choose-2 : tie.Need-slice-relend-prefix-choose-2
 slice-relend-prefix-choose-2 c = omega (arith, passed (c .before))
 
 slice-aggregate-choose-2 : tie.Need-slice-aggregate-choose-2
-slice-aggregate-choose-2 c = sym (length-take-le (length (c .before .before .before .before .before .before .before .before .before .before .args .hashes .now)) (c .before .before .before .before .before .before .before .before .before .before .args .columns .now) (omega (arith, passed (c .before .before))))
+slice-aggregate-choose-2 c =
+    let s = c .before .before .before .before .before .before .before .before .before .before in
+    sym (length-take-le (length (s .args .hashes .now)) (s .args .columns .now) (omega (arith, passed (c .before .before))))
 
 choose-requires : tie.Need-choose-requires
 choose-requires c κs =
@@ -65,12 +68,14 @@ same-length-3 c = search needs
 
 returns-2 : tie.Need-returns-2
 returns-2 c =
-    let a = c .before .before .before .before .before .before .before .before .before .before .before .before .before .before .before .before .before .before .before .args in
+    let s = c .before .before .before .before .before .before .before .before .before .before .before .before .before .before .before .before .before .before .before in
+    let a = s .args in
     let k = length (a .hashes .now) in
     let p = passed (c .before .before .before .before .before .before .before .before .before .before .before) in
-    let long = c .before .before .before .before .before .before .before .choose .kept .1 .0 ∙ length-take-le k (a .columns .now) (omega arith) in
-    let front = take-at (c .before .before .before .before .before .before .before .choose .last .1 .0) _ k long in
-    checked-late (a .n) (a .hashes .now) (a .offsets .now) (a .short) (a .beyond) (sym (c .before .before .before .before .before .before .before .before .before .before .before .enum-told .given .1) ∙ c .before .before .before .before .before .before .before .before .before .before .before .before .before .early .ensures) (c .before .before .before .before .before .before .before .choose .ensures) (c .late .ensures) front (c .before .before .before .before .before .before .before .before .before .before .before .before .before .before .before .before .before .before .before .pre .2)
+    let asked = sym (c .before .before .before .before .before .before .before .before .before .before .before .enum-told .given .1) ∙ c .before .before .before .before .before .before .before .before .before .before .before .before .before .early .ensures in
+    let call = c .before .before .before .before .before .before .before .choose in
+    let long = call .kept .1 .0 ∙ length-take-le k (a .columns .now) (omega arith) in
+    checked-late (a .n) (a .hashes .now) (a .offsets .now) (a .short) (a .beyond) asked (call .ensures) (c .late .ensures) (take-at (call .last .1 .0) _ k long) (s .pre .2)
 
 pub check-gram-spec : {M : Type 1} → statement M
 check-gram-spec =

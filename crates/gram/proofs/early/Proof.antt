@@ -24,19 +24,27 @@ returns-3 c = rw (sym (c .before .before .before .bad-offsets .ensures) ∙ c .b
 
 returns-4 : tie.Need-returns-4
 unfolding first earlyLines
-returns-4 c = rw (sym (c .before .before .before .before .bad-offsets .ensures) ∙ c .before .before .before .if1 .left, c .before .before .if2 .left, le-ltb _ _ (c .before .if3 .left), lt-ltb _ _ (c .if4 .taken))
+returns-4 c =
+    let bad = sym (c .before .before .before .before .bad-offsets .ensures) ∙ c .before .before .before .if1 .left in
+    rw (bad, c .before .before .if2 .left, le-ltb _ _ (c .before .if3 .left), lt-ltb _ _ (c .if4 .taken))
 
 returns-5 : tie.Need-returns-5
 unfolding first earlyLines
-returns-5 c = rw (sym (c .before .before .before .before .before .bad-offsets .ensures) ∙ c .before .before .before .before .if1 .left, c .before .before .before .if2 .left, le-ltb _ _ (c .before .before .if3 .left), le-ltb _ _ (c .before .if4 .left), c .if5 .taken)
+returns-5 c =
+    let bad = sym (c .before .before .before .before .before .bad-offsets .ensures) ∙ c .before .before .before .before .if1 .left in
+    rw (bad, c .before .before .before .if2 .left, le-ltb _ _ (c .before .before .if3 .left), le-ltb _ _ (c .before .if4 .left), c .if5 .taken)
 
 returns-6 : tie.Need-returns-6
 unfolding first earlyLines
-returns-6 c = rw (sym (c .before .before .before .before .before .before .bad-offsets .ensures) ∙ c .before .before .before .before .before .if1 .left, c .before .before .before .before .if2 .left, le-ltb _ _ (c .before .before .before .if3 .left), le-ltb _ _ (c .before .before .if4 .left), c .before .if5 .left, lt-ltb _ _ (c .if6 .taken))
+returns-6 c =
+    let bad = sym (c .before .before .before .before .before .before .bad-offsets .ensures) ∙ c .before .before .before .before .before .if1 .left in
+    rw (bad, c .before .before .before .before .if2 .left, le-ltb _ _ (c .before .before .before .if3 .left), le-ltb _ _ (c .before .before .if4 .left), c .before .if5 .left, lt-ltb _ _ (c .if6 .taken))
 
 returns-7 : tie.Need-returns-7
 unfolding first earlyLines
-returns-7 c = rw (sym (c .before .before .before .before .before .before .bad-offsets .ensures) ∙ c .before .before .before .before .before .if1 .left, c .before .before .before .before .if2 .left, le-ltb _ _ (c .before .before .before .if3 .left), le-ltb _ _ (c .before .before .if4 .left), c .before .if5 .left, le-ltb _ _ (c .if6 .left))
+returns-7 c =
+    let bad = sym (c .before .before .before .before .before .before .bad-offsets .ensures) ∙ c .before .before .before .before .before .if1 .left in
+    rw (bad, c .before .before .before .before .if2 .left, le-ltb _ _ (c .before .before .before .if3 .left), le-ltb _ _ (c .before .before .if4 .left), c .before .if5 .left, le-ltb _ _ (c .if6 .left))
 
 pub early-spec : {M : Type 1} → statement M
 early-spec =

@@ -26,20 +26,22 @@ mean-sums-requires c κs = search needs
 
 mark-sets-requires : tie.Need-mark-sets-requires
 mark-sets-requires c κs =
-    let a = c .before .before .before .before .before .before .before .before .before .before .before .args in
-    let r = room (a .n) (length (a .means .now)) (length (a .words .now)) (c .before .before .before .before .before .before .before .before .before .before .before .pre .0 .1) (c .before .before .before .before .before .before .before .before .before .before .before .pre .1 .1) in
-    (c .before .before .before .before .before .before .before .before .before .before .before .pre .0 .0, r .0, r .1)
+    let s = c .before .before .before .before .before .before .before .before .before .before .before in
+    let a = s .args in
+    let r = room (a .n) (length (a .means .now)) (length (a .words .now)) (s .pre .0 .1) (s .pre .1 .1) in
+    (s .pre .0 .0, r .0, r .1)
 
 square-sum-requires : tie.Need-square-sum-requires
 square-sum-requires c κs = search needs
 
 fill-requires : tie.Need-fill-requires
 fill-requires c κs =
-    let a = c .before .before .before .before .before .before .before .before .before .before .before .before .before .before .before .before .before .before .args in
-    let r = room (a .n) (length (a .means .now)) (length (a .words .now)) (c .before .before .before .before .before .before .before .before .before .before .before .before .before .before .before .before .before .before .pre .0 .1) (c .before .before .before .before .before .before .before .before .before .before .before .before .before .before .before .before .before .before .pre .1 .1) in
+    let s = c .before .before .before .before .before .before .before .before .before .before .before .before .before .before .before .before .before .before in
+    let a = s .args in
+    let r = room (a .n) (length (a .means .now)) (length (a .words .now)) (s .pre .0 .1) (s .pre .1 .1) in
     let words = c .before .before .before .before .before .before .mark-sets .kept .0 in
     let sums = c .before .before .before .before .before .before .before .before .before .before .mean-sums .kept .0 in
-    (c .before .before .before .before .before .before .before .before .before .before .before .before .before .before .before .before .before .before .pre .1 .0, omega arith, r .2, omega arith)
+    (s .pre .1 .0, omega arith, r .2, omega arith)
 
 clear-requires : tie.Need-clear-requires
 clear-requires c κs = search needs
@@ -56,11 +58,16 @@ same-length-3 c = search needs
 returns : tie.Need-returns
 unfolding cleared
 returns c =
-    let a = c .before .before .before .before .before .before .before .before .before .before .before .before .before .before .before .before .before .before .before .before .before .before .before .before .before .args in
+    let s = c .before .before .before .before .before .before .before .before .before .before .before .before .before .before .before .before .before .before .before .before .before .before .before .before .before in
+    let a = s .args in
     let m = length (a .means .now) in
-    let r = room (a .n) m (length (a .words .now)) (c .before .before .before .before .before .before .before .before .before .before .before .before .before .before .before .before .before .before .before .before .before .before .before .before .before .pre .0 .1) (c .before .before .before .before .before .before .before .before .before .before .before .before .before .before .before .before .before .before .before .before .before .before .before .before .before .pre .1 .1) in
-    let matrix = matrix-is (a .n) ((m + 63) / 64) (a .columns .now) (a .offsets .now) (a .means .now) (r .1) (a .words .now) (c .before .before .before .before .before .before .before .before .before .before .before .before .before .mark-sets .ensures) (a .sums .now) (c .before .before .before .before .before .before .before .before .before .before .before .before .before .before .before .before .before .mean-sums .ensures) (c .before .before .before .before .before .before .before .before .before .before .square-sum .ensures) in
-    (c .before .before .before .before .before .before .fill .ensures ∙ ap (λ (g : List Float). over g (a .out .now)) matrix, c .before .before .clear .ensures ∙ ap (λ (k : ℕ). replicate k 0) (c .before .before .before .before .before .before .before .before .before .before .before .before .before .mark-sets .kept .0))
+    let r = room (a .n) m (length (a .words .now)) (s .pre .0 .1) (s .pre .1 .1) in
+    let bits = c .before .before .before .before .before .before .before .before .before .before .before .before .before .mark-sets in
+    let summed = c .before .before .before .before .before .before .before .before .before .before .before .before .before .before .before .before .before .mean-sums .ensures in
+    let squares = c .before .before .before .before .before .before .before .before .before .before .square-sum .ensures in
+    let filled = c .before .before .before .before .before .before .fill .ensures in
+    let matrix = matrix-is (a .n) ((m + 63) / 64) (a .columns .now) (a .offsets .now) (a .means .now) (r .1) (a .words .now) (bits .ensures) (a .sums .now) summed squares in
+    (filled ∙ ap (λ (g : List Float). over g (a .out .now)) matrix, c .before .before .clear .ensures ∙ ap (λ (k : ℕ). replicate k 0) (bits .kept .0))
 
 pub fill-gram-spec : {M : Type 1} → statement M
 fill-gram-spec =

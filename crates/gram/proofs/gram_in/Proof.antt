@@ -52,29 +52,38 @@ same-length-3 c = search needs
 returns : tie.Need-returns
 returns c =
     let a = c .before .before .before .before .before .before .before .before .before .before .before .before .before .before .before .before .before .before .before .before .before .args in
+    let told = c .before .before .before .before .before .before .before .before .check-gram .ensures .told in
+    let short = c .before .before .before .before .before .before .before .before .before .before .before .before .too-short .ensures in
     call-refused (a .n) (a .hashes .now) (a .offsets .now) (a .out .now) (a .words .now) (c .enum-told .given .0 .0) (c .enum-told .given .1)
-    (c .before .before .before .before .before .before .before .before .check-gram .ensures .told ∙ ap (λ (s : Bool). features (a .n) (a .hashes .now) (a .offsets .now) s false) (c .before .before .before .before .before .before .before .before .before .before .before .before .too-short .ensures))
+    (told ∙ ap (λ (s : Bool). features (a .n) (a .hashes .now) (a .offsets .now) s false) short)
 
 slice-reshare-prefix-fill-gram : tie.Need-slice-reshare-prefix-fill-gram
 slice-reshare-prefix-fill-gram c = told (c .before .before .before) .2
 
 slice-aggregate-fill-gram : tie.Need-slice-aggregate-fill-gram
-slice-aggregate-fill-gram c = sym (length-take-le (length (c .before .before .before .before .before .before .before .before .before .before .before .before .before .before .before .before .before .before .before .before .before .before .before .before .before .before .args .hashes .now)) (c .before .before .before .before .before .before .before .before .before .before .before .before .before .check-gram .last .1 .0) (told (c .before .before .before .before) .2))
+slice-aggregate-fill-gram c =
+    let call = c .before .before .before .before .before .before .before .before .before .before .before .before .before .check-gram in
+    sym (length-take-le (length (c .before .before .before .before .before .before .before .before .before .before .before .before .before .before .before .before .before .before .before .before .before .before .before .before .before .before .args .hashes .now)) (call .last .1 .0) (told (c .before .before .before .before) .2))
 
 slice-reshare-prefix-fill-gram-2 : tie.Need-slice-reshare-prefix-fill-gram-2
 slice-reshare-prefix-fill-gram-2 c = told (c .before .before .before .before) .3
 
 slice-aggregate-fill-gram-2 : tie.Need-slice-aggregate-fill-gram-2
-slice-aggregate-fill-gram-2 c = sym (length-take-le (c .before .before .before .before .before .before .a .given .0 .0) (c .before .before .before .before .before .before .before .before .before .before .before .before .before .before .check-gram .last .1 .1 .0) (told (c .before .before .before .before .before) .3))
+slice-aggregate-fill-gram-2 c =
+    let call = c .before .before .before .before .before .before .before .before .before .before .before .before .before .before .check-gram in
+    sym (length-take-le (c .before .before .before .before .before .before .a .given .0 .0) (call .last .1 .1 .0) (told (c .before .before .before .before .before) .3))
 
 fill-gram-requires : tie.Need-fill-gram-requires
 fill-gram-requires c κs =
-    let a = c .before .before .before .before .before .before .before .before .before .before .before .before .before .before .before .before .before .before .before .before .before .before .before .before .before .before .before .args in
+    let s = c .before .before .before .before .before .before .before .before .before .before .before .before .before .before .before .before .before .before .before .before .before .before .before .before .before .before .before in
+    let a = s .args in
     let t = told (c .before .before .before .before .before) in
-    let k = length-take-le (length (a .hashes .now)) (c .before .before .before .before .before .before .before .before .before .before .before .before .before .before .check-gram .last .1 .0) (t .2) in
-    let m = length-take-le (c .before .before .before .before .before .before .a .given .0 .0) (c .before .before .before .before .before .before .before .before .before .before .before .before .before .before .check-gram .last .1 .1 .0) (t .3) in
-    let room = long-enough (a .n) (length (a .out .now)) (length (a .words .now)) (sym (c .before .before .before .before .before .before .before .before .before .before .before .before .before .before .before .before .before .before .too-short .ensures) ∙ t .0 .enough) in
-    ((subst (Offsets (a .n) (a .offsets .now)) (sym k) (t .0 .sets), omega (arith, t .1)), (room .0, room .1, omega (arith, t .0 .few, c .before .before .before .before .before .before .before .before .before .before .before .before .before .before .before .before .before .before .before .before .before .before .before .before .before .before .before .pre .1 .1)))
+    let call = c .before .before .before .before .before .before .before .before .before .before .before .before .before .before .check-gram in
+    let enough = sym (c .before .before .before .before .before .before .before .before .before .before .before .before .before .before .before .before .before .before .too-short .ensures) ∙ t .0 .enough in
+    let k = length-take-le (length (a .hashes .now)) (call .last .1 .0) (t .2) in
+    let m = length-take-le (c .before .before .before .before .before .before .a .given .0 .0) (call .last .1 .1 .0) (t .3) in
+    let room = long-enough (a .n) (length (a .out .now)) (length (a .words .now)) enough in
+    ((subst (Offsets (a .n) (a .offsets .now)) (sym k) (t .0 .sets), omega (arith, t .1)), (room .0, room .1, omega (arith, t .0 .few, s .pre .1 .1)))
 
 same-length-4 : tie.Need-same-length-4
 same-length-4 c = search needs
@@ -98,9 +107,12 @@ returns-2 : tie.Need-returns-2
 returns-2 c =
     let a = c .before .before .before .before .before .before .before .before .before .before .before .before .before .before .before .before .before .before .before .before .before .before .before .before .before .before .before .before .before .before .before .before .before .before .args in
     let call = c .before .before .before .before .before .before .before .before .before .before .before .before .before .before .before .before .before .before .before .before .before .check-gram in
-    let checked = subst (λ (s : Bool). Checked (a .n) (a .hashes .now) (a .offsets .now) s false (call .result) (call .last .1 .0) (call .last .1 .1 .0)) (c .before .before .before .before .before .before .before .before .before .before .before .before .before .before .before .before .before .before .before .before .before .before .before .before .before .too-short .ensures) (call .ensures) in
-    sym (ap (λ (r : Answer). called r (c .before .before .before .before .before .before .fill-gram .last .0) (c .before .before .before .before .before .before .fill-gram .last .1 .0)) (c .before .before .before .before .before .before .before .before .before .before .before .before .before .a .given .1))
-    ∙ call-answered (a .n) (a .hashes .now) (a .offsets .now) (a .out .now) (a .words .now) (c .before .before .before .before .before .before .before .before .before .before .before .before .before .a .given .0 .0) checked (c .before .before .before .before .before .before .before .before .before .before .before .before .before .a .given .1) (c .before .before .before .before .before .before .fill-gram .ensures .0) (c .before .before .before .before .before .before .fill-gram .ensures .1)
+    let answer = c .before .before .before .before .before .before .before .before .before .before .before .before .before .a .given in
+    let filled = c .before .before .before .before .before .before .fill-gram in
+    let short = c .before .before .before .before .before .before .before .before .before .before .before .before .before .before .before .before .before .before .before .before .before .before .before .before .before .too-short .ensures in
+    let checked = subst (λ (s : Bool). Checked (a .n) (a .hashes .now) (a .offsets .now) s false (call .result) (call .last .1 .0) (call .last .1 .1 .0)) short (call .ensures) in
+    sym (ap (λ (r : Answer). called r (filled .last .0) (filled .last .1 .0)) (answer .1))
+    ∙ call-answered (a .n) (a .hashes .now) (a .offsets .now) (a .out .now) (a .words .now) (answer .0 .0) checked (answer .1) (filled .ensures .0) (filled .ensures .1)
 
 pub gram-in-spec : {M : Type 1} → statement M
 gram-in-spec =

@@ -8,7 +8,6 @@ use lib.Ieee.{nan}
 use Rattle.lists.specs.Ranges.{rows, grid}
 use Rattle.lists.specs.Writes.{over}
 use Rattle.lists.proofs.Rows.{row-end, length-part}
-use Rattle.gram.specs.Gram.{within}
 use Rattle.gram.specs.Columns.{entryAt}
 use Rattle.gram.proofs.Matrix.{full, row-filled}
 use Rattle.gram.proofs.fill.fill.Statement.{statement}
@@ -58,9 +57,10 @@ part-fill-row-end c = omega (arith, fits (c .before .before))
 
 fill-row-requires : tie.Need-fill-row-requires Inv-loop μ-loop
 fill-row-requires c κs =
-    let a = c .before .before .before .before .before .before .before .before .before .before .args in
+    let s = c .before .before .before .before .before .before .before .before .before .before in
+    let a = s .args in
     let long = length-part (a .n) (c .before .before .before .before .before .before .loop .i) (c .before .before .before .mirror-row .last .0) (fits (c .before .before .before)) in
-    (omega arith, subst (λ (k : ℕ). k * a .w ≤ length (a .words .now)) (sym long) (c .before .before .before .before .before .before .before .before .before .before .pre .1), omega arith, omega arith)
+    (omega arith, subst (λ (k : ℕ). k * a .w ≤ length (a .words .now)) (sym long) (s .pre .1), omega arith, omega arith)
 
 add-i : tie.Need-add-i Inv-loop μ-loop
 add-i c = omega arith

@@ -19,7 +19,9 @@ abbrev μ-loop : tie.MeasureT-loop
 μ-loop row₀ i words w sums t j₀ j-end row j = length row₀ - j
 
 loop-holds : tie.Need-loop-holds Inv-loop μ-loop
-loop-holds c = (omega arith, omega arith, refl, upper-none (entryAt (c .before .before .before .args .w) (c .before .before .before .args .words .now) (c .before .before .before .args .sums .now) (c .before .before .before .args .t) (c .before .before .before .args .i)) (c .before .before .before .args .row .now) (c .before .before .before .args .i) (omega arith))
+loop-holds c =
+    let s = c .before .before .before in
+    (omega arith, omega arith, refl, upper-none (entryAt (s .args .w) (s .args .words .now) (s .args .sums .now) (s .args .t) (s .args .i)) (s .args .row .now) (s .args .i) (omega arith))
 
 entry-requires : tie.Need-entry-requires Inv-loop μ-loop
 entry-requires c κs =
@@ -42,8 +44,9 @@ loop-less c = omega arith
 
 loop-again : tie.Need-loop-again Inv-loop μ-loop
 loop-again c =
+    let here = c .before .before .loop in
     let a = c .before .before .before .before .before .before .args in
-    (omega arith, omega arith, length-set (c .before .before .loop .row) _ _ ∙ c .before .before .loop .inv .2, upper-next (entryAt (a .w) (a .words .now) (a .sums .now) (a .t) (a .i)) (a .row .now) (a .i) (omega arith) (c .before .before .loop .j) (omega arith) (omega arith) (c .before .before .loop .inv .3) (c .entry .ensures))
+    (omega arith, omega arith, length-set (here .row) _ _ ∙ here .inv .2, upper-next (entryAt (a .w) (a .words .now) (a .sums .now) (a .t) (a .i)) (a .row .now) (a .i) (omega arith) (here .j) (omega arith) (omega arith) (here .inv .3) (c .entry .ensures))
 
 same-length : tie.Need-same-length Inv-loop μ-loop
 same-length c = c .before .loop .inv .2

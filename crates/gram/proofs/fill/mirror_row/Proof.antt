@@ -60,9 +60,10 @@ loop-less c = omega arith
 
 loop-again : tie.Need-loop-again Inv-loop μ-loop
 loop-again c =
+    let here = c .before .before .loop in
     let a = c .before .before .before .args in
     let step : ℕ → List Float → List Float = λ k l. set l (a .i * a .n + k) (getD l (k * a .n + a .i) nan) in
-    (omega arith, length-set (c .before .before .loop .out) _ _ ∙ c .before .before .loop .inv .1, inTurn-next step (c .before .before .loop .j) (a .out .now) (c .before .before .loop .inv .2) refl)
+    (omega arith, length-set (here .out) _ _ ∙ here .inv .1, inTurn-next step (here .j) (a .out .now) (here .inv .2) refl)
 
 same-length : tie.Need-same-length Inv-loop μ-loop
 same-length c = c .before .loop .inv .1

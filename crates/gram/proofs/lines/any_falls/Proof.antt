@@ -39,8 +39,10 @@ shared-slice-read-if1-2 c = omega arith
 
 returns : tie.Need-returns Inv-loop μ-loop
 returns c =
-    let o = c .before .before .before .before .before .args .offsets .now in
-    sym (range-any-here (λ k. ltb (getD o (k + 1) 0) (getD o k 0)) (c .before .before .before .before .loop .i) (c .before .before .before .before .before .args .n) (omega arith) (lt-ltb _ _ (c .if1 .taken))) ∙ c .before .before .before .before .loop .inv .1
+    let s = c .before .before .before .before .before in
+    let here = c .before .before .before .before .loop in
+    let o = s .args .offsets .now in
+    sym (range-any-here (λ k. ltb (getD o (k + 1) 0) (getD o k 0)) (here .i) (s .args .n) (omega arith) (lt-ltb _ _ (c .if1 .taken))) ∙ here .inv .1
 
 add-i : tie.Need-add-i Inv-loop μ-loop
 add-i c = omega arith
@@ -50,13 +52,16 @@ loop-less c = omega arith
 
 loop-again : tie.Need-loop-again Inv-loop μ-loop
 loop-again c =
-    let o = c .before .before .before .before .before .args .offsets .now in
-    (omega arith, sym (range-any-later (λ k. ltb (getD o (k + 1) 0) (getD o k 0)) (c .before .before .before .before .loop .i) (c .before .before .before .before .before .args .n) (omega arith) (le-ltb _ _ (c .if1 .left))) ∙ c .before .before .before .before .loop .inv .1)
+    let s = c .before .before .before .before .before in
+    let here = c .before .before .before .before .loop in
+    let o = s .args .offsets .now in
+    (omega arith, sym (range-any-later (λ k. ltb (getD o (k + 1) 0) (getD o k 0)) (here .i) (s .args .n) (omega arith) (le-ltb _ _ (c .if1 .left))) ∙ here .inv .1)
 
 returns-2 : tie.Need-returns-2 Inv-loop μ-loop
 returns-2 c =
-    let o = c .before .before .args .offsets .now in
-    sym (range-any-none (λ k. ltb (getD o (k + 1) 0) (getD o k 0)) (c .before .loop .i) (c .before .before .args .n) (omega arith)) ∙ c .before .loop .inv .1
+    let s = c .before .before in
+    let o = s .args .offsets .now in
+    sym (range-any-none (λ k. ltb (getD o (k + 1) 0) (getD o k 0)) (c .before .loop .i) (s .args .n) (omega arith)) ∙ c .before .loop .inv .1
 
 pub any-falls-spec : {M : Type 1} → statement M
 any-falls-spec =

@@ -36,7 +36,9 @@ mul-result c = search needs
 
 returns-3 : tie.Need-returns-3
 unfolding tooShort short any
-returns-3 c = rw (le-ltb _ _ (c .if2 .left)) (sym (or-false (ltb (c .before .before .args .words) (c .before .before .args .n * 64))))
+returns-3 c =
+    let s = c .before .before in
+    rw (le-ltb _ _ (c .if2 .left)) (sym (or-false (ltb (s .args .words) (s .args .n * 64))))
 
 pub too-short-spec : {M : Type 1} → statement M
 too-short-spec = tie.close (tie.spec returns mul-if2 returns-2 mul-result returns-3)

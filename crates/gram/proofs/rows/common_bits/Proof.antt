@@ -53,10 +53,14 @@ loop-less : tie.Need-loop-less Inv-loop μ-loop
 loop-less c = omega arith
 
 loop-again : tie.Need-loop-again Inv-loop μ-loop
-loop-again c = (omega arith, omega (arith, few c), omega (arith, common-next (c .before .before .before .before .args .x .now) (c .before .before .before .before .args .y .now) (c .before .before .before .loop .k) (omega arith) (omega arith)))
+loop-again c =
+    let s = c .before .before .before .before in
+    (omega arith, omega (arith, few c), omega (arith, common-next (s .args .x .now) (s .args .y .now) (c .before .before .before .loop .k) (omega arith) (omega arith)))
 
 returns : tie.Need-returns Inv-loop μ-loop
-returns c = (omega (arith, common-end (c .before .before .args .x .now) (c .before .before .args .y .now) (c .before .loop .k) (omega arith)), omega arith)
+returns c =
+    let s = c .before .before in
+    (omega (arith, common-end (s .args .x .now) (s .args .y .now) (c .before .loop .k) (omega arith)), omega arith)
 
 pub common-bits-spec : {M : Type 1} → statement M
 common-bits-spec =

@@ -21,7 +21,9 @@ abbrev μ-loop : tie.MeasureT-loop
 
 loop-holds : tie.Need-loop-holds Inv-loop μ-loop
 unfolding stands any
-loop-holds c = (omega arith, refl, c .before .before .pre .1 ∙ sym (packed-none (length (c .before .before .args .row .now)) (c .before .before .args .m)))
+loop-holds c =
+    let s = c .before .before in
+    (omega arith, refl, s .pre .1 ∙ sym (packed-none (length (s .args .row .now)) (s .args .m)))
 
 mul-c : tie.Need-mul-c Inv-loop μ-loop
 mul-c c = omega arith
@@ -43,13 +45,15 @@ loop-less c = omega arith
 
 loop-again : tie.Need-loop-again Inv-loop μ-loop
 loop-again c =
-    let set = c .before .before .before .before .before .before .before .before .before .before .args .set .now in
-    let k = length (c .before .before .before .before .before .before .before .before .before .before .args .row .now) in
-    let l = present (c .before .before .before .before .before .before .before .before .before .before .args .m) (take (c .before .before .before .before .before .before .before .loop .i) set) in
-    let long = length-table (λ x. stands x (take (c .before .before .before .before .before .before .before .loop .i) set)) (c .before .before .before .before .before .before .before .before .before .before .args .m) in (
+    let s = c .before .before .before .before .before .before .before .before .before .before in
+    let here = c .before .before .before .before .before .before .before .loop in
+    let set = s .args .set .now in
+    let k = length (s .args .row .now) in
+    let l = present (s .args .m) (take (here .i) set) in
+    let long = length-table (λ x. stands x (take (here .i) set)) (s .args .m) in (
       omega arith,
-      c .before .before .mark-bit .kept .0 ∙ c .before .before .before .before .before .before .before .loop .inv .1,
-      marked k l (c .before .before .before .before .before .before .before .loop .inv .2) (c .before .before .mark-bit .ensures) (omega arith) (omega arith) ∙ ap (packed k) (present-next (c .before .before .before .before .before .before .before .before .before .before .args .m) set (c .before .before .before .before .before .before .before .loop .i) (omega arith)),
+      c .before .before .mark-bit .kept .0 ∙ here .inv .1,
+      marked k l (here .inv .2) (c .before .before .mark-bit .ensures) (omega arith) (omega arith) ∙ ap (packed k) (present-next (s .args .m) set (here .i) (omega arith)),
     )
 
 add-i-2 : tie.Need-add-i-2 Inv-loop μ-loop
@@ -60,13 +64,17 @@ loop-less-2 c = omega arith
 
 loop-again-2 : tie.Need-loop-again-2 Inv-loop μ-loop
 loop-again-2 c =
-    (omega arith, c .before .before .before .loop .inv .1, c .before .before .before .loop .inv .2 ∙ ap (packed (length (c .before .before .before .before .before .before .args .row .now))) (present-same (c .before .before .before .before .before .before .args .m) (c .before .before .before .before .before .before .args .set .now) (c .before .before .before .loop .i) (omega arith) (omega arith)))
+    let s = c .before .before .before .before .before .before in
+    let here = c .before .before .before .loop in
+    (omega arith, here .inv .1, here .inv .2 ∙ ap (packed (length (s .args .row .now))) (present-same (s .args .m) (s .args .set .now) (here .i) (omega arith) (omega arith)))
 
 same-length : tie.Need-same-length Inv-loop μ-loop
 same-length c = c .before .loop .inv .1
 
 returns : tie.Need-returns Inv-loop μ-loop
-returns c = c .before .loop .inv .2 ∙ ap (packed (length (c .before .before .before .before .args .row .now))) (present-all (c .before .before .before .before .args .m) (c .before .before .before .before .args .set .now) (c .before .loop .i) (omega arith))
+returns c =
+    let s = c .before .before .before .before in
+    c .before .loop .inv .2 ∙ ap (packed (length (s .args .row .now))) (present-all (s .args .m) (s .args .set .now) (c .before .loop .i) (omega arith))
 
 pub mark-bits-spec : {M : Type 1} → statement M
 mark-bits-spec =

@@ -23,7 +23,9 @@ same-length : tie.Need-same-length
 same-length c = search needs
 
 returns : tie.Need-returns
-returns c = c .before .before .mark-bits .ensures ∙ ap (λ (k : ℕ). packed k (present (c .before .before .before .before .before .before .before .before .before .before .args .m) (c .before .before .before .before .before .before .before .before .before .before .args .set .now))) (c .before .before .before .before .before .before .clear .kept .0)
+returns c =
+    let s = c .before .before .before .before .before .before .before .before .before .before in
+    c .before .before .mark-bits .ensures ∙ ap (λ (k : ℕ). packed k (present (s .args .m) (s .args .set .now))) (c .before .before .before .before .before .before .clear .kept .0)
 
 pub mark-set-spec : {M : Type 1} → statement M
 mark-set-spec = tie.close (tie.spec clear-requires mark-bits-requires same-length returns)

@@ -4,12 +4,12 @@ use mathlib.Core.List.{List}
 use Prim.Native.Nat.{ℕ, _+_, _-_, _*_, _≤_}
 use native.Mathlib.Omega.{arith}
 use borrow.Rule.Slice.PartMut.{same-len-mid}
-use lib.ListN.{length, getD, set}
+use lib.ListN.{length, getD}
 use Rattle.lists.specs.Ranges.{rows}
 use Rattle.lists.specs.Writes.{over}
 use Rattle.lists.proofs.Rows.{row-end, length-part}
 use Rattle.lists.proofs.Writes.{rows-none, rows-next}
-use Rattle.gram.specs.Gram.{within, setAt}
+use Rattle.gram.specs.Gram.{setAt}
 use Rattle.gram.specs.Bits.{packed}
 use Rattle.gram.specs.Columns.{present}
 use Rattle.gram.proofs.Bits.{length-packed}
@@ -94,8 +94,9 @@ part-mark-set-end-2 c = omega (arith, inside (c .before .before .before))
 
 mark-set-requires : tie.Need-mark-set-requires Inv-loop μ-loop
 mark-set-requires c κs =
+    let here = c .before .before .before .before .before .loop in
     let a = c .before .before .before .before .before .before .before .before .before .args in
-    let long = length-part (a .w) (c .before .before .before .before .before .loop .i) (c .before .before .before .before .before .loop .words) (fits (c .before .before .before .before)) in
+    let long = length-part (a .w) (here .i) (here .words) (fits (c .before .before .before .before)) in
     omega arith
 
 add-i : tie.Need-add-i Inv-loop μ-loop

@@ -43,7 +43,10 @@ loop-less : tie.Need-loop-less Inv-loop μ-loop
 loop-less c = omega arith
 
 loop-again : tie.Need-loop-again Inv-loop μ-loop
-loop-again c = (omega arith, mean-in (c .before .before .before .before .before .args .means .now) (c .before .before .before .before .before .args .set .now) (c .before .before .before .before .loop .i) (c .before .before .before .before .loop .s) (omega arith) (omega arith) refl (c .before .before .before .before .loop .inv .1))
+loop-again c =
+    let s = c .before .before .before .before .before in
+    let here = c .before .before .before .before .loop in
+    (omega arith, mean-in (s .args .means .now) (s .args .set .now) (here .i) (here .s) (omega arith) (omega arith) refl (here .inv .1))
 
 add-i-2 : tie.Need-add-i-2 Inv-loop μ-loop
 add-i-2 c = omega arith
@@ -52,10 +55,15 @@ loop-less-2 : tie.Need-loop-less-2 Inv-loop μ-loop
 loop-less-2 c = omega arith
 
 loop-again-2 : tie.Need-loop-again-2 Inv-loop μ-loop
-loop-again-2 c = (omega arith, mean-out (c .before .before .before .before .args .means .now) (c .before .before .before .before .args .set .now) (c .before .before .before .loop .i) (c .before .before .before .loop .s) (omega arith) (omega arith) (c .before .before .before .loop .inv .1))
+loop-again-2 c =
+    let s = c .before .before .before .before in
+    let here = c .before .before .before .loop in
+    (omega arith, mean-out (s .args .means .now) (s .args .set .now) (here .i) (here .s) (omega arith) (omega arith) (here .inv .1))
 
 returns : tie.Need-returns Inv-loop μ-loop
-returns c = mean-end (c .before .before .args .means .now) (c .before .before .args .set .now) (c .before .loop .i) (c .before .loop .s) (omega arith) (c .before .loop .inv .1)
+returns c =
+    let s = c .before .before in
+    mean-end (s .args .means .now) (s .args .set .now) (c .before .loop .i) (c .before .loop .s) (omega arith) (c .before .loop .inv .1)
 
 pub mean-sum-spec : {M : Type 1} → statement M
 mean-sum-spec =

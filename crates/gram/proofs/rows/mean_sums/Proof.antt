@@ -2,11 +2,11 @@
 use mathlib.Core.Path.{_≡_, ap, _∙_}
 use Prim.Native.Nat.{ℕ, _+_, _-_, _≤_}
 use native.Mathlib.Omega.{arith}
-use lib.ListN.{length, getD, set}
-use Rattle.lists.specs.Ranges.{table, rows}
+use lib.ListN.{length, getD}
+use Rattle.lists.specs.Ranges.{table}
 use Rattle.lists.specs.Writes.{over}
 use Rattle.lists.proofs.Writes.{Writing, writing-none, writing-next}
-use Rattle.gram.specs.Gram.{within, setAt}
+use Rattle.gram.specs.Gram.{setAt}
 use Rattle.gram.specs.Columns.{columnSum}
 use Rattle.gram.proofs.rows.mean_sums.Statement.{statement}
 use Rattle.gram.proofs.rows.mean_sums.Tie as tie
@@ -27,7 +27,9 @@ inside c =
     (sets .climb (c .before .loop .i) (omega arith), sets .bound (c .before .loop .i) (omega arith))
 
 loop-holds : tie.Need-loop-holds Inv-loop μ-loop
-loop-holds c = (omega arith, writing-none (λ k. columnSum (c .before .before .before .before .args .means .now) (setAt (c .before .before .before .before .args .columns .now) (c .before .before .before .before .args .offsets .now) k)) (c .before .before .before .before .args .sums .now))
+loop-holds c =
+    let s = c .before .before .before .before in
+    (omega arith, writing-none (λ k. columnSum (s .args .means .now) (setAt (s .args .columns .now) (s .args .offsets .now) k)) (s .args .sums .now))
 
 mul-a : tie.Need-mul-a Inv-loop μ-loop
 mul-a c = omega (arith, c .before .before .before .before .before .before .pre .0 .entries)
@@ -73,7 +75,9 @@ loop-less c = omega arith
 
 loop-again : tie.Need-loop-again Inv-loop μ-loop
 unfolding setAt
-loop-again c = (omega arith, writing-next (λ k. columnSum (c .before .before .before .before .before .before .before .before .before .before .args .means .now) (setAt (c .before .before .before .before .before .before .before .before .before .before .args .columns .now) (c .before .before .before .before .before .before .before .before .before .before .args .offsets .now) k)) _ (c .before .before .before .before .before .loop .inv .1) (omega arith) (c .mean-sum .ensures))
+loop-again c =
+    let s = c .before .before .before .before .before .before .before .before .before .before in
+    (omega arith, writing-next (λ k. columnSum (s .args .means .now) (setAt (s .args .columns .now) (s .args .offsets .now) k)) _ (c .before .before .before .before .before .loop .inv .1) (omega arith) (c .mean-sum .ensures))
 
 same-length : tie.Need-same-length Inv-loop μ-loop
 same-length c = c .before .loop .inv .1 .long

@@ -40,7 +40,9 @@ loop-less : tie.Need-loop-less Inv-loop μ-loop
 loop-less c = omega arith
 
 loop-again : tie.Need-loop-again Inv-loop μ-loop
-loop-again c = list-turn square (c .before .before .before .loop .s) (c .before .before .before .before .args .means .now) (c .before .before .before .loop .i) nan (omega arith) refl refl (c .before .before .before .loop .inv)
+loop-again c =
+    let here = c .before .before .before .loop in
+    list-turn square (here .s) (c .before .before .before .before .args .means .now) (here .i) nan (omega arith) refl refl (here .inv)
 
 returns : tie.Need-returns Inv-loop μ-loop
 returns c = list-end square (c .before .loop .s) (c .before .before .args .means .now) (c .before .loop .i) (omega arith) (c .before .loop .inv)
