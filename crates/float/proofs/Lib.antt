@@ -18,7 +18,7 @@ pub mod Isqrt
 pub mod Nearest
 pub mod Cases
 -- what the tests of the functions say of their arguments
-mod Signs
+pub mod Signs
 mod Branches
 mod Normal
-mod Halves
+mod Certificate

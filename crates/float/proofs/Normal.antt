@@ -1,7 +1,7 @@
 -- What `Normal n m z` says of n's root: n has z digits, and `rootOf n` works on m, with its zeros, alone. Assumes nothing.
-use mathlib.Core.Path.{_≡_, sym, ap, _∙_}
+use mathlib.Core.Path.{_≡_, refl, sym, ap, _∙_}
 use Prim.Native.Nat.{ℕ, zero, suc, _+_, _-_, _*_, _/_, _%_, _^_, _≤_, _<_}
-use native.Mathlib.Nat.{le-of-eq, le-trans, lt-of-lt-of-le, lt-of-le-of-lt, mul-assoc, mul-comm, mul-le-mul-right, mul-lt-mul-of-pos-right, lt-of-mul-lt-mul-right, le-of-mul-le-mul-right, mul-div-cancel, pow-succ'}
+use native.Mathlib.Nat.{le-of-eq, le-trans, lt-of-lt-of-le, lt-of-le-of-lt, mul-assoc, mul-comm, mul-le-mul-right, mul-lt-mul-of-pos-right, lt-of-mul-lt-mul-right, le-of-mul-le-mul-right, mul-div-cancel, pow-succ', mul-one, mod-lt, zero-lt-suc}
 use native.Mathlib.Omega.{arith}
 use mathlib.Core.Bool.{false}
 use lib.Pow.{pow-add, pow-pos}
@@ -18,20 +18,18 @@ pub record Wide (m z w : ℕ) : Type 0 where
   pub large : 2 ^ 52 ≤ w
   pub few : w ≤ 2 ^ 54 - 2
 
-pub wide-even : (m z : ℕ) → 2 ^ 52 ≤ m → m < 2 ^ 53 → z % 2 ≡ 0 → Wide m z (2 * m)
-wide-even m z l h e =
-    let a : 2 * ((z + 1) / 2) ≡ z = omega arith in
-    let b : suc z ≡ z + 1 = omega arith in
-    record {
-      same = ap (λ (x : ℕ). 2 * m * 2 ^ x) a ∙ ap (λ (x : ℕ). x * 2 ^ z) (mul-comm 2 m) ∙ mul-assoc m 2 (2 ^ z) ∙ ap (λ (x : ℕ). m * x) (sym (pow-succ' 2 z) ∙ ap (λ (x : ℕ). 2 ^ x) b);
-      large = omega arith;
-      few = omega arith;
-    }
-
-pub wide-odd : (m z : ℕ) → 2 ^ 52 ≤ m → m < 2 ^ 53 → (z % 2 ≡ 0 → ⊥) → Wide m z m
-wide-odd m z l h e =
-    let a : 2 * ((z + 1) / 2) ≡ z + 1 = omega arith in
-    record { same = ap (λ (x : ℕ). m * 2 ^ x) a; large = l; few = omega arith }
+pub wide : (m z : ℕ) → 2 ^ 52 ≤ m → m < 2 ^ 53 → Wide m z (m * (2 - z % 2))
+wide m z l h = go (z % 2) refl (mod-lt z (zero-lt-suc 1))
+  where
+    go : (p : ℕ) → z % 2 ≡ p → p < 2 → Wide m z (m * (2 - p))
+    go zero e k =
+        let a : 2 * ((z + 1) / 2) ≡ z = omega arith in
+        let b : suc z ≡ z + 1 = omega arith in
+        record { same = ap (λ (x : ℕ). m * 2 * 2 ^ x) a ∙ mul-assoc m 2 (2 ^ z) ∙ ap (λ (x : ℕ). m * x) (sym (pow-succ' 2 z) ∙ ap (λ (x : ℕ). 2 ^ x) b); large = omega arith; few = omega arith }
+    go (suc zero) e k =
+        let a : 2 * ((z + 1) / 2) ≡ z + 1 = omega arith in
+        record { same = ap (λ (x : ℕ). m * 1 * 2 ^ x) a ∙ ap (λ (x : ℕ). x * 2 ^ (z + 1)) (mul-one m); large = omega arith; few = omega arith }
+    go (suc (suc p)) e k = absurd (omega arith)
 
 module _ (n m z : ℕ) (h : Normal n m z) where
   -- n has z digits

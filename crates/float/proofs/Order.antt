@@ -1,10 +1,10 @@
 -- The order of floats. `le`, `lt` and `eq` compare the values (`le-value`, `lt-value`, `eq-value`), whatever the format and however the values are written.
 -- `le` is reflexive and total but for a NaN, and transitive with no exception: a NaN is on neither side of it. Assumes nothing.
-use mathlib.Core.Path.{_≡_, refl, sym, _∙_}
+use mathlib.Core.Path.{refl, sym, _∙_}
 use mathlib.Core.Logic.{_⊎_, inl, inr, _↔_}
 use mathlib.Core.Bool.{Bool, true, false, not}
 use Prim.Native.Nat.{ℕ, _+_, _*_, _^_, _≤_, _<_}
-use native.Mathlib.Nat.{mul-comm, mul-assoc, mul-right-comm, mul-pos}
+use native.Mathlib.Nat.{mul-assoc, mul-right-comm, mul-pos}
 use native.Mathlib.Omega.{arith}
 use lib.Dec.{T, T-not}
 use lib.Pow.{pow-pos}
@@ -15,7 +15,7 @@ use lib.Ieee.Scale.{finite}
 use Rattle.float.specs.Value.{SignedLe, sign}
 use Rattle.float.proofs.Tests.{or-l}
 use Rattle.float.proofs.Signed.{SignedEq, signed-refl, signed-trans, signed-way, signed-total, signed-neg, signed-over, below-iff, level-iff, either-iff}
-use Rattle.float.proofs.Value.{depth, unitsAt, value-at, value-same, value-finite, crossed-left, crossed-right}
+use Rattle.float.proofs.Value.{depth, unitsAt, value-at, value-same, crossed-left, crossed-right}
 
 -- ---- the comparisons of floats are those of their values
 -- the order of the fractions that the toolchain compares is that of the values ±a / c and ±b / c
@@ -231,6 +231,17 @@ lt-not-le (fin s m e) (fin t n d) h k =
     let y = fin t n d in
     let l = depth x + depth y in
     lt-at l x y tt tt (omega arith) (omega arith) .0 h (le-at l y x tt tt (omega arith) (omega arith) .0 k)
+
+-- what is between two finite values is finite
+pub between-finite : (lo x hi : Float) → T (finite lo) → T (finite hi) → T (le lo x) → T (le x hi) → T (finite x)
+between-finite lo nan hi p q h k = not-le-nan lo h
+between-finite nan (inf t) hi p q h k = absurd p
+between-finite (inf s) (inf t) hi p q h k = absurd p
+between-finite (fin s m e) (inf true) hi p q h k = absurd (unfold le in h)
+between-finite (fin s m e) (inf false) nan p q h k = absurd q
+between-finite (fin s m e) (inf false) (inf u) p q h k = absurd q
+between-finite (fin s m e) (inf false) (fin u o g) p q h k = absurd (unfold le in k)
+between-finite lo (fin t n d) hi p q h k = tt
 
 -- `neg` turns the order round
 pub neg-le : (x y : Float) → T (le x y) → T (le (neg y) (neg x))

@@ -6,7 +6,7 @@ use lib.Dec.{T, lt→ltb}
 use lib.Ieee.{Float, nan, inf, fin, Format, binary64, fits, lt, isNan}
 use lib.Ieee.Bits.{ofBits-fits}
 use lib.Ieee.Fits.{cond-fits, nan-fits, inf-fits, neg-fits, sub-fits}
-use Rattle.float.specs.Floats.{_⊗_, 1·0, -1·0, 1e-12}
+use Rattle.float.specs.Floats.{1·0, -1·0}
 use Rattle.float.specs.Value.{sign}
 use Rattle.float.specs.Order.{magnitude, larger, signum}
 use Rattle.float.specs.Root.{root}
@@ -48,4 +48,4 @@ sqrt-fits (fin false (suc m) e) p = root-nearest (fin false (suc m) e) p (lt→l
 
 pub threshold-fits : (x : Float) → T (fits binary64 (threshold x))
 unfolding threshold
-threshold-fits x = sub-fits binary64 x (1e-12 ⊗ magnitude x)
+threshold-fits x = sub-fits binary64 x _

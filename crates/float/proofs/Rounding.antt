@@ -8,7 +8,7 @@ use native.Mathlib.Omega.{arith}
 use lib.IntN.{ℤ, pos, negsuc}
 use lib.Dec.{T, ltb}
 use lib.Pow.{pow-add, pow-pos}
-use lib.Ieee.{Float, nan, inf, fin, Format, prec, emax, low, up, down, odd, units, round, neg, le, fits}
+use lib.Ieee.{Float, inf, fin, Format, prec, emax, low, up, down, odd, units, round, neg, le, fits}
 use lib.Ieee.Digits.{back}
 use lib.Ieee.Fits.{down-pos, round-is, round-fits}
 use lib.Ieee.Exact.{HasValue, round-exact}

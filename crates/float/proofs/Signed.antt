@@ -3,7 +3,7 @@ use mathlib.Core.Path.{_≡_, refl, sym, ap₂, _∙_, subst, transport}
 use mathlib.Core.Logic.{_⊎_, inl, inr, _↔_}
 use mathlib.Core.Bool.{Bool, true, false, not, _&&_, _||_}
 use Prim.Native.Nat.{ℕ, _+_, _*_, _≤_, _<_}
-use native.Mathlib.Nat.{le-refl, le-trans, le-of-lt, lt-of-not-le, not-le-of-lt, zero-mul, add-mul, mul-le-mul-right, le-of-mul-le-mul-right}
+use native.Mathlib.Nat.{le-refl, le-of-lt, lt-of-not-le, not-le-of-lt, zero-mul, add-mul, mul-le-mul-right, le-of-mul-le-mul-right}
 use native.Mathlib.Omega.{arith}
 use lib.Dec.{T, eqb, ltb→lt, lt→ltb, eqb→eq}
 use lib.Ieee.{below, level}

@@ -5,7 +5,7 @@ use native.Mathlib.Nat.{not-le-of-lt, zero-lt-suc, zero-add, zero-mul, mul-one}
 use native.Mathlib.Omega.{arith}
 use mathlib.Core.Logic.{inl, inr, _↔_}
 use mathlib.Core.Bool.{Bool, true, false, not, _&&_, cond, true≢false, false≢true}
-use lib.IntN.{ℤ, pos}
+use lib.IntN.{ℤ}
 use lib.Dec.{T, leb, eqb}
 use borrow.Author.Tests.{le-leb, lt-leb}
 use lib.Ieee.{Float, nan, inf, fin, Format, binary64, up, down, fits, isNan, odd, round, sum, neg, add, sub, lt, eq, le, ne, prec, low, hid, ones, top, ofFields, ofBits, toBits}
@@ -21,7 +21,7 @@ use Rattle.float.proofs.Signed.{SignedEq}
 use Rattle.float.proofs.Value.{first-zero, sign-fits, unique, zeroOf, zero-fits}
 use Rattle.float.proofs.Order.{le-over, lt-over, eq-over, lt-value}
 use Rattle.float.proofs.Rounding.{round-own}
-use Rattle.float.proofs.Sum.{add-at, add-neg-zero}
+use Rattle.float.proofs.Sum.{add-at}
 
 -- ---- a finite value beside zero: ±a / c beside 0 / c
 module _ (s : Bool) (m : ℕ) (e : ℤ) where

@@ -2,11 +2,10 @@
 -- taken away (`sub-le`). -0 is the neutral element (`add-neg-zero`, `neg-zero-add`): +0 is not, since -0 + +0 is +0. Assumes nothing.
 use mathlib.Core.Path.{_≡_, refl, sym, ap, ap₂, _∙_, subst, subst₂}
 use mathlib.Core.Bool.{Bool, true, false, not, _&&_, cond}
-use Prim.Native.Nat.{ℕ, zero, suc, _+_, _-_, _*_, _^_, _≤_, _<_}
-use native.Mathlib.Nat.{zero-lt-suc, not-suc-le-zero, zero-add, mul-comm, mul-assoc, mul-one, zero-mul, add-zero, sub-zero, add-mul, mul-sub, not-le-of-lt, mul-le-mul-right, mul-lt-mul-of-pos-right, mul-pos}
+use Prim.Native.Nat.{ℕ, _+_, _-_, _*_, _^_, _≤_, _<_}
+use native.Mathlib.Nat.{not-suc-le-zero, mul-comm, mul-assoc, zero-mul, add-zero, sub-zero, add-mul, mul-sub, not-le-of-lt, mul-le-mul-right, mul-lt-mul-of-pos-right, mul-pos}
 use native.Mathlib.Nat as Nat
 use native.Mathlib.Omega.{arith}
-use lib.IntN.{ℤ}
 use lib.Dec.{T, ltb, ltb→lt, nltb→le}
 use lib.Pow.{pow-pos}
 use lib.Ieee.{Float, nan, inf, fin, Format, up, down, round, sum, add, sub, neg, eq, le, fits, isNan}

@@ -100,7 +100,15 @@ module _ (f : Format) where
   pub sum-from-neg-zero : (n : ℕ) (ns : List ℕ) → foldl _+_ n ns ≤ 2 ^ prec f → foldl (add f) (zeroOf true) (map (ofNat f) (n ∷ ns)) ≡ ofNat f (foldl _+_ n ns)
   sum-from-neg-zero n ns h = ap (λ (z : Float). foldl (add f) z (map (ofNat f) ns)) (neg-zero-add f (ofNat f n) (ofInt-fits f (pos n))) ∙ sum-ofNat n ns h
 
--- on f64
+-- ---- on f64
+pub zero⁺-whole : Whole binary64 zero⁺ 0
+unfolding ofBits
+zero⁺-whole = zero-whole binary64 false
+
+pub zero⁻-whole : Whole binary64 zero⁻ 0
+unfolding ofBits neg
+zero⁻-whole = zero-whole binary64 true
+
 pub sum-zero⁺ : (ns : List ℕ) → foldl _+_ 0 ns ≤ 2 ^ 53 → foldl _⊕_ zero⁺ (map num ns) ≡ num (foldl _+_ 0 ns)
 unfolding ofBits
 sum-zero⁺ ns h = sum-from-zero binary64 ns h

@@ -1,5 +1,5 @@
 -- Section 1: absolute value, the larger of two, finiteness, the sign as a number. Definitions only.
-use mathlib.Core.Bool.{Bool, true, false, _&&_, cond}
+use mathlib.Core.Bool.{false, _&&_, cond}
 use lib.Ieee.{Float, nan, inf, fin, lt, isNan}
 use Rattle.float.specs.Floats.{1·0, -1·0}
 use Rattle.float.specs.Value.{sign}

@@ -1,7 +1,10 @@
 // Section 1 of document 01: the square root of an f64, correctly rounded, absolute value, the larger of
 // two, finiteness, the sign; and the tolerance of sections 6 and 8.
+mod table;
+
+use std::num::wrapping_sub_u64;
 ghost use mathlib.Core.Path.{_≡_};
-ghost use Prim.Native.Nat.{_+_, _*_, _^_, _≤_, _<_};
+ghost use Prim.Native.Nat.{_+_, _*_, _/_, _^_, _<_};
 ghost use lib.Ieee.Scale.{finite};
 ghost use Rattle.float.specs.Root.{isqrt, rootOf, root};
 ghost use Rattle.float.specs.Pattern.{unitsOf, Normal};
@@ -57,45 +60,59 @@ fn root_by_digits(m: u64) -> u64
     root
 }
 
-// Near the whole root of m, for an m from 2^52 up, by Newton's steps from 2^26.5. Nothing is promised:
-// whole_root tests what it gets.
-fn guess(m: u64) -> u64
-    requires { ⌜ m < 2 ^ 54 ⌝ }
+// Near 2^57 / sqrt(m), for m = digits * (2 - odd): a guess of 14 digits, from the table and times the root
+// of a half where odd is 0, and one step of Newton's. Nothing is promised but a bound: quick_root tests
+// what it makes of this.
+fn guess(digits: u64, odd: u64) -> u64
+    requires { ⌜ (digits < 2 ^ 53) × (odd < 2) ⌝ }
+    ensures { λ r. ⌜ r < 2 ^ 32 ⌝ }
 {
-    let a = (94906266 + m / 94906266) / 2;
-    let b = (a + m / a) / 2;
-    let c = (b + m / b) / 2;
-    (c + m / c) / 2
+    let e = table::line(digits / 0x8000_0000_0000 % 32);
+    let t = wrapping_sub_u64(e, e % 0x1_0000 * (digits / 0x2_0000)) / 0x4000_0000 % 0x1_0000;
+    let y = t * (46341 + 19195 * odd) / 0x1_0000;
+    let m = digits * (2 - odd);
+    let twice = wrapping_sub_u64(0xc000_0000_0000_0000, y * y * (m / 0x40_0000));
+    y * (twice / 0x1_0000_0000) / 0x1_0000
 }
 
-// The whole root of m * 2^54. Its upper half, s, is the whole root of m. A division by 2 * s gives the
-// lower half, or one more than that.
-fn whole_root(m: u64) -> u64
-    requires { ⌜ m < 2 ^ 54 ⌝ }
-    ensures { λ r. ⌜ r ≡ isqrt 54 (m * 2 ^ 54) ⌝ }
+// The root of m * 2^52, rounded, or 0 where the guess g of 2^57 / sqrt(m) does not pass. The root's upper
+// part, a, is near that of 4 * m; what the square of a leaves, times the guess, gives the lower part, b.
+// Then rest is exactly what the square of q = a * 2^25 + b leaves of m * 2^52.
+fn quick_root(m: u64, g: u64) -> u64
+    requires { ⌜ (m < 2 ^ 54) × (g < 2 ^ 32) ⌝ }
+    ensures { λ r. ⌜ ((r ≡ 0 → ⊥) → r ≡ (isqrt 54 (m * 2 ^ 54) + 1) / 2) ⌝ }
 {
-    let s = guess(m);
-    if s < 0x400_0000 {
-        return root_by_digits(m);
+    let a = g * (m / 0x40_0000) / 0x4_0000_0000;
+    let d = wrapping_sub_u64(4 * m, a * a);
+    if 0x7fff_ffff < d {
+        return 0;
     }
-    if 0x800_0000 <= s {
-        return root_by_digits(m);
+    let b = d * g / 0x4_0000_0000;
+    let e = wrapping_sub_u64(d * 0x100_0000, a * b);
+    if 0x7fff_ffff < e {
+        return 0;
     }
-    let square = s * s;
-    if m < square {
-        return root_by_digits(m);
+    let q = a * 0x200_0000 + b;
+    let rest = wrapping_sub_u64(e * 0x400_0000, b * b);
+    if 3 * q < rest {
+        return 0;
     }
-    let rest = m - square;
-    if 2 * s < rest {
-        return root_by_digits(m);
+    if q < rest {
+        return q + 1;
     }
-    let q = rest * 0x800_0000 / (2 * s);
-    let u = rest * 0x800_0000 % (2 * s);
-    let root = s * 0x800_0000 + q;
-    if u * 0x800_0000 < q * q {
-        return root - 1;
+    q
+}
+
+// The root of m * 2^52, rounded, from a guess of 2^57 / sqrt(m).
+fn rounded_root(m: u64, g: u64) -> u64
+    requires { ⌜ (m < 2 ^ 54) × (g < 2 ^ 32) ⌝ }
+    ensures { λ r. ⌜ r ≡ (isqrt 54 (m * 2 ^ 54) + 1) / 2 ⌝ }
+{
+    let q = quick_root(m, g);
+    if q == 0 {
+        return (root_by_digits(m) + 1) / 2;
     }
-    root
+    q
 }
 
 // The root of a value that is finite and above zero, from its pattern.
@@ -106,8 +123,8 @@ fn root_of_pattern(b: u64) -> f64
     let p = take_apart(b);
     let digits = p.digits;
     let size = p.size;
-    let m = if size % 2 == 0 { 2 * digits } else { digits };
-    let q = (whole_root(m) + 1) / 2;
+    let odd = size % 2;
+    let q = rounded_root(digits * (2 - odd), guess(digits, odd));
     let k = 484 + (size + 1) / 2;
     f64::from_bits(k * 0x10_0000_0000_0000 + q)
 }

@@ -88,6 +88,16 @@ module _ (n : ℕ) (a : List Float) {m v d : List Float} {k : ℕ} (e : swept k 
         let all : out′ ≡ over (values ++ vectors) out = h ∙ sym (over-all (values ++ vectors) out (omega arith)) in
         ap₂ (λ (o : Outcome Eigen) (l : List Float). record { found = o; out = l }) found (all ∙ ap (λ (o : Outcome Eigen). written n o out) (jacobi-ordered t))
 
+-- what a caller of `eigen` learns: the answer and the output, read together, are what is found; and the output itself
+module _ (n : ℕ) (a out : List Float) (r : Answer) {out′ : List Float} (e : solved n r out′ ≡ solution n a out) where
+  pub solved-found : eigenOf n r out′ ≡ jacobi n a
+  unfolding solution
+  solved-found = ap (λ (s : Solved). s .found) e
+
+  pub solved-out : out′ ≡ written n (jacobi n a) out
+  unfolding solution
+  solved-out = ap (λ (s : Solved). s .out) e
+
 -- ---- the same on slices that may be longer, with the work cleared
 
 sweeps-read : (n : ℕ) (r : Answer) (out : List Float) → outcomeOf r ≡ sweepsOf (eigenOf n r out)
@@ -125,11 +135,11 @@ jacobi-work n a l = by (sweepsFrom 100 n 0 (turned a (identity n))) _ refl
 module _ (n : ℕ) (a out m v : List Float) where
   pub solved-leaves : (r : Answer) {part m′ v′ : List Float} → solved n r part ≡ solution n a (take (n + n * n) out) → length part ≡ n + n * n
       → m′ ≡ cleared zero⁺ m → v′ ≡ cleared zero⁺ v → called r (part ++ drop (n + n * n) out) m′ v′ ≡ leaves n (jacobi n a) out m v
-  unfolding solution leaves
+  unfolding leaves
   solved-leaves r {part} {m′} {v′} e many hm hv =
-      let found : eigenOf n r part ≡ jacobi n a = ap (λ (s : Solved). s .found) e in
+      let found = solved-found n a (take (n + n * n) out) r e in
       let answer : outcomeOf r ≡ sweepsOf (jacobi n a) = sweeps-read n r part ∙ ap sweepsOf found in
-      let first : part ++ drop (n + n * n) out ≡ written n (jacobi n a) out = written-front n out (jacobi n a) many (ap (λ (s : Solved). s .out) e) in
+      let first : part ++ drop (n + n * n) out ≡ written n (jacobi n a) out = written-front n out (jacobi n a) many (solved-out n a (take (n + n * n) out) r e) in
       let m-is : m′ ≡ work zero⁺ (jacobi n a) m = hm ∙ jacobi-work n a m in
       let v-is : v′ ≡ work zero⁺ (jacobi n a) v = hv ∙ jacobi-work n a v in
       λ i. record { answer = answer i; out = first i; m = m-is i; v = v-is i }

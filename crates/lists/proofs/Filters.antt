@@ -171,3 +171,20 @@ module _ (p : ℕ → Bool) (lo i : ℕ) (h : lo ≤ i) where
 
   pub kept-last-no : p i ≡ false → keep p (range lo (i + 1)) ≡ keep p (range lo i)
   kept-last-no e = ap (keep p) (range-last lo i h) ∙ keep-last-no p (range lo i) i e
+
+-- a loop that counts: a are counted, and the rest of the range brings it to t
+module _ (p : ℕ → Bool) (i hi : ℕ) {t : ℕ} where
+  pub count-turn : (a : ℕ) {a′ : ℕ} {b : Bool} → i < hi → b ≡ p i → a′ ≡ cond b 1 0 + a → a + countIf p (range i hi) ≡ t → a′ + countIf p (range (i + 1) hi) ≡ t
+  unfolding countIf
+  count-turn a {a′} {b} h e g inv =
+      let here : countIf p (range i hi) ≡ cond b 1 0 + countIf p (range (i + 1) hi) =
+      ap (countIf p) (range-more i hi h) ∙ ap (λ (u : Bool). cond u 1 0 + countIf p (range (i + 1) hi)) (sym e) in
+      omega arith
+
+  pub count-end : (a : ℕ) → hi ≤ i → a + countIf p (range i hi) ≡ t → a ≡ t
+  count-end a h inv = let none : countIf p (range i hi) ≡ 0 = range-count-none p i hi h in omega arith
+
+-- one or none is counted
+pub one-more : (b : Bool) (a : ℕ) → cond b 1 0 + a ≤ a + 1
+one-more true a = omega arith
+one-more false a = omega arith

@@ -1,5 +1,5 @@
 -- What is known of a lot whose parts fit n, and of one that no line turns away. Assumes nothing.
-use mathlib.Core.Path.{_≡_, refl, sym}
+use mathlib.Core.Path.{_≡_, refl, sym, _∙_}
 use mathlib.Core.Bool.{Bool, true, false, not, _&&_, true≢false}
 use mathlib.Core.List.{List, _∷_}
 use Prim.Native.Nat.{ℕ, _*_, _≤_}
@@ -14,6 +14,7 @@ use Rattle.outcome.specs.Refusals.{Line, _when_, first}
 use Rattle.lot.specs.Lot.{Lot}
 use Rattle.lot.specs.Kept.{groupCount}
 use Rattle.lot.specs.Lines.{badDistance, badWeight, misfits, testLines}
+use Rattle.lot.specs.Described.{samplesOf, Room}
 use Rattle.lot.proofs.Extra.{or-neither}
 
 -- ---- a lot whose parts fit n
@@ -76,4 +77,18 @@ passes lot short beyond e =
       values = l₃ .0;
       weights = l₄ .0;
       groups = ltb-false _ _ (l₅ .0);
+    }
+
+-- Slices of n numbers or more are room for the description of such a lot.
+pub passes-room : {lot : Lot} {short beyond : Bool} (ks ns gs ss : List ℕ) → Passes lot short beyond
+    → lot .n ≤ length ks → lot .n ≤ length ns → lot .n ≤ length gs → lot .n ≤ length ss → Room (samplesOf (lot .labels) (lot .stratified) (lot .strata)) ks ns gs ss
+passes-room {lot} ks ns gs ss p a b c d =
+    let fit = p .fits .labelsFit in
+    record {
+      few = omega (arith, p .few);
+      strataFit = λ g. p .fits .strataFit g ∙ sym fit;
+      samplesFit = omega arith;
+      namesFit = omega arith;
+      groupsFit = omega arith;
+      numbersFit = omega arith;
     }

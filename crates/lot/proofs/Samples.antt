@@ -1,17 +1,18 @@
 -- Kept samples and their groups: how many there are, and that each has its place. Assumes nothing.
-use mathlib.Core.Path.{_≡_, sym, ap, _∙_, subst}
+use mathlib.Core.Path.{_≡_, refl, sym, ap, _∙_, subst}
 use mathlib.Core.Bool.{Bool, true, cond}
 use mathlib.Core.List.{List, _++_, map}
 use Prim.Native.Nat.{ℕ, _+_, _-_, _≤_}
 use native.Mathlib.Omega.{arith}
 use lib.ListN.{length, getD, take, drop, length-map}
+use lib.Ieee.{Float}
 use Rattle.lists.specs.Ranges.{range}
 use Rattle.lists.specs.Numbers.{howMany, position, upward, Below}
 use Rattle.lists.specs.Writes.{over}
 use Rattle.lists.proofs.Ranges.{length-range}
 use Rattle.lists.proofs.Filters.{length-keep, countIf-below}
 use Rattle.lists.proofs.Writes.{take-over}
-use Rattle.lot.specs.Lot.{none}
+use Rattle.lot.specs.Lot.{none, lotOf}
 use Rattle.lot.specs.Filled.{Filled}
 use Rattle.lot.specs.Kept.{twice, kept, gathered, keptLabels, names, groups}
 use Rattle.lot.specs.Strata.{named, numbered, heldStrata, strata, strataCount}
@@ -104,3 +105,14 @@ module _ (labels given : List ℕ) (stratified : Bool) {sizes : Sizes} {ks ns gs
     stratified = t .numbers ∙ ap (λ (l : List ℕ). over (cond stratified (numbered (gathered given l)) (map (λ i. 0) l)) ss) front-kept;
     strataMany = t .count ∙ ap (λ (l : List ℕ). cond stratified (length (named (gathered given l)) + howMany none (gathered given l)) 1) front-kept;
   }
+
+-- ---- what is told of the samples is told of the lot
+
+module _ (n : ℕ) (d : List Float) (labels : List ℕ) (stratified : Bool) (given : List ℕ) (weighted : Bool) (w : List Float) where
+  pub told-strata : strata (samplesOf labels stratified given) ≡ strata (lotOf n d labels stratified given weighted w)
+  unfolding strata heldStrata
+  told-strata = refl
+
+  pub told-strataCount : strataCount (samplesOf labels stratified given) ≡ strataCount (lotOf n d labels stratified given weighted w)
+  unfolding strataCount heldStrata
+  told-strataCount = refl

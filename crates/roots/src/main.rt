@@ -4,8 +4,9 @@
 use libc::STDOUT_FILENO;
 
 // Zeros, the ends of the subnormals and of the normals, the neighbours of powers of two, the infinities,
-// a NaN, negative numbers; and values whose roots lie nearest to halfway between two f64.
-const PATTERNS: [u64; 39] = [
+// a NaN, negative numbers; values whose roots lie nearest to halfway between two f64; and four whose roots
+// are found digit by digit.
+const PATTERNS: [u64; 43] = [
     0x0000_0000_0000_0000,
     0x8000_0000_0000_0000,
     0x0000_0000_0000_0001,
@@ -45,6 +46,10 @@ const PATTERNS: [u64; 39] = [
     0x3ffe_9989_3042_c2cb,
     0x4004_eb5f_85e7_83a9,
     0x3ffb_a44c_2a07_37a2,
+    0x4000_4a0e_a48f_9186,
+    0x4000_7d5a_2c5b_d4fa,
+    0x3ff0_4658_1386_72a8,
+    0x3ff0_4529_742e_6aa3,
 ];
 
 // The value of a pattern.
@@ -83,7 +88,7 @@ fn line(b: u64) {
 // The patterns above.
 fn listed() {
     let mut i: usize = 0;
-    while i < 39 {
+    while i < 43 {
         line(PATTERNS[i]);
         i += 1;
     }

@@ -51,6 +51,10 @@ pub record Turned : Type 0 where
 abbrev pub turned : List Float → List Float → Turned
 turned m v = record { matrix = m; vectors = v }
 
+-- the matrix and the vectors whose rows p are held apart, as x and y
+abbrev pub held : ℕ → ℕ → List Float → List Float → List Float → List Float → Turned
+held n p m v x y = turned (putRow n p x m) (putRow n p y v)
+
 -- columns and rows p and q of the matrix, and rows p and q of the vectors
 unfoldable pub turnPair : ℕ → ℕ → ℕ → Float → Float → Turned → Turned
 turnPair n p q c s st = turned (turnRows n p q c s (turnColumns n p q c s (st .matrix))) (turnRows n p q c s (st .vectors))

@@ -2,7 +2,6 @@
 use mathlib.Core.Path.{sym, _∙_}
 use borrow.Author.Needs.{needs}
 use borrow.Author.Tests.{lt-ltb, le-ltb}
-use Rattle.jacobi.specs.Call.{misfits}
 use Rattle.jacobi.proofs.Call.{line-length, line-limit, line-value, line-none}
 use Rattle.jacobi.proofs.check.Statement.{statement}
 use Rattle.jacobi.proofs.check.Tie as tie

@@ -27,13 +27,16 @@ same-length-2 c = search needs
 same-length-3 : tie.Need-same-length-3
 same-length-3 c = search needs
 
+same-length-4 : tie.Need-same-length-4
+same-length-4 c = search needs
+
 returns : tie.Need-returns
 returns c =
     let at-gather-diagonal = c .before .before in
-    let at-sweep-all = at-gather-diagonal .before .before .before .before .before .before .before .before .before in
-    let at-fill-identity = at-sweep-all .before .before .before .before .before .before in
+    let at-sweep-all = at-gather-diagonal .before .before .before .before .before .before .before .before .before .before .before in
+    let at-fill-identity = at-sweep-all .before .before .before .before .before .before .before in
     let at-copy = at-fill-identity .before .before .before .before in
-    let at-start = at-copy .before .before .before .before .before .before in
+    let at-start = at-copy .before .before .before .before .before .before .before in
     let start = ap₂ turned (at-copy .copy .ensures) (at-fill-identity .fill-identity .ensures) in
     (at-sweep-all .sweep-all .ensures ∙ ap (sweepsFrom 100 (at-start .args .n) 0) start, at-gather-diagonal .gather-diagonal .ensures)
 
@@ -48,4 +51,5 @@ diagonalise-spec =
     same-length
     same-length-2
     same-length-3
+    same-length-4
     returns)

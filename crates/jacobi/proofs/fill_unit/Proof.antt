@@ -1,7 +1,6 @@
 -- `jacobi::fill_unit` meets its contract. Zeros, and a 1 at place i. Assumes nothing.
 use borrow.Author.Needs.{needs}
 use lib.ListN.{length}
-use Rattle.lists.specs.Rows.{row}
 use Rattle.lists.specs.Writes.{cleared}
 use Rattle.jacobi.proofs.Filling.{unit-row}
 use Rattle.jacobi.proofs.fill_unit.Statement.{statement}

@@ -6,7 +6,6 @@ use borrow.Author.Needs.{needs}
 use lib.ListN.{replicate}
 use lib.Seq.{length-take-le, length-front}
 use Rattle.float.specs.Floats.{zero⁺}
-use Rattle.lists.specs.Rows.{row}
 use Rattle.lists.specs.Writes.{cleared}
 use Rattle.jacobi.proofs.Call.{solved-leaves}
 use Rattle.jacobi.proofs.solve.Statement.{statement}

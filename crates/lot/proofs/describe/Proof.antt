@@ -23,9 +23,10 @@ slice-aggregate-stratify c = filled-part _ (c .before .before .before .before .b
 stratify-requires : tie.Need-stratify-requires
 stratify-requires c κs =
     let start = c .before .before .before .before .before .before .before .before .before .before .before .before .before .before .before .before .before .before in
-    let front = front-kept (start .args .labels .now) (start .args .given .now) (start .args .stratified) (c .before .before .before .before .before .before .before .before .group .ensures) in
+    let group-done = c .before .before .before .before .before .before .before .before .group in
+    let front = front-kept (start .args .labels .now) (start .args .given .now) (start .args .stratified) (group-done .ensures) in
     let few = kept-few (start .args .labels .now) in
-    (front-below (start .args .labels .now) (start .args .given .now) (start .args .stratified) (c .before .before .before .before .before .before .before .before .group .ensures) (start .pre .strataFit), omega (arith, ap length front, start .pre .few), omega (arith, ap length front, start .pre .numbersFit))
+    (front-below (start .args .labels .now) (start .args .given .now) (start .args .stratified) (group-done .ensures) (start .pre .strataFit), omega (arith, ap length front, start .pre .few), omega (arith, ap length front, start .pre .numbersFit))
 
 same-length : tie.Need-same-length
 same-length c = search needs
@@ -42,7 +43,8 @@ same-length-4 c = search needs
 returns : tie.Need-returns
 returns c =
     let start = c .before .before .before .before .before .before .before .before .before .before .before .before .before .before .before .before .before .before .before .before .before in
-    described (start .args .labels .now) (start .args .given .now) (start .args .stratified) (c .before .before .before .before .before .before .before .before .before .before .before .group .ensures) (c .before .before .stratify .ensures)
+    let group-done = c .before .before .before .before .before .before .before .before .before .before .before .group in
+    described (start .args .labels .now) (start .args .given .now) (start .args .stratified) (group-done .ensures) (c .before .before .stratify .ensures)
 
 pub describe-spec : {M : Type 1} → statement M
 describe-spec =

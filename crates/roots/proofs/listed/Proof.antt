@@ -1,14 +1,14 @@
 -- `roots::listed` meets its contract: the loop counts up to the length. Assumes nothing.
-use Prim.Native.Nat.{_≤_, _<_, _-_}
+use Prim.Native.Nat.{_≤_, _-_}
 use borrow.Author.Needs.{needs}
 use Rattle.roots.proofs.listed.Statement.{statement}
 use Rattle.roots.proofs.listed.Tie as tie
 
 abbrev Inv-loop : tie.InvT-loop
-Inv-loop i₀ i = i ≤ 39
+Inv-loop i₀ i = i ≤ 43
 
 abbrev μ-loop : tie.MeasureT-loop
-μ-loop i₀ i = 39 - i
+μ-loop i₀ i = 43 - i
 
 loop-holds : tie.Need-loop-holds Inv-loop μ-loop
 loop-holds c = search needs

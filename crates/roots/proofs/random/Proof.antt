@@ -1,5 +1,5 @@
 -- `roots::random` meets its contract: the loop counts up to a bound. Assumes nothing.
-use Prim.Native.Nat.{_≤_, _<_, _-_}
+use Prim.Native.Nat.{_≤_, _-_}
 use borrow.Author.Needs.{needs}
 use Rattle.roots.proofs.random.Statement.{statement}
 use Rattle.roots.proofs.random.Tie as tie

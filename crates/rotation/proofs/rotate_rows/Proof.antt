@@ -1,32 +1,13 @@
--- `rotation::rotate_rows` meets its contract. Row q is copied out, turned against row p, and copied back. Assumes nothing.
+-- `rotation::rotate_rows` meets its contract. Row q is lent as its own part. Assumes nothing.
+use mathlib.Core.Path.{ap, _∙_}
+use mathlib.Core.List.{List, zipWith}
 use borrow.Author.Needs.{needs}
-use Rattle.rotation.proofs.Rotation.{turn-rows}
+use lib.Ieee.{Float}
+use Rattle.lists.specs.Rows.{putRow}
+use Rattle.lists.proofs.Rows.{part-row, put-row}
+use Rattle.rotation.specs.Rotation.{turnFirst, turnSecond}
 use Rattle.rotation.proofs.rotate_rows.Statement.{statement}
 use Rattle.rotation.proofs.rotate_rows.Tie as tie
-
-mul-copy : tie.Need-mul-copy
-mul-copy c = search needs
-
-mul-copy-2 : tie.Need-mul-copy-2
-mul-copy-2 c = search needs
-
-add-copy : tie.Need-add-copy
-add-copy c = search needs
-
-mul-copy-3 : tie.Need-mul-copy-3
-mul-copy-3 c = search needs
-
-sub-copy : tie.Need-sub-copy
-sub-copy c = search needs
-
-part-copy-start : tie.Need-part-copy-start
-part-copy-start c = search needs
-
-part-copy-end : tie.Need-part-copy-end
-part-copy-end c = search needs
-
-copy-requires : tie.Need-copy-requires
-copy-requires c κs = search needs
 
 mul-rotate-pair : tie.Need-mul-rotate-pair
 mul-rotate-pair c = search needs
@@ -52,30 +33,6 @@ part-rotate-pair-end c = search needs
 rotate-pair-requires : tie.Need-rotate-pair-requires
 rotate-pair-requires c κs = search needs
 
-mul-copy-4 : tie.Need-mul-copy-4
-mul-copy-4 c = search needs
-
-mul-copy-5 : tie.Need-mul-copy-5
-mul-copy-5 c = search needs
-
-add-copy-2 : tie.Need-add-copy-2
-add-copy-2 c = search needs
-
-mul-copy-6 : tie.Need-mul-copy-6
-mul-copy-6 c = search needs
-
-sub-copy-2 : tie.Need-sub-copy-2
-sub-copy-2 c = search needs
-
-part-copy-start-2 : tie.Need-part-copy-start-2
-part-copy-start-2 c = search needs
-
-part-copy-end-2 : tie.Need-part-copy-end-2
-part-copy-end-2 c = search needs
-
-copy-requires-2 : tie.Need-copy-requires-2
-copy-requires-2 c κs = search needs
-
 same-length : tie.Need-same-length
 same-length c = search needs
 
@@ -84,25 +41,19 @@ same-length-2 c = search needs
 
 returns : tie.Need-returns
 returns c =
-    let at-copy2 = c .before .before in
-    let at-rotate-pair = at-copy2 .before .before .before .before .before .before .before in
-    let at-copy = at-rotate-pair .before .before .before .before .before in
-    let at-start = at-copy .before .before .before .before .before .before in
+    let at-rotate-pair = c .before .before .before .before in
+    let at-start = at-rotate-pair .before .before .before .before .before in
     let a = at-start .args in
-    turn-rows (a .n) (a .p) (a .q) (a .c) (a .s) (a .m .now) (at-copy .copy .ensures) (at-rotate-pair .rotate-pair .ensures) (at-copy2 .copy2 .ensures)
+    let lent = part-row (a .n) (a .q) (a .m .now) in
+    let both = at-rotate-pair .rotate-pair .ensures in (
+      both .0 ∙ ap (zipWith (turnFirst (a .c) (a .s)) (a .x .now)) lent,
+      put-row (a .n) (a .q) (a .m .now) _ ∙ ap (λ (r : List Float). putRow (a .n) (a .q) r (a .m .now)) (both .1 ∙ ap (zipWith (turnSecond (a .c) (a .s)) (a .x .now)) lent),
+    )
 
 pub rotate-rows-spec : {M : Type 1} → statement M
 rotate-rows-spec =
     tie.close
     (tie.spec
-    mul-copy
-    mul-copy-2
-    add-copy
-    mul-copy-3
-    sub-copy
-    part-copy-start
-    part-copy-end
-    copy-requires
     mul-rotate-pair
     mul-rotate-pair-2
     add-rotate-pair
@@ -111,14 +62,6 @@ rotate-rows-spec =
     part-rotate-pair-start
     part-rotate-pair-end
     rotate-pair-requires
-    mul-copy-4
-    mul-copy-5
-    add-copy-2
-    mul-copy-6
-    sub-copy-2
-    part-copy-start-2
-    part-copy-end-2
-    copy-requires-2
     same-length
     same-length-2
     returns)

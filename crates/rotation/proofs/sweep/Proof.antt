@@ -4,25 +4,28 @@ use Prim.Native.Nat.{_-_, _≤_}
 use native.Mathlib.Omega.{arith}
 use lib.ListN.{length}
 use Rattle.lists.specs.Loops.{inTurn}
-use Rattle.lists.specs.Rows.{row}
 use Rattle.lists.proofs.Loops.{inTurn-none, inTurn-next}
+use Rattle.lists.proofs.Rows.{row-end}
 use Rattle.rotation.specs.Rotation.{turned}
 use Rattle.rotation.specs.Sweeps.{sweepRow, sweep}
 use Rattle.rotation.proofs.sweep.Statement.{statement}
 use Rattle.rotation.proofs.sweep.Tie as tie
 
 abbrev Inv-loop : tie.InvT-loop
-Inv-loop m₀ v₀ row₀ n p₀ m v row p =
-    (p ≤ n) × (length m ≡ length m₀) × (length v ≡ length v₀) × (length row ≡ length row₀) × (turned m v ≡ inTurn (sweepRow n) p (turned m₀ v₀))
+Inv-loop m₀ v₀ x₀ y₀ n p₀ m v x y p =
+    (p ≤ n) × (length m ≡ length m₀) × (length v ≡ length v₀) × (length x ≡ length x₀) × (length y ≡ length y₀)
+    × (turned m v ≡ inTurn (sweepRow n) p (turned m₀ v₀))
 
 abbrev μ-loop : tie.MeasureT-loop
-μ-loop m₀ v₀ row₀ n p₀ m v row p = n - p
+μ-loop m₀ v₀ x₀ y₀ n p₀ m v x y p = n - p
 
 loop-holds : tie.Need-loop-holds Inv-loop μ-loop
-loop-holds c = (omega arith, refl, refl, refl, inTurn-none _ _)
+loop-holds c = (omega arith, refl, refl, refl, refl, inTurn-none _ _)
 
 sweep-row-requires : tie.Need-sweep-row-requires Inv-loop μ-loop
-sweep-row-requires c κs = omega arith
+sweep-row-requires c κs =
+    let ends = row-end (c .before .before .before .before .before .before .before .before .before .before .args .n) (c .before .before .before .before .before .loop .p) (c .before .before .before .before .before .before .before .before .before .before .args .n) (c .before .before .before .before .loop-test .taken) in
+    omega arith
 
 add-p : tie.Need-add-p Inv-loop μ-loop
 add-p c = omega arith
@@ -32,13 +35,16 @@ loop-less c = omega arith
 
 loop-again : tie.Need-loop-again Inv-loop μ-loop
 loop-again c =
-    let call = c .before .before .before .before .before .before .sweep-row in
-    let inv = c .before .before .before .before .before .before .before .before .before .before .before .loop .inv in (
+    let at-sweep-row = c .before .before .before .before .before .before .before .before in
+    let at-loop = at-sweep-row .before .before .before .before .before .before in
+    let call = at-sweep-row .sweep-row in
+    let inv = at-loop .loop .inv in (
       omega arith,
       call .kept .0 ∙ inv .1,
       call .kept .1 .0 ∙ inv .2,
       call .kept .1 .1 .0 ∙ inv .3,
-      inTurn-next _ _ _ (inv .4) (call .ensures),
+      call .kept .1 .1 .1 .0 ∙ inv .4,
+      inTurn-next _ _ _ (inv .5) (call .ensures),
     )
 
 same-length : tie.Need-same-length Inv-loop μ-loop
@@ -50,9 +56,16 @@ same-length-2 c = c .before .loop .inv .2
 same-length-3 : tie.Need-same-length-3 Inv-loop μ-loop
 same-length-3 c = c .before .loop .inv .3
 
+same-length-4 : tie.Need-same-length-4 Inv-loop μ-loop
+same-length-4 c = c .before .loop .inv .4
+
 returns : tie.Need-returns Inv-loop μ-loop
 unfolding sweep
-returns c = let all : c .before .loop .p ≡ c .before .before .before .before .before .args .n = omega arith in rw all at (c .before .loop .inv .4)
+returns c =
+    let at-loop = c .before in
+    let at-start = at-loop .before .before .before .before .before in
+    let all : at-loop .loop .p ≡ at-start .args .n = omega arith in
+    rw all at (at-loop .loop .inv .5)
 
 pub sweep-spec : {M : Type 1} → statement M
 sweep-spec =
@@ -68,4 +81,5 @@ sweep-spec =
     same-length
     same-length-2
     same-length-3
+    same-length-4
     returns)

@@ -26,12 +26,14 @@ slice-relend-prefix-number-labels c =
 slice-aggregate-number-labels : tie.Need-slice-aggregate-number-labels
 slice-aggregate-number-labels c =
     let start = c .before .before .before .before .before .before .before .before .before in
-    sym (length-take-le (length (start .args .ks .now)) (c .before .before .before .gather .last .1 .1 .0) (omega (arith, ap length (start .pre .1), kept-few (start .args .labels .now), c .before .before .before .gather .kept .1 .1 .0)))
+    let gather-done = c .before .before .before .gather in
+    sym (length-take-le (length (start .args .ks .now)) (gather-done .last .1 .1 .0) (omega (arith, ap length (start .pre .1), kept-few (start .args .labels .now), gather-done .kept .1 .1 .0)))
 
 number-labels-requires : tie.Need-number-labels-requires
 number-labels-requires c κs =
     let start = c .before .before .before .before .before .before .before .before .before .before in
-    let few = front-few (start .args .labels .now) (start .args .ks .now) (start .args .gs .now) (c .before .before .before .before .gather .last .1 .1 .0) (start .pre .1) (c .before .before .before .before .gather .ensures) in
+    let gather-done = c .before .before .before .before .gather in
+    let few = front-few (start .args .labels .now) (start .args .ks .now) (start .args .gs .now) (gather-done .last .1 .1 .0) (start .pre .1) (gather-done .ensures) in
     (omega arith, omega arith)
 
 same-length : tie.Need-same-length
@@ -43,12 +45,14 @@ same-length-2 c = search needs
 returns : tie.Need-returns
 returns c =
     let start = c .before .before .before .before .before .before .before .before .before .before .before .before .before .before .before in
+    let gather-done = c .before .before .before .before .before .before .before .before .before .gather in
+    let number-labels-done = c .before .before .before .before .number-labels in
     let labels = start .args .labels .now in
     let ks = start .args .ks .now in
     let gs = start .args .gs .now in
-    let held = c .before .before .before .before .before .before .before .before .before .gather .last .1 .1 .0 in (
-      named-groups labels ks gs held (start .pre .1) (c .before .before .before .before .before .before .before .before .before .gather .ensures) (c .before .before .before .before .number-labels .ensures .0),
-      numbered-groups labels ks gs held (start .pre .1) (c .before .before .before .before .before .before .before .before .before .gather .ensures) (c .before .before .before .before .number-labels .ensures .1),
+    let held = gather-done .last .1 .1 .0 in (
+      named-groups labels ks gs held (start .pre .1) (gather-done .ensures) (number-labels-done .ensures .0),
+      numbered-groups labels ks gs held (start .pre .1) (gather-done .ensures) (number-labels-done .ensures .1),
     )
 
 pub name-groups-spec : {M : Type 1} → statement M

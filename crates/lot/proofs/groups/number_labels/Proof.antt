@@ -26,7 +26,8 @@ slice-aggregate-number-by c = filled-part _ (c .before .before .before .fill-upw
 number-by-requires : tie.Need-number-by-requires
 number-by-requires c κs =
     let start = c .before .before .before .before .before .before .before .before .before in
-    omega (arith, filled-part _ (c .before .before .before .before .fill-upward .ensures), c .before .before .before .before .fill-upward .ensures .many, length-upward (start .args .labels .now))
+    let fill-upward-done = c .before .before .before .before .fill-upward in
+    omega (arith, filled-part _ (fill-upward-done .ensures), fill-upward-done .ensures .many, length-upward (start .args .labels .now))
 
 same-length : tie.Need-same-length
 same-length c = search needs
@@ -36,9 +37,10 @@ same-length-2 c = search needs
 
 returns : tie.Need-returns
 returns c =
-    let start = c .before .before .before .before .before .before .before .before .before .before .before .before in (
-      c .before .before .before .before .before .before .before .fill-upward .ensures,
-      c .before .before .number-by .ensures ∙ ap (λ (ns : List ℕ). map (λ l. position l ns) (start .args .labels .now)) (filled-front _ (c .before .before .before .before .before .before .before .fill-upward .ensures)),
+    let start = c .before .before .before .before .before .before .before .before .before .before .before .before in
+    let fill-upward-done = c .before .before .before .before .before .before .before .fill-upward in (
+      fill-upward-done .ensures,
+      c .before .before .number-by .ensures ∙ ap (λ (ns : List ℕ). map (λ l. position l ns) (start .args .labels .now)) (filled-front _ (fill-upward-done .ensures)),
     )
 
 pub number-labels-spec : {M : Type 1} → statement M

@@ -14,8 +14,9 @@ fill-named-requires c κs = search needs
 slice-reshare-prefix-number-by : tie.Need-slice-reshare-prefix-number-by
 slice-reshare-prefix-number-by c =
     let start = c .before .before .before .before .before .before .before .before in
-    let few : c .before .before .before .fill-named .result ≤ length (start .args .ns .now) = omega (arith, c .before .before .before .fill-named .ensures .many, length-named (start .args .held .now)) in
-    omega (arith, filled-long _ (c .before .before .before .fill-named .ensures) few)
+    let fill-named-done = c .before .before .before .fill-named in
+    let few : fill-named-done .result ≤ length (start .args .ns .now) = omega (arith, fill-named-done .ensures .many, length-named (start .args .held .now)) in
+    omega (arith, filled-long _ (fill-named-done .ensures) few)
 
 slice-aggregate-number-by : tie.Need-slice-aggregate-number-by
 slice-aggregate-number-by c = filled-part _ (c .before .before .before .before .fill-named .ensures)

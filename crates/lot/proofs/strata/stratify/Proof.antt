@@ -21,12 +21,14 @@ slice-relend-prefix-number c = search needs
 slice-aggregate-number : tie.Need-slice-aggregate-number
 slice-aggregate-number c =
     let start = c .before .before .before .before .before .before .before .before .before in
-    sym (length-take-le (length (start .args .ks .now)) (c .before .before .before .gather .last .1 .1 .0) (omega (arith, c .before .before .before .gather .kept .1 .1 .0, start .pre .2)))
+    let gather-done = c .before .before .before .gather in
+    sym (length-take-le (length (start .args .ks .now)) (gather-done .last .1 .1 .0) (omega (arith, gather-done .kept .1 .1 .0, start .pre .2)))
 
 number-requires : tie.Need-number-requires
 number-requires c κs =
     let start = c .before .before .before .before .before .before .before .before .before in
-    omega (arith, length-take-le (length (start .args .ks .now)) (c .before .before .before .gather .last .1 .1 .0) (omega (arith, c .before .before .before .gather .kept .1 .1 .0, start .pre .2)), start .pre .1)
+    let gather-done = c .before .before .before .gather in
+    omega (arith, length-take-le (length (start .args .ks .now)) (gather-done .last .1 .1 .0) (omega (arith, gather-done .kept .1 .1 .0, start .pre .2)), start .pre .1)
 
 same-length : tie.Need-same-length
 same-length c = search needs
@@ -34,7 +36,8 @@ same-length c = search needs
 returns : tie.Need-returns
 returns c =
     let start = c .before .before .before .before .before .before .before .before .before .before .before .before in
-    stratified-numbered (start .args .given .now) (start .args .ks .now) (start .args .out .now) (c .before .before .before .before .before .before .before .before .if1 .taken) (c .before .before .before .before .before .before .gather .ensures) (c .before .before .number .ensures .0) (c .before .before .number .ensures .1)
+    stratified-numbered (start .args .given .now) (start .args .ks .now) (start .args .out .now) (c .before .before .before .before .before .before .before .before .if1 .taken)
+    (c .before .before .before .before .before .before .gather .ensures) (c .before .before .number .ensures .0) (c .before .before .number .ensures .1)
 
 slice-relend-prefix-clear-u16 : tie.Need-slice-relend-prefix-clear-u16
 slice-relend-prefix-clear-u16 c = search needs

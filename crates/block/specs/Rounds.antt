@@ -1,0 +1,43 @@
+-- Section 4: the power steps that bound the spectral radius, and the rounds of the block iteration. Definitions only.
+use Prim.Native.Nat.{ℕ, zero, suc}
+use mathlib.Core.Bool.{Bool, true, false}
+use mathlib.Core.List.{List, zipWith}
+use lib.Ieee.{Float, eq, le}
+use Rattle.float.specs.Floats.{_⊖_, _⊗_, zero⁺, 1e-10, 1e-12}
+use Rattle.float.specs.Order.{magnitude, larger}
+use Rattle.lists.specs.Ranges.{table}
+use Rattle.lists.specs.Filters.{all}
+use Rattle.lists.specs.Rows.{row}
+use Rattle.vectors.specs.Vectors.{dot, norm, plusTimes, divided}
+use Rattle.block.specs.Block.{times, timesBlock, orthonormal}
+
+-- at most so many power steps more on x: the length of the last product, at once where it is 0
+unfoldable pub powerBound : ℕ → ℕ → List Float → Float → List Float → Float
+powerBound zero n a rho x = rho
+powerBound (suc more) n a rho x =
+    let y = times n a x in
+    let r = norm y in
+    elim (eq r zero⁺) as (λ b. Float) [ true ↦ r | false ↦ powerBound more n a r (divided r y) ]
+
+-- one step of the block: (a + shift) q made orthonormal
+unfoldable pub blockStep : ℕ → List Float → ℕ → Float → List Float → List Float
+blockStep n a b shift q = orthonormal n b (plusTimes shift (timesBlock n a b q) q)
+
+-- the first k Ritz values of a block q, with its product aq
+unfoldable pub ritz : ℕ → ℕ → List Float → List Float → List Float
+ritz n k q aq = table k (λ j. dot (row n j q) (row n j aq))
+
+-- whether the Ritz value r has settled since p, and whether all have
+unfoldable pub settledAt : Float → Float → Bool
+settledAt r p = le (magnitude (r ⊖ p)) (1e-10 ⊗ larger (magnitude r) 1e-12)
+
+unfoldable pub settled : List Float → List Float → Bool
+settled latest before = all (λ b. b) (zipWith settledAt latest before)
+
+-- at most so many rounds more: each steps the block, until its first k Ritz values have settled
+unfoldable pub iterate : ℕ → ℕ → List Float → ℕ → ℕ → Float → List Float → List Float → List Float
+iterate zero n a b k shift before q = q
+iterate (suc more) n a b k shift before q =
+    let p = blockStep n a b shift q in
+    let latest = ritz n k p (timesBlock n a b p) in
+    elim (settled latest before) as (λ d. List Float) [ true ↦ p | false ↦ iterate more n a b k shift latest p ]

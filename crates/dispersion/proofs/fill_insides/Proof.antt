@@ -1,0 +1,65 @@
+-- `dispersion::fill_insides` meets its contract. After k turns the first k entries are written.
+-- Assumes nothing.
+
+use mathlib.Core.Path.{ap, _∙_}
+use Prim.Native.Nat.{_-_, _≤_}
+use native.Mathlib.Omega.{arith}
+use Rattle.lists.proofs.Writes.{Writing, writing-none, writing-next, writing-front}
+use Rattle.dispersion.specs.Dispersion.{inside}
+use Rattle.members.specs.Members.{part}
+use Rattle.members.proofs.Places.{part-there, part-below}
+use Rattle.dispersion.proofs.fill_insides.Statement.{statement}
+use Rattle.dispersion.proofs.fill_insides.Tie as tie
+
+abbrev Inv-loop : tie.InvT-loop
+Inv-loop t m g next mem out₀ k₀ out k = (k ≤ g) × Writing (λ k. inside t m (part next mem k)) out₀ out k
+
+abbrev μ-loop : tie.MeasureT-loop
+μ-loop t m g next mem out₀ k₀ out k = g - k
+
+loop-holds : tie.Need-loop-holds Inv-loop μ-loop
+loop-holds c = (omega arith, writing-none (λ k. inside (c .before .before .before .before .args .t .now) (c .before .before .before .before .args .m) (part (c .before .before .before .before .args .next .now) (c .before .before .before .before .args .mem .now) k)) (c .before .before .before .before .args .out .now))
+
+part-of-requires : tie.Need-part-of-requires Inv-loop μ-loop
+part-of-requires c κs = part-there (c .before .before .before .before .before .before .args .m) (c .before .before .before .before .before .before .args .g) (c .before .loop .k) (c .before .before .before .before .before .before .args .next .now) (c .before .before .before .before .before .before .args .mem .now) (c .before .before .before .before .before .before .pre .1) (omega arith)
+
+inside-requires : tie.Need-inside-requires Inv-loop μ-loop
+inside-requires c κs = (c .before .before .before .before .before .before .before .pre .0, part-below (c .before .before .before .before .before .before .before .args .m) (c .before .before .before .before .before .before .before .args .g) (c .before .before .loop .k) (c .before .before .before .before .before .before .before .args .next .now) (c .before .before .before .before .before .before .before .args .mem .now) _ (c .before .before .before .before .before .before .before .pre .1) (omega arith) (c .part-of .ensures))
+
+mul-out : tie.Need-mul-out Inv-loop μ-loop
+mul-out c = omega (arith, c .before .before .before .loop .inv .1 .long)
+
+slice-write-out : tie.Need-slice-write-out Inv-loop μ-loop
+slice-write-out c = omega (arith, c .before .before .before .loop .inv .1 .long)
+
+add-k : tie.Need-add-k Inv-loop μ-loop
+add-k c = omega arith
+
+loop-less : tie.Need-loop-less Inv-loop μ-loop
+loop-less c = omega arith
+
+loop-again : tie.Need-loop-again Inv-loop μ-loop
+loop-again c = (omega arith, writing-next (λ k. inside (c .before .before .before .before .before .before .before .before .args .t .now) (c .before .before .before .before .before .before .before .before .args .m) (part (c .before .before .before .before .before .before .before .before .args .next .now) (c .before .before .before .before .before .before .before .before .args .mem .now) k)) (c .before .before .before .before .before .before .before .before .args .out .now) (c .before .before .before .loop .inv .1) (omega arith) (c .inside .ensures ∙ ap (inside (c .before .before .before .before .before .before .before .before .args .t .now) (c .before .before .before .before .before .before .before .before .args .m)) (c .before .part-of .ensures)))
+
+same-length : tie.Need-same-length Inv-loop μ-loop
+same-length c = c .before .loop .inv .1 .long
+
+returns : tie.Need-returns Inv-loop μ-loop
+returns c = writing-front (λ k. inside (c .before .before .before .before .before .before .args .t .now) (c .before .before .before .before .before .before .args .m) (part (c .before .before .before .before .before .before .args .next .now) (c .before .before .before .before .before .before .args .mem .now) k)) (c .before .before .before .before .before .before .args .out .now) (c .before .loop .inv .1) (omega arith)
+
+pub fill-insides-spec : {M : Type 1} → statement M
+fill-insides-spec =
+    tie.close
+    (tie.spec
+    Inv-loop
+    μ-loop
+    loop-holds
+    part-of-requires
+    inside-requires
+    mul-out
+    slice-write-out
+    add-k
+    loop-less
+    loop-again
+    same-length
+    returns)

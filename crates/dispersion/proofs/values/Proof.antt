@@ -1,0 +1,43 @@
+-- `dispersion::values` meets its contract. The parts are the groups, so the values are theirs.
+-- Assumes nothing.
+
+use mathlib.Core.Path.{_∙_}
+use Prim.Native.Nat.{_-_}
+use native.Mathlib.Omega.{arith}
+use borrow.Author.Needs.{needs}
+use Rattle.dispersion.proofs.Parted.{values-are}
+use Rattle.dispersion.proofs.values.Statement.{statement}
+use Rattle.dispersion.proofs.values.Tie as tie
+
+fill-weights-requires : tie.Need-fill-weights-requires
+fill-weights-requires c κs = search needs
+
+fill-insides-requires : tie.Need-fill-insides-requires
+fill-insides-requires c κs = search needs
+
+fill-values-requires : tie.Need-fill-values-requires
+fill-values-requires c κs = (c .before .before .before .before .before .before .before .before .before .before .before .before .before .before .before .before .before .before .before .before .pre .0 .0, c .before .before .before .before .before .before .before .before .before .before .before .before .before .before .before .before .before .before .before .before .pre .0 .3, c .before .before .before .before .before .before .before .before .before .before .before .before .before .before .before .before .before .before .before .before .pre .0 .4, c .before .before .before .before .before .before .before .before .before .before .before .before .before .before .before .before .before .before .before .before .pre .1 .0 .parts, omega (arith, c .before .before .before .before .before .before .before .before .before .fill-weights .kept .1 .1 .1 .1 .1 .0), omega (arith, c .before .before .before .before .before .fill-insides .kept .1 .1 .1 .1 .1 .0), c .before .before .before .before .before .before .before .before .before .before .before .before .before .before .before .before .before .before .before .before .pre .1 .3)
+
+same-length : tie.Need-same-length
+same-length c = search needs
+
+same-length-2 : tie.Need-same-length-2
+same-length-2 c = search needs
+
+same-length-3 : tie.Need-same-length-3
+same-length-3 c = search needs
+
+returns : tie.Need-returns
+returns c = c .before .before .fill-values .ensures ∙ values-are _ _ _ _ _ (c .before .before .before .before .before .before .before .before .before .before .before .before .before .before .before .before .before .before .before .before .before .before .before .pre .1 .0) _ (c .before .before .before .before .before .before .before .before .before .before .before .before .before .before .before .before .before .before .before .before .before .before .before .args .t .now) (c .before .before .before .before .before .before .before .before .before .before .before .before .before .before .before .before .before .before .before .before .before .before .before .args .w .now) (c .before .before .before .before .before .before .before .before .before .before .before .before .before .before .before .before .before .before .before .before .before .before .before .args .gw .now) (c .before .before .before .before .before .before .before .before .before .before .before .before .before .before .before .before .before .before .before .before .before .before .before .args .gi .now) _ _ (c .before .before .before .before .before .before .before .before .before .before .before .before .before .before .before .before .before .before .before .before .before .before .before .pre .0 .3) (c .before .before .before .before .before .before .before .before .before .before .before .before .before .before .before .before .before .before .before .before .before .before .before .pre .0 .4) (c .before .before .before .before .before .before .before .before .before .before .before .before .fill-weights .ensures) (c .before .before .before .before .before .before .before .before .fill-insides .ensures)
+
+pub values-spec : {M : Type 1} → statement M
+values-spec =
+    tie.close
+    (tie.spec
+    fill-weights-requires
+    fill-insides-requires
+    fill-values-requires
+    same-length
+    same-length-2
+    same-length-3
+    returns)

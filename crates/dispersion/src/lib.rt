@@ -1,0 +1,316 @@
+// Distances to centroids and their one-way ANOVA (document 01, section 3).
+ghost use mathlib.Core.Path.{_≡_};
+ghost use mathlib.Core.List.{map};
+ghost use Prim.Native.Nat.{_+_, _-_, _*_, _<_, _≤_, max};
+ghost use lib.ListN.{length, getD};
+ghost use Rattle.float.specs.Floats.{_⊘_, num, zero⁻};
+ghost use Rattle.lists.specs.Ranges.{table};
+ghost use Rattle.lists.specs.Filters.{any};
+ghost use Rattle.lists.specs.Numbers.{Below};
+ghost use Rattle.lists.specs.Sums.{sumFrom};
+ghost use Rattle.lists.specs.Writes.{over};
+ghost use Rattle.members.specs.Members.{part, Parts, Grouped};
+ghost use Rattle.location.specs.Location.{at, groupWeight};
+ghost use Rattle.dispersion.specs.Dispersion.{inside, pullSum, valueOf, distanceOf, negative, values, zOf, someNegative};
+ghost use Rattle.dispersion.specs.Parted.{valueBy};
+ghost use Rattle.dispersion.specs.Anova.{groupMean, meanOf, share, residualAt, residual, grandMean, anovaF};
+
+// ---- a group's values
+
+// The sum over all ordered pairs of the samples `mem`.
+fn inside(t: &[f64], m: usize, mem: &[u16]) -> f64
+    requires { ⌜ (length (now t) ≡ m * m) × Below m (now mem) ⌝ }
+    ensures { λ r. ⌜ r ≡ inside (now (t .entry)) m (now (mem .entry)) ⌝ }
+{
+    let mut s = 0.0;
+    for x in 0..mem.len() {
+        let a = lists::entry(mem, x);
+        s = location::sum_entries(t, m, mem, a, s);
+    }
+    s
+}
+
+// The sum of weight·square to the samples `mem`, seen from a.
+fn pull_sum(p: &[f64], m: usize, mem: &[u16], a: usize) -> f64
+    requires { ⌜ (length (now p) ≡ m * m) × Below m (now mem) × (a < m) ⌝ }
+    ensures { λ r. ⌜ r ≡ pullSum (now (p .entry)) m (now (mem .entry)) a ⌝ }
+{
+    location::sum_entries(p, m, mem, a, -0.0)
+}
+
+// A value, from the pulls on the sample, its group's weight sum and what is inside the group.
+fn value_of(pulls: f64, s: f64, ins: f64) -> f64
+    ensures { λ r. ⌜ r ≡ valueOf pulls s ins ⌝ }
+{
+    pulls / s - ins / (2.0 * s * s)
+}
+
+fn distance_of(v: f64) -> f64
+    ensures { λ r. ⌜ r ≡ distanceOf v ⌝ }
+{
+    float::sqrt(float::max(v, 0.0))
+}
+
+// Each value becomes its distance.
+pub fn distances(z: &mut [f64])
+    ensures { λ _. ⌜ now (z .exit) ≡ map distanceOf (now (z .entry)) ⌝ }
+{
+    for i in 0..z.len() {
+        z[i] = distance_of(z[i]);
+    }
+}
+
+// Whether some value is below 0.
+pub fn some_negative(v: &[f64]) -> bool
+    ensures { λ r. ⌜ r ≡ any negative (now (v .entry)) ⌝ }
+{
+    let mut i: usize = 0;
+    while i < v.len() {
+        if v[i] < 0.0 {
+            return true;
+        }
+        i += 1;
+    }
+    false
+}
+
+// ---- the ANOVA of z
+
+fn at_least_one(n: usize) -> usize
+    ensures { λ r. ⌜ r ≡ max n 1 ⌝ }
+{
+    if n < 1 { 1 } else { n }
+}
+
+// x divided by a count.
+fn quotient(x: f64, n: usize) -> f64
+    requires { ⌜ n ≤ 65536 ⌝ }
+    ensures { λ r. ⌜ r ≡ x ⊘ num n ⌝ }
+{
+    x / n as f64
+}
+
+// The mean of z over the samples `mem`, added up from 0.0.
+fn group_mean(z: &[f64], mem: &[u16]) -> f64
+    requires { ⌜ Below (length (now z)) (now mem) × (length (now mem) ≤ 256) ⌝ }
+    ensures { λ r. ⌜ r ≡ groupMean (now (z .entry)) (now (mem .entry)) ⌝ }
+{
+    quotient(location::sum_at(z, mem, 0.0), at_least_one(mem.len()))
+}
+
+// The mean that the answer lists.
+pub fn mean_of(z: &[f64], mem: &[u16]) -> f64
+    requires { ⌜ Below (length (now z)) (now mem) × (length (now mem) ≤ 256) ⌝ }
+    ensures { λ r. ⌜ r ≡ meanOf (now (z .entry)) (now (mem .entry)) ⌝ }
+{
+    quotient(location::sum_at(z, mem, -0.0), mem.len())
+}
+
+// The mean of all.
+fn grand_mean(z: &[f64], m: usize) -> f64
+    requires { ⌜ m ≤ 256 ⌝ }
+    ensures { λ r. ⌜ r ≡ grandMean (now (z .entry)) m ⌝ }
+{
+    quotient(location::sum(z), m)
+}
+
+// A group's share of what lies between groups.
+fn share(mem: &[u16], mean: f64, grand: f64) -> f64
+    requires { ⌜ length (now mem) ≤ 256 ⌝ }
+    ensures { λ r. ⌜ r ≡ share (now (mem .entry)) mean grand ⌝ }
+{
+    let x = mean - grand;
+    let n = mem.len();
+    n as f64 * (x * x)
+}
+
+// What is left of sample k's z without its group's mean, squared.
+fn residual_at(z: &[f64], means: &[f64], lab: &[u16], k: usize) -> f64
+    requires { ⌜ (k < length (now z)) × (k < length (now lab)) × Below (length (now means)) (now lab) ⌝ }
+    ensures { λ r. ⌜ r ≡ residualAt (now (z .entry)) (now (means .entry)) (now (lab .entry)) k ⌝ }
+{
+    let l = lists::entry(lab, k);
+    let x = z[k] - means[l];
+    x * x
+}
+
+// Its sum over m samples.
+fn residual(z: &[f64], means: &[f64], lab: &[u16], m: usize) -> f64
+    requires { ⌜ (length (now z) ≡ m) × (length (now lab) ≡ m) × Below (length (now means)) (now lab) ⌝ }
+    ensures { λ r. ⌜ r ≡ residual (now (z .entry)) (now (means .entry)) (now (lab .entry)) m ⌝ }
+{
+    let mut s = -0.0;
+    for k in 0..m {
+        s = s + residual_at(z, means, lab, k);
+    }
+    s
+}
+
+// ---- over the groups' members, as parts of `mem`
+
+// The weight sums of the g groups go to the front of `out`.
+fn fill_weights(w: &[f64], m: usize, g: usize, next: &[u16], mem: &[u16], out: &mut [f64])
+    requires { ⌜ (length (now w) ≡ m) × Parts m g (now next) (now mem) × (g ≤ length (now out)) ⌝ }
+    ensures { λ _. ⌜ now (out .exit) ≡ over (table g (λ k. groupWeight (now (w .entry)) (part (now (next .entry)) (now (mem .entry)) k))) (now (out .entry)) ⌝ }
+{
+    for k in 0..g {
+        let p = members::part_of(next, mem, k);
+        out[k] = location::group_weight(w, p);
+    }
+}
+
+// What is inside each of the g groups.
+fn fill_insides(t: &[f64], m: usize, g: usize, next: &[u16], mem: &[u16], out: &mut [f64])
+    requires { ⌜ (length (now t) ≡ m * m) × Parts m g (now next) (now mem) × (g ≤ length (now out)) ⌝ }
+    ensures { λ _. ⌜ now (out .exit) ≡ over (table g (λ k. inside (now (t .entry)) m (part (now (next .entry)) (now (mem .entry)) k))) (now (out .entry)) ⌝ }
+{
+    for k in 0..g {
+        let p = members::part_of(next, mem, k);
+        out[k] = inside(t, m, p);
+    }
+}
+
+// The groups' means of z.
+fn fill_group_means(z: &[f64], m: usize, g: usize, next: &[u16], mem: &[u16], out: &mut [f64])
+    requires { ⌜ (length (now z) ≡ m) × Parts m g (now next) (now mem) × (length (now mem) ≤ 256) × (g ≤ length (now out)) ⌝ }
+    ensures { λ _. ⌜ now (out .exit) ≡ over (table g (λ k. groupMean (now (z .entry)) (part (now (next .entry)) (now (mem .entry)) k))) (now (out .entry)) ⌝ }
+{
+    for k in 0..g {
+        let p = members::part_of(next, mem, k);
+        out[k] = group_mean(z, p);
+    }
+}
+
+// The means that the answer lists.
+pub fn fill_means(z: &[f64], m: usize, g: usize, next: &[u16], mem: &[u16], out: &mut [f64])
+    requires { ⌜ (length (now z) ≡ m) × Parts m g (now next) (now mem) × (length (now mem) ≤ 256) × (g ≤ length (now out)) ⌝ }
+    ensures { λ _. ⌜ now (out .exit) ≡ over (table g (λ k. meanOf (now (z .entry)) (part (now (next .entry)) (now (mem .entry)) k))) (now (out .entry)) ⌝ }
+{
+    for k in 0..g {
+        let p = members::part_of(next, mem, k);
+        out[k] = mean_of(z, p);
+    }
+}
+
+// What lies between groups.
+fn between(m: usize, g: usize, next: &[u16], mem: &[u16], means: &[f64], grand: f64) -> f64
+    requires { ⌜ Parts m g (now next) (now mem) × (length (now mem) ≤ 256) × (g ≤ length (now means)) ⌝ }
+    ensures { λ r. ⌜ r ≡ sumFrom zero⁻ (table g (λ k. share (part (now (next .entry)) (now (mem .entry)) k) (at (now (means .entry)) k) grand)) ⌝ }
+{
+    let mut s = -0.0;
+    for k in 0..g {
+        let p = members::part_of(next, mem, k);
+        s = s + share(p, means[k], grand);
+    }
+    s
+}
+
+// The value of sample a, from its group's weight sum and what is inside the group.
+fn value_at(
+    pulls: &[f64],
+    lab: &[u16],
+    m: usize,
+    g: usize,
+    next: &[u16],
+    mem: &[u16],
+    gw: &[f64],
+    gi: &[f64],
+    a: usize,
+) -> f64
+    requires { ⌜ (length (now pulls) ≡ m * m) × (length (now lab) ≡ m) × Below g (now lab) × Parts m g (now next) (now mem) × (g ≤ length (now gw)) × (g ≤ length (now gi)) × (a < m) ⌝ }
+    ensures { λ r. ⌜ r ≡ valueBy (now (pulls .entry)) (now (lab .entry)) m (now (next .entry)) (now (mem .entry)) (now (gw .entry)) (now (gi .entry)) a ⌝ }
+{
+    let l = lists::entry(lab, a);
+    let p = members::part_of(next, mem, l);
+    let sum = pull_sum(pulls, m, p, a);
+    value_of(sum, gw[l], gi[l])
+}
+
+// Every sample's value.
+fn fill_values(
+    pulls: &[f64],
+    lab: &[u16],
+    m: usize,
+    g: usize,
+    next: &[u16],
+    mem: &[u16],
+    gw: &[f64],
+    gi: &[f64],
+    z: &mut [f64],
+)
+    requires { ⌜ (length (now pulls) ≡ m * m) × (length (now lab) ≡ m) × Below g (now lab) × Parts m g (now next) (now mem) × (g ≤ length (now gw)) × (g ≤ length (now gi)) × (length (now z) ≡ m) ⌝ }
+    ensures { λ _. ⌜ now (z .exit) ≡ table m (valueBy (now (pulls .entry)) (now (lab .entry)) m (now (next .entry)) (now (mem .entry)) (now (gw .entry)) (now (gi .entry))) ⌝ }
+{
+    for a in 0..m {
+        z[a] = value_at(pulls, lab, m, g, next, mem, gw, gi, a);
+    }
+}
+
+// Every sample's value in its own group. `gw` and `gi` lend room for the groups' weight sums and insides.
+fn values(
+    pulls: &[f64],
+    t: &[f64],
+    w: &[f64],
+    lab: &[u16],
+    m: usize,
+    g: usize,
+    next: &[u16],
+    mem: &[u16],
+    gw: &mut [f64],
+    gi: &mut [f64],
+    z: &mut [f64],
+)
+    requires { ⌜ (length (now pulls) ≡ m * m) × (length (now t) ≡ m * m) × (length (now w) ≡ m) × (length (now lab) ≡ m) × Below g (now lab) ⌝ }
+    requires { ⌜ Grouped (now lab) m g (now next) (now mem) × (g ≤ length (now gw)) × (g ≤ length (now gi)) × (length (now z) ≡ m) ⌝ }
+    ensures { λ _. ⌜ now (z .exit) ≡ values (now (pulls .entry)) (now (t .entry)) (now (w .entry)) (now (lab .entry)) m ⌝ }
+{
+    fill_weights(w, m, g, next, mem, gw);
+    fill_insides(t, m, g, next, mem, gi);
+    fill_values(pulls, lab, m, g, next, mem, gw, gi, z);
+}
+
+// Every sample's z, and whether some value was below 0.
+pub fn fill_z(
+    pulls: &[f64],
+    t: &[f64],
+    w: &[f64],
+    lab: &[u16],
+    m: usize,
+    g: usize,
+    next: &[u16],
+    mem: &[u16],
+    gw: &mut [f64],
+    gi: &mut [f64],
+    z: &mut [f64],
+) -> bool
+    requires { ⌜ (length (now pulls) ≡ m * m) × (length (now t) ≡ m * m) × (length (now w) ≡ m) × (length (now lab) ≡ m) × Below g (now lab) ⌝ }
+    requires { ⌜ Grouped (now lab) m g (now next) (now mem) × (g ≤ length (now gw)) × (g ≤ length (now gi)) × (length (now z) ≡ m) ⌝ }
+    ensures { λ r. ⌜ (r ≡ someNegative (now (pulls .entry)) (now (t .entry)) (now (w .entry)) (now (lab .entry)) m)
+        × (now (z .exit) ≡ zOf (now (pulls .entry)) (now (t .entry)) (now (w .entry)) (now (lab .entry)) m) ⌝ }
+{
+    values(pulls, t, w, lab, m, g, next, mem, gw, gi, z);
+    let some = some_negative(z);
+    distances(z);
+    some
+}
+
+// The F of z by groups. `means` lends room for the groups' means.
+pub fn anova_f(
+    z: &[f64],
+    lab: &[u16],
+    m: usize,
+    g: usize,
+    next: &[u16],
+    mem: &[u16],
+    means: &mut [f64],
+) -> f64
+    requires { ⌜ (length (now z) ≡ m) × (length (now lab) ≡ m) × Below g (now lab) × Grouped (now lab) m g (now next) (now mem) × (length (now mem) ≤ 256) ⌝ }
+    requires { ⌜ (g ≤ length (now means)) × (1 ≤ g) × (g ≤ m) × (m ≤ 256) ⌝ }
+    ensures { λ r. ⌜ r ≡ anovaF (now (z .entry)) (now (lab .entry)) m g ⌝ }
+{
+    fill_group_means(z, m, g, next, mem, means);
+    let grand = grand_mean(z, m);
+    let b = between(m, g, next, mem, means, grand);
+    let r = residual(z, &means[..g], lab, m);
+    location::f_ratio(b, r, m, g)
+}

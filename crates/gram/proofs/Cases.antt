@@ -1,0 +1,41 @@
+-- Case (j) of document 01: sets {5}, {5}, {}, {}. Assumes nothing.
+use Prim.Native.Nat.{ℕ, _≤_}
+use mathlib.Core.Path.{_≡_, refl}
+use mathlib.Core.List.{List, [], _∷_, map}
+use borrow.Author.Tests.{le-ltb}
+use lib.ListN.{length}
+use lib.Ieee.{Float, add, sub, mul, div, neg, ofBits, toBits, ofInt, odd, size}
+use Rattle.float.specs.Floats.{bits}
+use Rattle.lists.specs.Ranges.{upFrom, range, table, rows, grid}
+use Rattle.lists.specs.Filters.{keep, countIf, any}
+use Rattle.lists.specs.Numbers.{howMany, stands, insertUp, upward}
+use Rattle.lists.specs.Sums.{sumFrom}
+use Rattle.lists.specs.Writes.{over, cleared}
+use Rattle.outcome.specs.Refusals.{first, short}
+use Rattle.outcome.specs.Outcome.{answered}
+use Rattle.outcome.specs.Slices.{output, work}
+use Rattle.gram.specs.Gram.{setAt, sets, selected, frequency, meanSum, shared, gram}
+use Rattle.gram.specs.Lines.{falls, badOffsets, tooShort, earlyLines, lateLines, gramLines}
+use Rattle.gram.specs.Call.{features, leaves, gramCall}
+
+abbrev hashes : List ℕ
+hashes = 5 ∷ 5 ∷ []
+
+abbrev offsets : List ℕ
+offsets = 0 ∷ 1 ∷ 2 ∷ 2 ∷ 2 ∷ []
+
+-- the entries are 0.25, but -0.25 between the first two sets and the last two
+pub case-j : map bits (gram 4 hashes offsets)
+    ≡ (let p : ℕ = 0x3fd0_0000_0000_0000 in let q : ℕ = 0xbfd0_0000_0000_0000 in
+    p ∷ p ∷ q ∷ q
+    ∷ p ∷ p ∷ q ∷ q
+    ∷ q ∷ q ∷ p ∷ p
+    ∷ q ∷ q ∷ p ∷ p ∷ [])
+unfolding add sub mul div neg ofBits toBits ofInt odd size upFrom table rows grid keep countIf any howMany stands insertUp upward sumFrom setAt sets selected frequency meanSum shared gram
+case-j = refl
+
+-- the whole call: one selected hash, the matrix in front of what was lent, the rest as it was, and the words cleared
+pub case-j-call : (out : List Float) (words : List ℕ) → 16 ≤ length out → 256 ≤ length words
+    → gramCall 4 hashes offsets out words ≡ leaves (answered 1) (over (gram 4 hashes offsets) out) (cleared 0 words)
+unfolding gramCall features output work first earlyLines lateLines gramLines badOffsets falls tooShort short upFrom range keep countIf any howMany insertUp upward selected
+case-j-call out words h k = rw (le-ltb (length out) 16 h, le-ltb (length words) 256 k)

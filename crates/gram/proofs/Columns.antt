@@ -1,0 +1,230 @@
+-- The matrix depends on columns alone: what the loops leave is the matrix of columns, and that is the Gram matrix of the hashes. Assumes nothing.
+use mathlib.Core.Path.{_≡_, refl, sym, ap, ap₂, _∙_}
+use mathlib.Core.Bool.{Bool, true, false, _&&_, _||_, cond}
+use mathlib.Core.Logic.{_⊎_, inl, inr}
+use mathlib.Core.List.{List, [], _∷_, map}
+use Prim.Native.Nat.{ℕ, zero, suc, _+_, _-_, _*_, _<_, _≤_, min, max}
+use native.Mathlib.Omega.{arith}
+use borrow.Author.Tests.{eq-eqb, ne-eqb, lt-ltb, le-ltb}
+use lib.Dec.{eqb, ltb}
+use lib.ListN.{length, getD, take, drop, length-map}
+use lib.Ieee.{Float, nan}
+use Rattle.float.specs.Floats.{_⊕_, _⊖_, num, zero⁻}
+use Rattle.lists.specs.Ranges.{upFrom, range, table, rows, grid}
+use Rattle.lists.specs.Filters.{keep, countIf, any, firstAt}
+use Rattle.lists.specs.Numbers.{stands, position}
+use Rattle.lists.specs.Rows.{row}
+use Rattle.lists.specs.Sums.{sumFrom}
+use Rattle.lists.specs.Writes.{over}
+use Rattle.lists.proofs.Ranges.{length-table, getD-table, table-ext, rows-ext, range-upFrom}
+use Rattle.lists.proofs.Filters.{drop-more}
+use Rattle.lists.proofs.Writes.{getD-over}
+use Rattle.sorting.proofs.Extra.{count-places}
+use Rattle.gram.specs.Gram.{setAt, sets, selected, frequency, meanSum, shared, gram}
+use Rattle.gram.specs.Bits.{packed, common}
+use Rattle.gram.specs.Columns.{none, columnOf, square, columnSum, present, entryAt, columnGram}
+use Rattle.gram.proofs.Extra.{same-or-not, row-rows}
+use Rattle.gram.proofs.Bits.{common-packed, both-table, length-packed}
+use Rattle.gram.proofs.Upward.{Upward, never, stands-cons, upward-upward, position-at, stands-at}
+use Rattle.gram.proofs.Scans.{drop-map}
+
+grid-ext : {A : Type 0} (f g : ℕ → ℕ → A) (n w : ℕ) → ((i j : ℕ) → i < n → j < w → f i j ≡ g i j) → grid n w f ≡ grid n w g
+unfolding grid
+grid-ext f g n w e = rows-ext (λ i. table w (f i)) (λ i. table w (g i)) n (λ i h. table-ext (f i) (g i) w (λ j k. e i j h k))
+
+-- tests that agree below n
+count-below : (p q : ℕ → Bool) (n : ℕ) → ((c : ℕ) → c < n → p c ≡ q c) → countIf p (range 0 n) ≡ countIf q (range 0 n)
+unfolding upFrom countIf
+count-below p q n e = ap (countIf p) (range-upFrom n) ∙ each n 0 (omega arith) ∙ sym (ap (countIf q) (range-upFrom n))
+  where
+    each : (k lo : ℕ) → lo + k ≤ n → countIf p (upFrom lo k) ≡ countIf q (upFrom lo k)
+    each zero lo h = refl
+    each (suc k) lo h = ap₂ (λ (b : Bool) (c : ℕ). cond b 1 0 + c) (e lo (omega arith)) (each k (suc lo) (omega arith))
+
+-- ---- what the loops leave
+
+module _ (n w : ℕ) (columns offsets : List ℕ) (means : List Float) (enough : length means ≤ w * 64)
+    {words : List ℕ} (words₀ : List ℕ) (bits : words ≡ over (rows n (λ i. packed w (present (length means) (setAt columns offsets i)))) words₀)
+    {sums : List Float} (sums₀ : List Float) (summed : sums ≡ over (table n (λ i. columnSum means (setAt columns offsets i))) sums₀)
+    {t : Float} (squares : t ≡ sumFrom zero⁻ (map square means)) where
+  abbrev set : ℕ → List ℕ
+  set i = setAt columns offsets i
+
+  row-is : (i : ℕ) → i < n → row w i words ≡ packed w (present (length means) (set i))
+  unfolding over
+  row-is i h = ap (row w i) bits ∙ row-rows w (λ i. packed w (present (length means) (set i))) (λ i. length-packed w _) n i _ h
+
+  shared-is : (i j : ℕ) → i < n → j < n → common (row w i words) (row w j words) ≡ countIf (λ c. stands c (set i) && stands c (set j)) (range 0 (length means))
+  shared-is i j h g =
+      let m = length means in
+      ap₂ common (row-is i h) (row-is j g) ∙ common-packed w (present m (set i)) (present m (set j)) (omega (arith, length-table (λ c. stands c (set i)) m)) ∙ both-table (λ c. stands c (set i)) (λ c. stands c (set j)) m
+
+  sum-is : (i : ℕ) → i < n → getD sums i nan ≡ columnSum means (set i)
+  sum-is i h =
+      let f : ℕ → Float = λ i. columnSum means (set i) in
+      let long = length-table f n in
+      ap (λ (l : List Float). getD l i nan) summed ∙ getD-over (table n f) sums₀ i nan (omega arith) ∙ getD-table f n i nan h
+
+  pub matrix-is : grid n n (λ i j. entryAt w words sums t (min i j) (max i j)) ≡ columnGram n columns offsets means
+  unfolding columnGram entryAt
+  matrix-is =
+      grid-ext _ _ n n
+      (λ i j h g. entry-is (min i j) (max i j) (omega arith) (omega arith))
+    where
+      entry-is : (i j : ℕ) → i < n → j < n → num (common (row w i words) (row w j words)) ⊖ getD sums i nan ⊖ getD sums j nan ⊕ t
+          ≡ num (countIf (λ c. stands c (setAt columns offsets i) && stands c (setAt columns offsets j)) (range 0 (length means))) ⊖ columnSum means (setAt columns offsets i) ⊖ columnSum means (setAt columns offsets j) ⊕ sumFrom zero⁻ (map square means)
+      entry-is i j h g = rw (shared-is i j h g, sum-is i h, sum-is j g, squares)
+
+-- ---- a hash and its column
+
+position-holds : (x : ℕ) (l : List ℕ) → stands x l ≡ true → (position x l < length l) × (getD l (position x l) 0 ≡ x)
+unfolding position firstAt
+position-holds x [] s = never (sym s ∙ (unfold stands any in refl))
+position-holds x (y ∷ l) s = one (same-or-not x y) (λ t. position-holds x l t)
+  where
+    one : (x ≡ y) ⊎ (x ≡ y → ⊥) → (stands x l ≡ true → (position x l < length l) × (getD l (position x l) 0 ≡ x)) → (position x (y ∷ l) < length (y ∷ l)) × (getD (y ∷ l) (position x (y ∷ l)) 0 ≡ x)
+    one (inl e) r = rw (eq-eqb x y e) (omega arith, sym e)
+    one (inr d) r =
+        let more = r (ap (λ (b : Bool). b || stands x l) (sym (ne-eqb x y d)) ∙ sym (stands-cons x y l) ∙ s) in
+        rw (ne-eqb x y d) (omega (arith, more .0), more .1)
+
+module _ (chosen : List ℕ) (up : Upward chosen) (few : length chosen ≤ 4096) where
+  column-yes : (h : ℕ) → stands h chosen ≡ true → columnOf chosen h ≡ position h chosen
+  unfolding columnOf
+  column-yes h s = ap (λ (b : Bool). cond b (position h chosen) none) s
+
+  column-no : (h : ℕ) → stands h chosen ≡ false → columnOf chosen h ≡ none
+  unfolding columnOf
+  column-no h s = ap (λ (b : Bool). cond b (position h chosen) none) s
+
+  -- it has a column where it is selected
+  column-below : (h : ℕ) → ltb (columnOf chosen h) (length chosen) ≡ stands h chosen
+  column-below h = one (stands h chosen) refl
+    where
+      one : (b : Bool) → stands h chosen ≡ b → ltb (columnOf chosen h) (length chosen) ≡ b
+      one true s = lt-ltb (columnOf chosen h) (length chosen) (omega (arith, column-yes h s, position-holds h chosen s .0))
+      one false s = le-ltb (columnOf chosen h) (length chosen) (omega (arith, column-no h s))
+
+  -- column c is that of the hash at place c
+  column-is : (c x : ℕ) → c < length chosen → eqb c (columnOf chosen x) ≡ eqb (getD chosen c 0) x
+  column-is c x h = one (same-or-not (getD chosen c 0) x)
+    where
+      at : drop c chosen ≡ getD chosen c 0 ∷ drop (c + 1) chosen
+      at = drop-more chosen c 0 h
+
+      stands-c : stands (getD chosen c 0) chosen ≡ true
+      stands-c = stands-at c (getD chosen c 0) chosen (drop (c + 1) chosen) at
+
+      other : (getD chosen c 0 ≡ x → ⊥) → (b : Bool) → stands x chosen ≡ b → c ≡ columnOf chosen x → ⊥
+      other d true s e = let held = position-holds x chosen s in d (ap (λ (k : ℕ). getD chosen k 0) (e ∙ column-yes x s) ∙ held .1)
+      other d false s e = let far = column-no x s in omega arith
+
+      one : (getD chosen c 0 ≡ x) ⊎ (getD chosen c 0 ≡ x → ⊥) → eqb c (columnOf chosen x) ≡ eqb (getD chosen c 0) x
+      one (inl e) =
+          let same : columnOf chosen x ≡ c =
+          ap (columnOf chosen) (sym e) ∙ column-yes (getD chosen c 0) stands-c ∙ position-at c (getD chosen c 0) chosen (drop (c + 1) chosen) up at in
+          eq-eqb c (columnOf chosen x) (sym same) ∙ sym (eq-eqb (getD chosen c 0) x e)
+      one (inr d) = ne-eqb c (columnOf chosen x) (other d (stands x chosen) refl) ∙ sym (ne-eqb (getD chosen c 0) x d)
+
+  stands-columns : (c : ℕ) (s : List ℕ) → c < length chosen → stands c (map (columnOf chosen) s) ≡ stands (getD chosen c 0) s
+  unfolding stands any
+  stands-columns c [] h = refl
+  stands-columns c (x ∷ s) h = ap₂ (λ (a b : Bool). a || b) (column-is c x h) (stands-columns c s h)
+
+  shared-columns : (s t : List ℕ) → countIf (λ c. stands c (map (columnOf chosen) s) && stands c (map (columnOf chosen) t)) (range 0 (length chosen)) ≡ shared chosen s t
+  unfolding shared
+  shared-columns s t =
+      count-below (λ c. stands c (map (columnOf chosen) s) && stands c (map (columnOf chosen) t)) (λ c. stands (getD chosen c 0) s && stands (getD chosen c 0) t) (length chosen)
+      (λ c h. ap₂ (λ (a b : Bool). a && b) (stands-columns c s h) (stands-columns c t h))
+      ∙ sym (count-places (λ h. stands h s && stands h t) chosen)
+
+  -- the sum of the means
+  module _ (mean : ℕ → Float) where
+    mean-at : (h : ℕ) (l : List ℕ) → stands h l ≡ true → getD (map mean l) (position h l) nan ≡ mean h
+    unfolding position firstAt
+    mean-at h [] e = never (sym e ∙ (unfold stands any in refl))
+    mean-at h (y ∷ ys) e = one (same-or-not h y) (λ t. mean-at h ys t)
+      where
+        one : (h ≡ y) ⊎ (h ≡ y → ⊥) → (stands h ys ≡ true → getD (map mean ys) (position h ys) nan ≡ mean h) → getD (map mean (y ∷ ys)) (position h (y ∷ ys)) nan ≡ mean h
+        one (inl s) r = rw (eq-eqb h y s) (ap mean (sym s))
+        one (inr d) r = rw (ne-eqb h y d) (r (ap (λ (b : Bool). b || stands h ys) (sym (ne-eqb h y d)) ∙ sym (stands-cons h y ys) ∙ e))
+
+    means-are : (s : List ℕ) → map (λ c. getD (map mean chosen) c nan) (keep (λ c. ltb c (length (map mean chosen))) (map (columnOf chosen) s)) ≡ map mean (keep (λ h. stands h chosen) s)
+    unfolding keep
+    means-are [] = refl
+    means-are (h ∷ s) =
+        ap (λ (b : Bool). map at (cond b (columnOf chosen h ∷ keep has (map (columnOf chosen) s)) (keep has (map (columnOf chosen) s)))) (ap (ltb (columnOf chosen h)) (length-map chosen mean) ∙ column-below h)
+        ∙ one (stands h chosen) refl (means-are s)
+      where
+        at : ℕ → Float
+        at c = getD (map mean chosen) c nan
+
+        has : ℕ → Bool
+        has c = ltb c (length (map mean chosen))
+
+        one : (b : Bool) → stands h chosen ≡ b → map at (keep has (map (columnOf chosen) s)) ≡ map mean (keep (λ x. stands x chosen) s)
+            → map at (cond b (columnOf chosen h ∷ keep has (map (columnOf chosen) s)) (keep has (map (columnOf chosen) s))) ≡ map mean (cond b (h ∷ keep (λ x. stands x chosen) s) (keep (λ x. stands x chosen) s))
+        one true e r = ap₂ (λ (x : Float) (l : List Float). x ∷ l) (ap (λ (c : ℕ). getD (map mean chosen) c nan) (column-yes h e) ∙ mean-at h chosen e) r
+        one false e r = r
+
+-- ---- the Gram matrix of the hashes
+
+take-map : {A B : Type 0} (f : A → B) (m : ℕ) (l : List A) → take m (map f l) ≡ map f (take m l)
+take-map f zero l = refl
+take-map f (suc m) [] = refl
+take-map f (suc m) (x ∷ l) = ap (λ (r : List _). f x ∷ r) (take-map f m l)
+
+getD-map-in : {A B : Type 0} (f : A → B) (l : List A) (i : ℕ) (d : B) (e : A) → i < length l → getD (map f l) i d ≡ f (getD l i e)
+getD-map-in f [] i d e h = absurd (omega arith)
+getD-map-in f (x ∷ l) zero d e h = refl
+getD-map-in f (x ∷ l) (suc i) d e h = getD-map-in f l i d e (omega arith)
+
+module _ (n : ℕ) (hashes offsets : List ℕ) (few : length (selected n hashes) ≤ 4096) where
+  abbrev chosen : List ℕ
+  chosen = selected n hashes
+
+  abbrev columns : List ℕ
+  columns = map (columnOf chosen) hashes
+
+  abbrev means : List Float
+  means = map (frequency n hashes) chosen
+
+  upward-chosen : Upward chosen
+  unfolding selected
+  upward-chosen = upward-upward _
+
+  set-columns : (i : ℕ) → setAt columns offsets i ≡ map (columnOf chosen) (setAt hashes offsets i)
+  unfolding setAt
+  set-columns i =
+      ap (take (getD offsets (i + 1) 0 - getD offsets i 0)) (drop-map (columnOf chosen) (getD offsets i 0) hashes)
+      ∙ take-map (columnOf chosen) (getD offsets (i + 1) 0 - getD offsets i 0) (drop (getD offsets i 0) hashes)
+
+  sum-columns : (i : ℕ) → columnSum means (setAt columns offsets i) ≡ meanSum n hashes chosen (setAt hashes offsets i)
+  unfolding columnSum meanSum
+  sum-columns i = ap (columnSum means) (set-columns i) ∙ ap (sumFrom zero⁻) (means-are chosen upward-chosen few (frequency n hashes) (setAt hashes offsets i))
+
+  shared-sets : (i j : ℕ) → countIf (λ c. stands c (setAt columns offsets i) && stands c (setAt columns offsets j)) (range 0 (length means)) ≡ shared chosen (setAt hashes offsets i) (setAt hashes offsets j)
+  shared-sets i j =
+      ap₂ (λ (s t : List ℕ). countIf (λ c. stands c s && stands c t) (range 0 (length means))) (set-columns i) (set-columns j)
+      ∙ ap (λ (m : ℕ). countIf (λ c. stands c (map (columnOf chosen) (setAt hashes offsets i)) && stands c (map (columnOf chosen) (setAt hashes offsets j))) (range 0 m)) (length-map chosen (frequency n hashes))
+      ∙ shared-columns chosen upward-chosen few (setAt hashes offsets i) (setAt hashes offsets j)
+
+  set-at : (i : ℕ) → i < n → getD (sets n hashes offsets) i [] ≡ setAt hashes offsets i
+  unfolding sets
+  set-at i h = getD-table (setAt hashes offsets) n i [] h
+
+  sum-at : (i : ℕ) → i < n → getD (map (meanSum n hashes chosen) (sets n hashes offsets)) i nan ≡ meanSum n hashes chosen (setAt hashes offsets i)
+  sum-at i h =
+      getD-map-in (meanSum n hashes chosen) (sets n hashes offsets) i nan [] (omega (arith, long)) ∙ ap (meanSum n hashes chosen) (set-at i h)
+    where
+      long : length (sets n hashes offsets) ≡ n
+      long = unfold sets in length-table (setAt hashes offsets) n
+
+  entry-is : (i j : ℕ) → i < n → j < n
+      → num (countIf (λ c. stands c (setAt columns offsets i) && stands c (setAt columns offsets j)) (range 0 (length means))) ⊖ columnSum means (setAt columns offsets i) ⊖ columnSum means (setAt columns offsets j) ⊕ sumFrom zero⁻ (map square means)
+      ≡ num (shared chosen (getD (sets n hashes offsets) i []) (getD (sets n hashes offsets) j [])) ⊖ getD (map (meanSum n hashes chosen) (sets n hashes offsets)) i nan ⊖ getD (map (meanSum n hashes chosen) (sets n hashes offsets)) j nan ⊕ sumFrom zero⁻ (map square means)
+  entry-is i j h g = rw (shared-sets i j, sum-columns i, sum-columns j, set-at i h, set-at j g, sum-at i h, sum-at j g)
+
+  pub gram-is : columnGram n columns offsets means ≡ gram n hashes offsets
+  unfolding columnGram gram
+  gram-is = grid-ext _ _ n n (λ i j h g. entry-is (min i j) (max i j) (omega arith) (omega arith))

@@ -1,0 +1,92 @@
+-- `gram::check_gram` meets its contract: the lines are asked in two parts, and the hashes are sorted between them. Assumes nothing.
+use mathlib.Core.Path.{sym, _∙_}
+use Prim.Native.Nat.{_≤_}
+use native.Mathlib.Omega.{arith}
+use lib.ListN.{length}
+use lib.Seq.{length-take-le, take-at}
+use Rattle.outcome.specs.Refusals.{first, short}
+use Rattle.gram.proofs.Accepted.{early-passed, checked-early, checked-late}
+use borrow.Author.Needs.{needs}
+use Rattle.gram.proofs.check_gram.Statement.{statement}
+use Rattle.gram.proofs.check_gram.Tie as tie
+
+-- the first part passes, and so there are few enough hashes
+passed : (c : tie.After-enum-told) →
+    let a = c .before .before .before .before .before .before .before .before .args in
+    (a .n ≤ 256) × (length (a .hashes .now) ≤ 65536)
+passed c =
+    let a = c .before .before .before .before .before .before .before .before .args in
+    early-passed (a .n) (a .hashes .now) (a .offsets .now) (a .short) (a .beyond) (sym (c .before .before .early .ensures) ∙ c .enum-told .given .1)
+
+early-requires : tie.Need-early-requires
+early-requires c κs = search needs
+
+enum-known-e : tie.Need-enum-known-e
+enum-known-e c = search needs
+
+enum-told : tie.Need-enum-told
+enum-told c = search needs
+
+slice-relend-prefix-choose : tie.Need-slice-relend-prefix-choose
+slice-relend-prefix-choose c = omega (arith, passed c)
+
+slice-aggregate-choose : tie.Need-slice-aggregate-choose
+slice-aggregate-choose c = sym (length-take-le (length (c .before .before .before .before .before .before .before .before .before .args .hashes .now)) (c .before .before .before .before .before .before .before .before .before .args .order .now) (omega (arith, passed (c .before))))
+
+slice-relend-prefix-choose-2 : tie.Need-slice-relend-prefix-choose-2
+slice-relend-prefix-choose-2 c = omega (arith, passed (c .before))
+
+slice-aggregate-choose-2 : tie.Need-slice-aggregate-choose-2
+slice-aggregate-choose-2 c = sym (length-take-le (length (c .before .before .before .before .before .before .before .before .before .before .args .hashes .now)) (c .before .before .before .before .before .before .before .before .before .before .args .columns .now) (omega (arith, passed (c .before .before))))
+
+choose-requires : tie.Need-choose-requires
+choose-requires c κs =
+    let a = c .before .before .before .before .before .before .before .before .before .before .before .args in
+    let k = length (a .hashes .now) in
+    let p = passed (c .before .before .before) in
+    (p .0, p .1, length-take-le k (a .order .now) (omega arith), length-take-le k (a .columns .now) (omega arith))
+
+late-requires : tie.Need-late-requires
+late-requires c κs = search needs
+
+returns : tie.Need-returns
+returns c =
+    let a = c .before .before .before .before .before .before .before .before .before .args in
+    checked-early (a .n) (a .hashes .now) (a .offsets .now) (a .short) (a .beyond) (c .before .e .given .0 .0) (a .columns .now) (a .means .now) (sym (c .before .e .given .1) ∙ c .before .before .before .early .ensures)
+
+same-length : tie.Need-same-length
+same-length c = search needs
+
+same-length-2 : tie.Need-same-length-2
+same-length-2 c = search needs
+
+same-length-3 : tie.Need-same-length-3
+same-length-3 c = search needs
+
+returns-2 : tie.Need-returns-2
+returns-2 c =
+    let a = c .before .before .before .before .before .before .before .before .before .before .before .before .before .before .before .before .before .before .before .args in
+    let k = length (a .hashes .now) in
+    let p = passed (c .before .before .before .before .before .before .before .before .before .before .before) in
+    let long = c .before .before .before .before .before .before .before .choose .kept .1 .0 ∙ length-take-le k (a .columns .now) (omega arith) in
+    let front = take-at (c .before .before .before .before .before .before .before .choose .last .1 .0) _ k long in
+    checked-late (a .n) (a .hashes .now) (a .offsets .now) (a .short) (a .beyond) (sym (c .before .before .before .before .before .before .before .before .before .before .before .enum-told .given .1) ∙ c .before .before .before .before .before .before .before .before .before .before .before .before .before .early .ensures) (c .before .before .before .before .before .before .before .choose .ensures) (c .late .ensures) front (c .before .before .before .before .before .before .before .before .before .before .before .before .before .before .before .before .before .before .before .pre .2)
+
+pub check-gram-spec : {M : Type 1} → statement M
+check-gram-spec =
+    tie.close
+    (tie.spec
+    early-requires
+    enum-known-e
+    enum-told
+    slice-relend-prefix-choose
+    slice-aggregate-choose
+    slice-relend-prefix-choose-2
+    slice-aggregate-choose-2
+    choose-requires
+    late-requires
+    returns
+    same-length
+    same-length-2
+    same-length-3
+    returns-2)

@@ -1,0 +1,44 @@
+-- A whole call of `gram_matrix`: its answer, and what all that is lent holds afterwards. Definitions only.
+use Prim.Native.Nat.{ℕ, _*_}
+use mathlib.Core.Bool.{Bool, false}
+use mathlib.Core.Path.{_≡_}
+use mathlib.Core.List.{List, map}
+use lib.ListN.{length, take}
+use lib.Ieee.{Float}
+use Rattle.float.specs.Floats.{zero⁺}
+use Rattle.outcome.specs.Refusals.{first}
+use Rattle.outcome.specs.Outcome.{Outcome, answered, refused, judged}
+use Rattle.outcome.specs.Slices.{output, work}
+use Rattle.gram.specs.declared.Answer.{Answer}
+use Rattle.gram.specs.declared.Answer.the-variants.{Features, Refused}
+use Rattle.gram.specs.Gram.{selected, frequency, gram}
+use Rattle.gram.specs.Columns.{columnOf}
+use Rattle.gram.specs.Lines.{tooShort, gramLines}
+
+-- the answer for any arguments: the number of selected hashes, or a refusal
+unfoldable pub features : ℕ → List ℕ → List ℕ → Bool → Bool → Outcome ℕ
+features n hashes offsets short beyond = judged (first (gramLines n hashes offsets short beyond)) (answered (length (selected n hashes)))
+
+-- the answer as it is returned
+abbrev pub outcomeOf : Answer → Outcome ℕ
+outcomeOf (Features m) = answered m
+outcomeOf (Refused r) = refused r
+
+-- What `check_gram` leaves: the answer, and where it is a number of hashes, each hash's column and the columns' means, in front of what it was lent.
+pub record Checked (n : ℕ) (hashes offsets : List ℕ) (short beyond : Bool) (r : Answer) (columns : List ℕ) (means : List Float) : Type 0 where
+  pub told : outcomeOf r ≡ features n hashes offsets short beyond
+  pub placed : (m : ℕ) → r ≡ Features m → take (length hashes) columns ≡ map (columnOf (selected n hashes)) hashes
+  pub averages : (m : ℕ) → r ≡ Features m → take m means ≡ map (frequency n hashes) (selected n hashes)
+
+-- ---- the whole call: the answer, the output and the work slice afterwards
+pub data Called : Type 0 where
+  leaves : Outcome ℕ → List Float → List ℕ → Called
+
+unfoldable pub gramCall : ℕ → List ℕ → List ℕ → List Float → List ℕ → Called
+gramCall n hashes offsets out words =
+    let o = features n hashes offsets (tooShort n (length out) (length words)) false in
+    leaves o (output zero⁺ (λ m. gram n hashes offsets) (n * n) o out) (work 0 o words)
+
+-- how a contract says it: what is returned, and what the slices hold
+abbrev pub called : Answer → List Float → List ℕ → Called
+called r out words = leaves (outcomeOf r) out words

@@ -1,0 +1,3 @@
+-- The laws that the proofs of `location` share.
+pub mod Places
+pub mod Whole

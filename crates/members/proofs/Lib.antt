@@ -1,0 +1,4 @@
+-- The laws of the counting sort.
+pub mod Sizes
+pub mod Turns
+pub mod Places

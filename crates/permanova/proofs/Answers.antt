@@ -1,0 +1,46 @@
+-- What the steps leave is the answer for the kept samples. Assumes nothing.
+use mathlib.Core.Path.{_≡_, ap, _∙_}
+use mathlib.Core.Bool.{Bool, _&&_}
+use mathlib.Core.List.{List, map}
+use Prim.Native.Nat.{ℕ, _≤_}
+use lib.Dec.{eqb}
+use lib.ListN.{length, getD, take}
+use lib.Ieee.{Float}
+use Rattle.lists.specs.Ranges.{table}
+use Rattle.lists.specs.Numbers.{members}
+use Rattle.lists.specs.Writes.{over}
+use Rattle.lists.proofs.Ranges.{length-table}
+use Rattle.lists.proofs.Writes.{take-over}
+use Rattle.lot.specs.Kept.{sizes}
+use Rattle.lot.specs.Strata.{informs, informative}
+use Rattle.location.specs.Squares.{weightAt, terms, pulls}
+use Rattle.dispersion.specs.Dispersion.{zOf}
+use Rattle.dispersion.specs.Anova.{meanZ}
+use Rattle.permanova.specs.declared.TestResult.{TestResult}
+use Rattle.permanova.specs.declared.Measured.{Measured}
+use Rattle.permanova.specs.Measured.{measured, concluded}
+use Rattle.permanova.specs.Answered.{answerFor, meansFor}
+use Rattle.permanova.proofs.Chances.{hits-few}
+
+-- the samples that inform are at most all
+pub informing-few : (ss gs : List ℕ) (m : ℕ) {a : ℕ} → a ≡ informative ss gs m → a ≤ m
+unfolding informative
+informing-few ss gs m e = hits-few (λ k. informs ss gs m (getD ss k 0)) m e
+
+-- the front of the counts
+pub front-sizes : (gs old : List ℕ) (m g : ℕ) {l : List ℕ} → l ≡ over (sizes gs m g) old → take g l ≡ sizes gs m g
+unfolding sizes
+front-sizes gs old m g e = ap (take g) e ∙ take-over (table g (λ j. length (members gs m j))) old g (length-table (λ j. length (members gs m j)) g)
+
+module _ (d : List Float) (n : ℕ) (labels ks gs ss : List ℕ) (stratified weighted : Bool) (weights : List Float) (m g s seed k : ℕ)
+    {w t p : List Float} (weighed : w ≡ map (weightAt weighted weights) ks) (termed : t ≡ terms d n ks (map (weightAt weighted weights) ks) m)
+    (pulled : p ≡ pulls d n ks (map (weightAt weighted weights) ks) m) where
+  pub answer-is : {informing : ℕ} {none : Bool} {front : List ℕ} {x : Measured} {r : TestResult} → length ss ≡ m → informing ≡ informative ss gs (length ss)
+      → none ≡ (stratified && eqb informing 0) → x ≡ measured p t w gs ss m g s seed k none → front ≡ sizes gs m g
+      → r ≡ concluded labels stratified weighted m g informing front x → r ≡ answerFor d n labels ks gs ss stratified weighted weights m g s seed k
+  unfolding answerFor
+  answer-is long counted told measuredSo fronted concludedSo = cc
+
+  pub means-are : (old : List Float) {l : List Float} → l ≡ over (meanZ (zOf p t w gs m) gs m g) old → l ≡ over (meansFor d n ks gs weighted weights m g) old
+  unfolding meansFor
+  means-are old e = cc

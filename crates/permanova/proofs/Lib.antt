@@ -1,0 +1,5 @@
+-- The laws that the proofs of `permanova` share.
+pub mod Shuffles
+pub mod Chances
+pub mod Alarms
+pub mod Answers

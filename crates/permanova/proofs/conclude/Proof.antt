@@ -1,0 +1,51 @@
+-- `permanova::conclude` meets its contract. The warnings fit a byte.
+-- Assumes nothing.
+
+use Prim.Native.Nat.{_-_}
+use borrow.Author.Needs.{needs}
+use Rattle.permanova.specs.Measured.{concluded}
+use Rattle.permanova.proofs.Alarms.{warnings-fit}
+use Rattle.permanova.proofs.conclude.Statement.{statement}
+use Rattle.permanova.proofs.conclude.Tie as tie
+
+fraction-requires : tie.Need-fraction-requires
+fraction-requires c κs = search needs
+
+left-out-requires : tie.Need-left-out-requires
+left-out-requires c κs = search needs
+
+uninformed-requires : tie.Need-uninformed-requires
+uninformed-requires c κs = search needs
+
+few-inform-requires : tie.Need-few-inform-requires
+few-inform-requires c κs = search needs
+
+some-small-requires : tie.Need-some-small-requires
+some-small-requires c κs = search needs
+
+warning-requires : tie.Need-warning-requires
+warning-requires c κs = search needs
+
+together-of-requires : tie.Need-together-of-requires
+together-of-requires c κs = search needs
+
+add-t18 : tie.Need-add-t18
+add-t18 c = record { fits = warnings-fit (c .before .before .before .before .before .left-out .result) (c .before .before .before .before .uninformed .result) (c .before .before .before .few-inform .result) (c .before .before .some-small .result) (c .before .before .before .before .before .before .before .before .before .args .x .negative) (c .before .before .before .before .before .before .before .before .before .args .counts .now) (c .before .before .before .before .before .before .before .before .before .args .x .location) (c .before .before .before .before .before .before .before .before .before .args .x .dispersion) (c .before .warning .ensures) (c .together-of .ensures) }
+
+returns : tie.Need-returns
+unfolding concluded
+returns c = rw (c .together-of .ensures, c .before .warning .ensures, c .before .before .some-small .ensures, c .before .before .before .few-inform .ensures, c .before .before .before .before .uninformed .ensures, c .before .before .before .before .before .left-out .ensures, c .before .before .before .before .before .before .fraction .ensures)
+
+pub conclude-spec : {M : Type 1} → statement M
+conclude-spec =
+    tie.close
+    (tie.spec
+    fraction-requires
+    left-out-requires
+    uninformed-requires
+    few-inform-requires
+    some-small-requires
+    warning-requires
+    together-of-requires
+    add-t18
+    returns)

@@ -1,0 +1,61 @@
+-- `permanova::measure` meets its contract. What is observed, the hits of the shuffles, and p of both.
+-- Assumes nothing.
+
+use mathlib.Core.Path.{ap, _∙_}
+use Prim.Native.Nat.{_-_}
+use native.Mathlib.Omega.{arith}
+use borrow.Author.Needs.{needs}
+use Rattle.location.specs.Squares.{terms}
+use Rattle.permanova.specs.Measured.{drawn, measured}
+use Rattle.permanova.specs.declared.Hits.{Hits}
+use Rattle.permanova.proofs.Chances.{hits-few}
+use Rattle.permanova.proofs.measure.Statement.{statement}
+use Rattle.permanova.proofs.measure.Tie as tie
+
+observe-requires : tie.Need-observe-requires
+observe-requires c κs = search needs
+
+statistic-of-requires : tie.Need-statistic-of-requires
+statistic-of-requires c κs = search needs
+
+statistic-of-requires-2 : tie.Need-statistic-of-requires-2
+statistic-of-requires-2 c κs = search needs
+
+draw-requires : tie.Need-draw-requires
+draw-requires c κs = (c .before .before .before .before .before .before .before .before .before .before .before .before .before .before .before .before .before .before .before .before .before .pre .0 .terms, c .before .before .before .before .before .before .before .before .before .before .before .before .before .before .before .before .before .before .before .before .before .pre .0 .weights, c .before .before .before .before .before .before .before .before .before .observe .kept .1 .1 .1 .1 .1 .1 .0 ∙ c .before .before .before .before .before .before .before .before .before .before .before .before .before .before .before .before .before .before .before .before .before .pre .4, c .before .before .before .before .before .before .before .before .before .before .before .before .before .before .before .before .before .before .before .before .before .pre .0 .labels, c .before .before .before .before .before .before .before .before .before .before .before .before .before .before .before .before .before .before .before .before .before .pre .0 .groups, c .before .before .before .before .before .before .before .before .before .before .before .before .before .before .before .before .before .before .before .before .before .pre .0 .some, c .before .before .before .before .before .before .before .before .before .before .before .before .before .before .before .before .before .before .before .before .before .pre .0 .enough, c .before .before .before .before .before .before .before .before .before .before .before .before .before .before .before .before .before .before .before .before .before .pre .0 .few, c .before .before .before .before .before .before .before .before .before .before .before .before .before .before .before .before .before .before .before .before .before .pre .1, c .before .before .before .before .before .before .before .before .before .before .before .before .before .before .before .before .before .before .before .before .before .pre .2, c .before .before .before .before .before .before .before .before .before .before .before .before .before .before .before .before .before .before .before .before .before .pre .3)
+
+chance-of-requires : tie.Need-chance-of-requires
+unfolding drawn
+chance-of-requires c κs = (omega (arith, hits-few _ (c .before .before .before .before .before .before .before .before .before .before .before .before .before .before .before .before .before .before .before .before .before .before .args .n) (ap (λ (h : Hits). h .location) (c .draw .ensures)), c .before .before .before .before .before .before .before .before .before .before .before .before .before .before .before .before .before .before .before .before .before .before .pre .3), c .before .before .before .before .before .before .before .before .before .before .before .before .before .before .before .before .before .before .before .before .before .before .pre .3)
+
+chance-of-requires-2 : tie.Need-chance-of-requires-2
+unfolding drawn
+chance-of-requires-2 c κs = (omega (arith, hits-few _ (c .before .before .before .before .before .before .before .before .before .before .before .before .before .before .before .before .before .before .before .before .before .before .before .args .n) (ap (λ (h : Hits). h .dispersion) (c .before .draw .ensures)), c .before .before .before .before .before .before .before .before .before .before .before .before .before .before .before .before .before .before .before .before .before .before .before .pre .3), c .before .before .before .before .before .before .before .before .before .before .before .before .before .before .before .before .before .before .before .before .before .before .before .pre .3)
+
+same-length : tie.Need-same-length
+same-length c = search needs
+
+same-length-2 : tie.Need-same-length-2
+same-length-2 c = search needs
+
+same-length-3 : tie.Need-same-length-3
+same-length-3 c = search needs
+
+returns : tie.Need-returns
+unfolding measured
+returns c = (rw (c .before .chance-of .ensures, c .chance-of2 .ensures, c .before .before .draw .ensures, c .before .before .before .before .before .statistic-of .ensures, c .before .before .before .before .statistic-of2 .ensures, c .before .before .before .before .before .before .before .before .before .before .before .before .observe .ensures .0, c .before .before .before .before .before .before .before .before .before .before .before .before .observe .ensures .1), c .before .before .before .before .before .before .before .before .before .before .before .before .observe .ensures .2, c .before .before .before .before .before .before .before .before .before .before .before .before .observe .ensures .3)
+
+pub measure-spec : {M : Type 1} → statement M
+measure-spec =
+    tie.close
+    (tie.spec
+    observe-requires
+    statistic-of-requires
+    statistic-of-requires-2
+    draw-requires
+    chance-of-requires
+    chance-of-requires-2
+    same-length
+    same-length-2
+    same-length-3
+    returns)

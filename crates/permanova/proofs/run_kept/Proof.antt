@@ -1,0 +1,55 @@
+-- `permanova::run_kept` meets its contract. 256 samples have room.
+-- Assumes nothing.
+
+use mathlib.Core.Path.{sym}
+use Prim.Native.Nat.{_-_}
+use native.Mathlib.Omega.{arith}
+use borrow.Author.Needs.{needs}
+use lib.Seq.{length-take-le}
+use Rattle.permanova.proofs.run_kept.Statement.{statement}
+use Rattle.permanova.proofs.run_kept.Tie as tie
+
+array-borrow-prefix-w : tie.Need-array-borrow-prefix-w
+array-borrow-prefix-w c = search needs
+
+slice-aggregate-run-with : tie.Need-slice-aggregate-run-with
+slice-aggregate-run-with c = sym (length-take-le (c .before .before .before .before .before .before .before .before .before .before .before .before .before .before .before .args .m) _ (omega (arith, c .before .before .before .before .before .before .before .before .before .before .before .before .before .before .before .pre .0 .0 .few)))
+
+array-borrow-prefix-z : tie.Need-array-borrow-prefix-z
+array-borrow-prefix-z c = search needs
+
+slice-aggregate-run-with-2 : tie.Need-slice-aggregate-run-with-2
+slice-aggregate-run-with-2 c = sym (length-take-le (c .before .before .before .before .before .before .before .before .before .before .before .before .before .before .before .before .args .m) _ (omega (arith, c .before .before .before .before .before .before .before .before .before .before .before .before .before .before .before .before .pre .0 .0 .few)))
+
+run-with-requires : tie.Need-run-with-requires
+run-with-requires c κs = (c .before .before .before .before .before .before .before .before .before .before .before .before .before .before .before .before .pre .0, (c .before .before .before .before .before .before .before .before .before .before .before .before .before .before .before .before .pre .1 .0, c .before .before .before .before .before .before .before .before .before .before .before .before .before .before .before .before .pre .1 .1, c .before .before .before .before .before .before .before .before .before .before .before .before .before .before .before .before .pre .1 .2, c .before .before .before .before .before .before .before .before .before .before .before .before .before .before .before .before .pre .1 .3, length-take-le (c .before .before .before .before .before .before .before .before .before .before .before .before .before .before .before .before .args .m) _ (omega (arith, c .before .before .before .before .before .before .before .before .before .before .before .before .before .before .before .before .pre .0 .0 .few)), length-take-le (c .before .before .before .before .before .before .before .before .before .before .before .before .before .before .before .before .args .m) _ (omega (arith, c .before .before .before .before .before .before .before .before .before .before .before .before .before .before .before .before .pre .0 .0 .few))))
+
+same-length : tie.Need-same-length
+same-length c = search needs
+
+same-length-2 : tie.Need-same-length-2
+same-length-2 c = search needs
+
+same-length-3 : tie.Need-same-length-3
+same-length-3 c = search needs
+
+same-length-4 : tie.Need-same-length-4
+same-length-4 c = search needs
+
+returns : tie.Need-returns
+returns c = search needs
+
+pub run-kept-spec : {M : Type 1} → statement M
+run-kept-spec =
+    tie.close
+    (tie.spec
+    array-borrow-prefix-w
+    slice-aggregate-run-with
+    array-borrow-prefix-z
+    slice-aggregate-run-with-2
+    run-with-requires
+    same-length
+    same-length-2
+    same-length-3
+    same-length-4
+    returns)

@@ -1,0 +1,8 @@
+-- Section 8 of document 01: the sampled test.
+pub mod Sampled
+pub mod Together
+pub mod Call
+pub mod Parted
+pub mod Room
+pub mod Measured
+pub mod Answered

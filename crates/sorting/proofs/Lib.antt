@@ -1,0 +1,4 @@
+-- The laws of dealing and of the order that it makes.
+pub mod Extra
+pub mod Dealing
+pub mod Rising

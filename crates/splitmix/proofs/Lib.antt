@@ -1,0 +1,3 @@
+-- Laws of words and draws.
+pub mod Products
+pub mod Draws

@@ -1,0 +1,110 @@
+// SplitMix64 (sections 4 and 8 of document 01), an f64 drawn from it, and the shuffle of labels within a stratum.
+ghost use mathlib.Core.Path.{_≡_};
+ghost use Prim.Native.Nat.{_+_, _*_, _%_, _^_, _<_};
+ghost use lib.ListN.{length};
+ghost use Rattle.lists.specs.Numbers.{Below};
+ghost use Rattle.splitmix.specs.SplitMix.{advance, mix, next, uniform};
+ghost use Rattle.splitmix.specs.Shuffle.{seeded, swapped, deal, swapDrawn, shuffleStratum};
+
+// The next state, and its word.
+pub struct Draw {
+    pub state: u64,
+    pub word: u64,
+}
+
+// a * b, modulo 2^64, by halves: the upper halves' product is a multiple of 2^64.
+pub fn wrapping_mul(a: u64, b: u64) -> u64
+    ensures { λ r. ⌜ r ≡ a * b % 2 ^ 64 ⌝ }
+{
+    let ah = a / 4294967296;
+    let al = a % 4294967296;
+    let bh = b / 4294967296;
+    let bl = b % 4294967296;
+    let cross = std::num::wrapping_add_u64(ah * bl, al * bh) % 4294967296;
+    std::num::wrapping_add_u64(al * bl, cross * 4294967296)
+}
+
+// The next state.
+pub fn advance(s: u64) -> u64
+    ensures { λ r. ⌜ r ≡ advance s ⌝ }
+{
+    std::num::wrapping_add_u64(s, 0x9e37_79b9_7f4a_7c15)
+}
+
+// The word that a state gives.
+pub fn mix(s: u64) -> u64
+    ensures { λ r. ⌜ r ≡ mix s ⌝ }
+{
+    let a = wrapping_mul(s ^ (s >> 30), 0xbf58_476d_1ce4_e5b9);
+    let b = wrapping_mul(a ^ (a >> 27), 0x94d0_49bb_1331_11eb);
+    b ^ (b >> 31)
+}
+
+// One draw: the next state, and its word.
+pub fn next(s: u64) -> Draw
+    ensures { λ r. ⌜ r ≡ next s ⌝ }
+{
+    let state = advance(s);
+    let word = mix(state);
+    Draw { state, word }
+}
+
+// The f64 that a state gives, from -0.5 up to 0.5.
+pub fn uniform(s: u64) -> f64
+    ensures { λ r. ⌜ r ≡ uniform s ⌝ }
+{
+    let w = mix(s) >> 11;
+    w as f64 / 9007199254740992.0 - 0.5
+}
+
+// The state that shuffle t starts from.
+pub fn seeded(seed: u64, t: u64) -> u64
+    ensures { λ r. ⌜ r ≡ seeded seed t ⌝ }
+{
+    seed ^ wrapping_mul(t, 0xd6e8_feb8_6659_fd93)
+}
+
+// The labels at i and j exchanged.
+fn swap(l: &mut [u16], i: usize, j: usize)
+    requires { ⌜ (i < length (now l)) × (j < length (now l)) ⌝ }
+    ensures { λ _. ⌜ now (l .exit) ≡ swapped (now (l .entry)) i j ⌝ }
+{
+    let x = l[i];
+    l[i] = l[j];
+    l[j] = x;
+}
+
+// A number below n, from a word.
+fn below(word: u64, n: u64) -> usize
+    requires { ⌜ 0 < n ⌝ }
+    ensures { λ r. ⌜ r ≡ word % n ⌝ }
+{
+    (word % n) as usize
+}
+
+// One swap: position i of the stratum with (draw mod (i + 1)). The next state is returned.
+fn swap_drawn(lab: &mut [u16], stratum: &[u16], i: usize, state: u64) -> u64
+    requires { ⌜ (i < length (now stratum)) × Below (length (now lab)) (now stratum) ⌝ }
+    ensures { λ r. ⌜ deal r (now (lab .exit)) ≡ swapDrawn (now (stratum .entry)) i (deal state (now (lab .entry))) ⌝ }
+{
+    let d = next(state);
+    let j = below(d.word, i as u64 + 1);
+    let x = lists::entry(stratum, i);
+    let y = lists::entry(stratum, j);
+    swap(lab, x, y);
+    d.state
+}
+
+// A stratum, from its last position down. The last state is returned.
+pub fn shuffle_stratum(lab: &mut [u16], stratum: &[u16], state: u64) -> u64
+    requires { ⌜ Below (length (now lab)) (now stratum) ⌝ }
+    ensures { λ r. ⌜ deal r (now (lab .exit)) ≡ shuffleStratum (now (stratum .entry)) (deal state (now (lab .entry))) ⌝ }
+{
+    let mut s = state;
+    let mut i = stratum.len();
+    while i > 1 {
+        i -= 1;
+        s = swap_drawn(lab, stratum, i, s);
+    }
+    s
+}

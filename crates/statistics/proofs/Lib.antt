@@ -1,0 +1,2 @@
+-- The laws that the proofs of `statistics` share.
+pub mod Cases

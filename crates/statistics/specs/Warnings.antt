@@ -1,0 +1,38 @@
+-- Section 8: warnings as a number with bits; here bits 0 to 4. Definitions only.
+use Prim.Native.Nat.{ℕ}
+use mathlib.Core.Bool.{Bool, not, _&&_, cond}
+use mathlib.Core.List.{List, [], _∷_}
+use lib.Dec.{eqb, ltb}
+use lib.Ieee.{lt}
+use Rattle.float.specs.Floats.{0·5}
+use Rattle.lists.specs.Filters.{any}
+use Rattle.lists.specs.Numbers.{addUp, howMany}
+use Rattle.lot.specs.Lot.{Lot, none}
+use Rattle.lot.specs.Kept.{groups, keptCount, groupCount, sizes}
+use Rattle.lot.specs.Strata.{informativeCount, fraction}
+use Rattle.statistics.specs.Statistics.{someNegative}
+
+abbrev pub bit : ℕ → Bool → ℕ
+bit b on = cond on b 0
+
+-- labels left out: some label is held by one sample
+unfoldable pub leftOut : List ℕ → Bool
+leftOut labels = any (λ l. not (eqb l none) && eqb (howMany l labels) 1) labels
+
+-- strata given and none informs
+unfoldable pub uninformed : Lot → Bool
+uninformed lot = lot .stratified && eqb (informativeCount lot) 0
+
+-- how many samples each group has
+unfoldable pub sizesOf : Lot → List ℕ
+sizesOf lot = sizes (groups (lot .labels)) (keptCount (lot .labels)) (groupCount (lot .labels))
+
+-- bits 0 to 4: labels left out; strata given and none informs; fraction below 0.5 (and some inform); smallest group under 5; some dispersion value below 0
+unfoldable pub warned : Lot → ℕ
+warned lot = addUp (
+    bit 1 (leftOut (lot .labels))
+    ∷ bit 2 (uninformed lot)
+    ∷ bit 4 (lt (fraction lot) 0·5 && not (eqb (informativeCount lot) 0))
+    ∷ bit 8 (any (λ c. ltb c 5) (sizesOf lot))
+    ∷ bit 16 (someNegative lot (groups (lot .labels)))
+    ∷ [])

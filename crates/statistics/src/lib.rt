@@ -1,0 +1,122 @@
+// The statistics of a lot with the labels of a way (document 01, sections 2, 3 and 6), and the warnings of section 8.
+ghost use mathlib.Core.Path.{_≡_};
+ghost use mathlib.Core.Bool.{Bool};
+ghost use mathlib.Core.List.{[], _∷_};
+ghost use Prim.Native.Nat.{_+_, _*_, _<_, _≤_};
+ghost use lib.Dec.{ltb};
+ghost use lib.ListN.{length};
+ghost use Rattle.lists.specs.Ranges.{table};
+ghost use Rattle.lists.specs.Filters.{any};
+ghost use Rattle.lists.specs.Numbers.{addUp};
+ghost use Rattle.lists.specs.Writes.{over};
+ghost use Rattle.lot.specs.Kept.{sizes};
+ghost use Rattle.members.specs.Members.{part, Parts, Grouped};
+ghost use Rattle.location.specs.Location.{total, within, pseudoF};
+ghost use Rattle.statistics.specs.Hits as hits;
+ghost use Rattle.statistics.specs.Warnings.{bit};
+
+// A statistic: a finite F, or unbounded, above all others.
+pub enum Statistic {
+    Finite(f64),
+    Unbounded,
+}
+
+// The statistic that an F is.
+pub fn statistic_of(f: f64) -> Statistic
+    ensures { λ r. ⌜ r ≡ hits.statistic f ⌝ }
+{
+    if float::is_finite(f) {
+        return Statistic::Finite(f);
+    }
+    Statistic::Unbounded
+}
+
+// Whether the F of a shuffle is a hit of the observed statistic.
+pub fn shuffle_hit(observed: Statistic, f: f64) -> bool
+    ensures { λ r. ⌜ r ≡ hits.shuffleHit observed f ⌝ }
+{
+    let Statistic::Finite(x) = observed else {
+        return false;
+    };
+    float::as_large(x, f)
+}
+
+// Whether the statistic of a way is a hit of the observed one.
+pub fn hit(observed: Statistic, found: Statistic) -> bool
+    ensures { λ r. ⌜ r ≡ hits.hit observed found ⌝ }
+{
+    let Statistic::Finite(f) = found else {
+        return true;
+    };
+    let Statistic::Finite(x) = observed else {
+        return false;
+    };
+    float::as_large(x, f)
+}
+
+// ---- location
+
+// The total over the terms, divided by the sum of weights.
+pub fn total(t: &[f64], w: &[f64], m: usize) -> f64
+    requires { ⌜ length (now t) ≡ m * m ⌝ }
+    ensures { λ r. ⌜ r ≡ total (now (t .entry)) (now (w .entry)) m ⌝ }
+{
+    location::rows_sum(t, m) / location::sum(w)
+}
+
+// Within, over the members of the groups that the labels give.
+pub fn within(
+    t: &[f64],
+    w: &[f64],
+    lab: &[u16],
+    m: usize,
+    g: usize,
+    next: &[u16],
+    mem: &[u16],
+) -> f64
+    requires { ⌜ (length (now t) ≡ m * m) × (length (now w) ≡ m) × Grouped (now lab) m g (now next) (now mem) ⌝ }
+    ensures { λ r. ⌜ r ≡ within (now (t .entry)) (now (w .entry)) (now (lab .entry)) m g ⌝ }
+{
+    location::within(t, w, m, g, next, mem)
+}
+
+// ---- sizes and warnings
+
+// How many samples each of g groups has goes to the front of `out`.
+pub fn fill_sizes(next: &[u16], mem: &[u16], m: usize, g: usize, out: &mut [u16])
+    requires { ⌜ Parts m g (now next) (now mem) × (length (now mem) ≤ 256) × (g ≤ length (now out)) ⌝ }
+    ensures { λ _. ⌜ now (out .exit) ≡ over (table g (λ k. length (part (now (next .entry)) (now (mem .entry)) k))) (now (out .entry)) ⌝ }
+{
+    for k in 0..g {
+        let n = members::part_of(next, mem, k).len();
+        out[k] = n as u16;
+    }
+}
+
+// Whether some group has fewer than 5 samples.
+pub fn some_small(sizes: &[u16]) -> bool
+    ensures { λ r. ⌜ r ≡ any (λ c. ltb c 5) (now (sizes .entry)) ⌝ }
+{
+    let mut k: usize = 0;
+    while k < sizes.len() {
+        if sizes[k] < 5 {
+            return true;
+        }
+        k += 1;
+    }
+    false
+}
+
+// The bit b where it is on.
+fn flag(b: u8, on: bool) -> u8
+    ensures { λ r. ⌜ r ≡ bit b on ⌝ }
+{
+    if on { b } else { 0 }
+}
+
+// Bits 0 to 4.
+pub fn warning(left: bool, uninformed: bool, few: bool, small: bool, negative: bool) -> u8
+    ensures { λ r. ⌜ r ≡ addUp (bit 1 left ∷ bit 2 uninformed ∷ bit 4 few ∷ bit 8 small ∷ bit 16 negative ∷ []) ⌝ }
+{
+    flag(1, left) + flag(2, uninformed) + flag(4, few) + flag(8, small) + flag(16, negative)
+}

@@ -1,0 +1,3 @@
+-- Laws of loops over the entries of vectors.
+pub mod Extra
+pub mod Entries
