@@ -2,3 +2,5 @@
 pub mod Outputs
 pub mod Decided
 pub mod Lines
+pub mod Grouping
+pub mod Whole

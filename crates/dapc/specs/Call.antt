@@ -10,6 +10,7 @@ use Rattle.float.specs.Floats.{zero⁺, 2^40}
 use Rattle.lists.specs.Filters.{any}
 use Rattle.outcome.specs.declared.Refusal.{Refusal}
 use Rattle.outcome.specs.declared.Refusal.the-variants.{Length, Limit, Value, Labels, Columns}
+use Rattle.outcome.specs.declared.Check.{Check}
 use Rattle.outcome.specs.Refusals.{Line, _when_, first, _of_, short}
 use Rattle.outcome.specs.Outcome.{Outcome, answered, refused, judged, andThen}
 use Rattle.outcome.specs.Slices.{output}
@@ -64,12 +65,20 @@ leaves n p axes o out assigned = record {
   assigned = output 0 (λ s. s .assigned) n o assigned;
 }
 
--- the meaning of a call of `dapc`
-unfoldable pub dapcCall : ℕ → ℕ → List Float → List ℕ → List Float → List ℕ → Called
-dapcCall n columns x labels out assigned =
+-- the same where the table says this of the arguments
+unfoldable pub callBy : Check → ℕ → ℕ → List Float → List ℕ → List Float → List ℕ → Called
+callBy c n columns x labels out assigned =
     let g = groupCount labels in
     let p = leading columns (keptCount labels) g in
-    leaves n p (axesOf g p) (judged (first (dapcLines n columns x labels (length out) (length assigned))) (dapc n columns x (groupEach labels) g)) out assigned
+    leaves n p (axesOf g p) (judged c (dapc n columns x (groupEach labels) g)) out assigned
+
+-- the meaning of a call of `dapc`
+unfoldable pub dapcCall : ℕ → ℕ → List Float → List ℕ → List Float → List ℕ → Called
+dapcCall n columns x labels out assigned = callBy (first (dapcLines n columns x labels (length out) (length assigned))) n columns x labels out assigned
+
+-- and of one that lines 1 to 3 let pass
+unfoldable pub groupsCall : ℕ → ℕ → List Float → List ℕ → List Float → List ℕ → Called
+groupsCall n columns x labels out assigned = callBy (first (groupLines columns (keptCount labels) (groupCount labels))) n columns x labels out assigned
 
 -- ---- how a contract says it: the enum that is returned, and what the outputs hold
 
@@ -96,3 +105,12 @@ pub record Ready (columns p axes g : ℕ) (x : List Float) (groups : List ℕ) (
   pub axial : axes ≡ axesOf g p
   pub room : axes + length groups * axes ≤ out
   pub places : length groups ≤ assigned
+
+-- what lines 1 to 3 tell of the lengths; `numbers` is that of a slice with room for a number of each sample
+pub record Sized (columns : ℕ) (x : List Float) (labels : List ℕ) (out assigned numbers : ℕ) : Type 0 where
+  pub coordinates : length x ≡ length labels * columns
+  pub few : length labels ≤ 256
+  pub narrow : columns ≤ 16
+  pub room : columns + length labels * columns ≤ out
+  pub places : length labels ≤ assigned
+  pub numbersFit : length labels ≤ numbers

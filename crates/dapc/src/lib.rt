@@ -18,7 +18,8 @@ ghost use Rattle.jacobi.specs.Eigen.{jacobi};
 ghost use Rattle.jacobi.specs.Call.{eigenOf};
 ghost use Rattle.scores.specs.Scores.{scoresOf};
 ghost use Rattle.dapc.specs.Dapc.{leading, axesOf, concluded, assign, separated, discriminate};
-ghost use Rattle.dapc.specs.Call.{badCoordinate, shapeLines, groupLines, leaves, dapcCall, called, refusal, Ready};
+ghost use Rattle.dapc.specs.Dapc as spec;
+ghost use Rattle.dapc.specs.Call.{badCoordinate, shapeLines, groupLines, leaves, groupsCall, dapcCall, called, refusal, Ready, Sized};
 ghost use Rattle.dapc.specs.Call as Call;
 
 // What the scores tell: the columns used, the axes, and how many samples were found to be in their own group.
@@ -434,14 +435,7 @@ fn is_product(len: usize, n: usize, columns: usize) -> bool
 }
 
 // Line 1, for slices of these lengths.
-fn misfits(
-    n: usize,
-    columns: usize,
-    x: usize,
-    labels: usize,
-    out: usize,
-    assigned: usize,
-) -> bool
+fn misfits(n: usize, columns: usize, x: usize, labels: usize, out: usize, assigned: usize) -> bool
     ensures { λ r. ⌜ r ≡ Call.misfits n columns x labels out assigned ⌝ }
 {
     if !is_product(x, n, columns) {
@@ -467,14 +461,7 @@ pub fn beyond(x: &[f64]) -> bool
 }
 
 // Lines 1 to 3, for slices of these lengths.
-fn check(
-    x: &[f64],
-    n: usize,
-    columns: usize,
-    labels: usize,
-    out: usize,
-    assigned: usize,
-) -> Check
+fn check(x: &[f64], n: usize, columns: usize, labels: usize, out: usize, assigned: usize) -> Check
     ensures { λ r. ⌜ r ≡ first (shapeLines n columns (now (x .entry)) labels out assigned) ⌝ }
 {
     if misfits(n, columns, x.len(), labels, out, assigned) {
@@ -517,4 +504,89 @@ fn check_groups(columns: usize, m: usize, g: usize) -> Check
         return Check::Refused(Refusal::Columns);
     }
     Check::Passed
+}
+
+// ---- the operation
+
+// The groups of the samples go to `each`, and the scores are found on the columns that lead. `ns` are the groups' labels.
+fn assess(
+    out: &mut [f64],
+    assigned: &mut [u16],
+    each: &mut [u16],
+    ns: &[u16],
+    x: &[f64],
+    columns: usize,
+    labels: &[u16],
+    m: usize,
+    g: usize,
+) -> Answer
+    requires { ⌜ Sized columns (now x) (now labels) (length (now out)) (length (now assigned)) (length (now each)) ⌝ }
+    requires { ⌜ (now ns ≡ names (now labels)) × (m ≡ keptCount (now labels)) × (g ≡ groupCount (now labels)) × (2 ≤ g) ⌝ }
+    ensures { λ r. ⌜ called r (now (out .exit)) (now (assigned .exit))
+        ≡ leaves (length (now (labels .entry))) (leading columns m g) (axesOf g (leading columns m g)) (spec.dapc (length (now (labels .entry))) columns (now (x .entry)) (groupEach (now (labels .entry))) g) (now (out .entry)) (now (assigned .entry)) ⌝ }
+{
+    let n = labels.len();
+    let p = leading_of(columns, m, g);
+    lot::groups::fill_group_each(labels, ns, each);
+    discriminate(out, assigned, x, &each[..n], columns, p, m, g)
+}
+
+// Lines 5 and 9, and then the scores. `ks`, `ns` and `gs` are room for n numbers each.
+fn judge(
+    out: &mut [f64],
+    assigned: &mut [u16],
+    ks: &mut [u16],
+    ns: &mut [u16],
+    gs: &mut [u16],
+    x: &[f64],
+    columns: usize,
+    labels: &[u16],
+) -> Answer
+    requires { ⌜ Sized columns (now x) (now labels) (length (now out)) (length (now assigned)) (length (now gs)) × (length (now labels) ≤ length (now ks)) × (length (now labels) ≤ length (now ns)) ⌝ }
+    ensures { λ r. ⌜ called r (now (out .exit)) (now (assigned .exit)) ≡ groupsCall (length (now (labels .entry))) columns (now (x .entry)) (now (labels .entry)) (now (out .entry)) (now (assigned .entry)) ⌝ }
+{
+    let s = lot::groups::group(labels, ks, ns, gs);
+    let m = s.kept;
+    let g = s.groups;
+    let c = check_groups(columns, m, g);
+    match c {
+        Check::Refused(r) => Answer::Refused(r),
+        Check::Passed => assess(out, assigned, gs, &ns[..g], x, columns, labels, m, g),
+    }
+}
+
+// The same with room of its own.
+fn judge_in(
+    out: &mut [f64],
+    assigned: &mut [u16],
+    x: &[f64],
+    columns: usize,
+    labels: &[u16],
+) -> Answer
+    requires { ⌜ Sized columns (now x) (now labels) (length (now out)) (length (now assigned)) 256 ⌝ }
+    ensures { λ r. ⌜ called r (now (out .exit)) (now (assigned .exit)) ≡ groupsCall (length (now (labels .entry))) columns (now (x .entry)) (now (labels .entry)) (now (out .entry)) (now (assigned .entry)) ⌝ }
+{
+    let mut ks = [0u16; 256];
+    let mut ns = [0u16; 256];
+    let mut gs = [0u16; 256];
+    judge(out, assigned, &mut ks, &mut ns, &mut gs, x, columns, labels)
+}
+
+// Discriminant scores of n samples, rows of `columns` coordinates, by their labels. `out` gets one value per axis and then the scores, row by row;
+// `assigned` the group found for each sample, or none.
+pub fn dapc(
+    x: &[f64],
+    n: usize,
+    columns: usize,
+    labels: &[u16],
+    out: &mut [f64],
+    assigned: &mut [u16],
+) -> Answer
+    ensures { λ r. ⌜ called r (now (out .exit)) (now (assigned .exit)) ≡ dapcCall n columns (now (x .entry)) (now (labels .entry)) (now (out .entry)) (now (assigned .entry)) ⌝ }
+{
+    let c = check(x, n, columns, labels.len(), out.len(), assigned.len());
+    match c {
+        Check::Refused(r) => Answer::Refused(r),
+        Check::Passed => judge_in(out, assigned, x, columns, labels),
+    }
 }

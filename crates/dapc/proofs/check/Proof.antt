@@ -1,9 +1,6 @@
 -- `dapc::check` meets its contract. The lines go by their numbers.
 -- Assumes nothing.
 
-
-
-
 use mathlib.Core.Path.{sym, _∙_}
 use Prim.Native.Nat.{_-_}
 use borrow.Author.Needs.{needs}

@@ -1,9 +1,6 @@
 -- `dapc::check_groups` meets its contract. The lines go by their numbers.
 -- Assumes nothing.
 
-
-
-
 use mathlib.Core.Path.{sym, ap, _∙_}
 use Prim.Native.Nat.{ℕ, _-_}
 use borrow.Author.Needs.{needs}

@@ -1,9 +1,6 @@
 -- `dapc::is_product` meets its contract. The product is made only where it is at most the length.
 -- Assumes nothing.
 
-
-
-
 use mathlib.Core.Path.{refl}
 use Prim.Native.Nat.{_-_}
 use native.Mathlib.Omega.{arith}

@@ -1,9 +1,6 @@
 -- `dapc::leading_of` meets its contract. The smaller of two, the second cut off at 0.
 -- Assumes nothing.
 
-
-
-
 use Prim.Native.Nat.{_-_}
 use native.Mathlib.Omega.{arith}
 use Rattle.dapc.proofs.Lines.{leading-none, leading-columns, leading-rest}

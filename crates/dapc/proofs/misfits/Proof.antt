@@ -1,9 +1,6 @@
 -- `dapc::misfits` meets its contract. Test by test.
 -- Assumes nothing.
 
-
-
-
 use mathlib.Core.Path.{sym, _∙_}
 use Prim.Native.Nat.{_-_}
 use native.Mathlib.Omega.{arith}
