@@ -4,3 +4,4 @@ pub mod Decided
 pub mod Lines
 pub mod Grouping
 pub mod Whole
+pub mod Cases

@@ -3,6 +3,7 @@
 
 use mathlib.Core.Path.{ap, _∙_}
 use Prim.Native.Nat.{_*_, _-_}
+use native.Mathlib.Omega.{arith}
 use borrow.Author.Needs.{needs}
 use lib.ListN.{length, length-replicate}
 use Rattle.float.specs.Floats.{zero⁺}
@@ -14,7 +15,7 @@ factor-requires : tie.Need-factor-requires
 factor-requires c κs = (c .before .before .before .before .before .before .before .before .before .before .before .pre .1 .1 .2, c .before .before .before .before .before .before .before .before .before .before .before .pre .1 .0 .0)
 
 refuse-requires : tie.Need-refuse-requires
-refuse-requires c κs = (c .before .before .before .before .before .before .before .before .before .before .before .before .before .before .before .before .before .pre .0 .room, c .before .before .before .before .before .before .before .before .before .before .before .before .before .before .before .before .before .pre .0 .places)
+refuse-requires c κs = (omega (arith, c .before .before .before .before .before .before .before .before .before .before .before .before .before .before .before .before .before .pre .0 .room), c .before .before .before .before .before .before .before .before .before .before .before .before .before .before .before .before .before .pre .0 .places)
 
 same-length : tie.Need-same-length
 same-length c = c .before .before .before .before .refuse .kept .0
@@ -38,7 +39,7 @@ enum-told-2 : tie.Need-enum-told-2
 enum-told-2 c = search needs
 
 refuse-requires-2 : tie.Need-refuse-requires-2
-refuse-requires-2 c κs = (c .before .before .before .before .before .before .before .before .before .before .before .before .before .before .before .before .before .before .before .before .before .before .before .before .pre .0 .room, c .before .before .before .before .before .before .before .before .before .before .before .before .before .before .before .before .before .before .before .before .before .before .before .before .pre .0 .places)
+refuse-requires-2 c κs = (omega (arith, c .before .before .before .before .before .before .before .before .before .before .before .before .before .before .before .before .before .before .before .before .before .before .before .before .pre .0 .room), c .before .before .before .before .before .before .before .before .before .before .before .before .before .before .before .before .before .before .before .before .before .before .before .before .pre .0 .places)
 
 same-length-4 : tie.Need-same-length-4
 same-length-4 c = c .before .before .before .before .refuse2 .kept .0
