@@ -15,7 +15,7 @@ use Rattle.lists.specs.Writes.{over, cleared}
 use Rattle.lists.proofs.Ranges.{length-grid, length-table, table-ext, table-of}
 use Rattle.lists.proofs.Rows.{part-rest}
 use Rattle.lists.proofs.Writes as writes
-use Rattle.lot.proofs.Extra.{over-over, over-part, over-take}
+use Rattle.lot.proofs.Extra.{over-over, over-lent, over-take}
 use Rattle.outcome.specs.declared.Refusal.{Refusal}
 use Rattle.outcome.specs.declared.Refusal.the-variants.{Unordered}
 use Rattle.outcome.specs.Outcome.{Outcome, answered, refused, andThen}
@@ -33,7 +33,7 @@ use Rattle.dapc.specs.Call.{Called, called, refusal, leaves}
 cleared-front : {A : Type 0} (v : A) (k : ℕ) (l : List A) {r : List A} → k ≤ length l → r ≡ cleared v (take k l) → r ++ drop k l ≡ over (replicate k v) l
 unfolding cleared
 cleared-front {A} v k l h e =
-    ap (λ (t : List A). t ++ drop k l) (e ∙ ap (λ (n : ℕ). replicate n v) (length-take-le k l h)) ∙ over-part (replicate k v) l (length-replicate k v)
+    ap (λ (t : List A). t ++ drop k l) (e ∙ ap (λ (n : ℕ). replicate n v) (length-take-le k l h)) ∙ over-lent (replicate k v) l (length-replicate k v)
 
 pub refused-by : (r : Refusal) (k n : ℕ) (out : List Float) (assigned : List ℕ) {o : List Float} {a : List ℕ} → k ≤ length out → n ≤ length assigned
     → o ≡ cleared zero⁺ (take k out) → a ≡ cleared 0 (take n assigned)
@@ -45,7 +45,7 @@ pub both-written : (axes k : ℕ) (out v s : List Float) {r t : List Float} → 
     → putMid axes (axes + k - axes) (t ++ drop axes out) r ≡ over (v ++ s) out
 both-written axes k out v s {r} {t} h many more e f =
     rw add-sub-cancel-left
-    (writes.over-part v out (ap (λ (l : List Float). l ++ drop axes out) e ∙ over-part v out many) many f more h)
+    (writes.over-part v out (ap (λ (l : List Float). l ++ drop axes out) e ∙ over-lent v out many) many f more h)
 
 -- ---- the scores in the output decide the groups
 
@@ -93,7 +93,7 @@ module _ (n p axes g : ℕ) (groups : List ℕ) (v s : List Float) where
         let long = length-replicate {A = ℕ} n 0 in
         e
         ∙ ap (refusal Unordered (over (replicate (axes + n * axes) zero⁺) out))
-        (ap (over (replicate n 0)) (over-part found assigned found-long) ∙ over-over (replicate n 0) found assigned (omega (arith, found-long)))
+        (ap (over (replicate n 0)) (over-lent found assigned found-long) ∙ over-over (replicate n 0) found assigned (omega (arith, found-long)))
         ∙ sym (leaves-refused out assigned (sym nans-are ∙ t))
 
     pub conclude-scored : {right : ℕ} → nans ≡ false → right ≡ rightOf groups found → axes + n * axes ≤ length out → v ≡ take axes out → s ≡ take (n * axes) (drop axes out)
@@ -101,7 +101,7 @@ module _ (n p axes g : ℕ) (groups : List ℕ) (v s : List Float) where
     conclude-scored {right} t count room first rest =
         let front : v ++ s ≡ take (axes + n * axes) out = ap₂ (λ (a b : List Float). a ++ b) first rest ∙ sym (take-add axes (n * axes) out) in
         let stays : out ≡ over (v ++ s) out = sym (ap (λ (l : List Float). over l out) front ∙ over-take out (axes + n * axes) room) in
-        let numbers : found ++ drop n assigned ≡ over groupsFound assigned = over-part found assigned found-long ∙ ap (λ (l : List ℕ). over l assigned) found-is in
+        let numbers : found ++ drop n assigned ≡ over groupsFound assigned = over-lent found assigned found-long ∙ ap (λ (l : List ℕ). over l assigned) found-is in
         ap (λ (k : ℕ). called (Scored (record { columns = p; axes = axes; right = k })) out (found ++ drop n assigned)) (count ∙ ap (rightOf groups) found-is)
         ∙ ap₂ (called (Scored (record { columns = p; axes = axes; right = rightOf groups groupsFound }))) stays numbers
         ∙ sym (leaves-scored out assigned (sym nans-are ∙ t))
