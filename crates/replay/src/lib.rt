@@ -2,7 +2,6 @@
 ghost use mathlib.Core.Path.{_≡_};
 ghost use Prim.Native.Nat.{_+_, _*_, _≤_};
 ghost use lib.ListN.{length};
-use libc::STDIN_FILENO;
 use libc::STDOUT_FILENO;
 
 // ---- words
@@ -72,6 +71,18 @@ pub fn read_floats(b: &[u8], at: usize, x: &mut [f64]) {
 pub fn read_numbers(b: &[u8], at: usize, x: &mut [u16]) {
     for i in 0..x.len() {
         x[i] = (word(b, after(at, i)) % 65536) as u16;
+    }
+}
+
+pub fn read_words(b: &[u8], at: usize, x: &mut [u64]) {
+    for i in 0..x.len() {
+        x[i] = word(b, after(at, i));
+    }
+}
+
+pub fn read_indices(b: &[u8], at: usize, x: &mut [usize]) {
+    for i in 0..x.len() {
+        x[i] = word(b, after(at, i)) as usize;
     }
 }
 
@@ -180,31 +191,41 @@ pub fn matrix_words(b: &[u8], at: usize, n: usize) -> usize {
     }
 }
 
+// Whether every entry of a matrix of n rows is that which stands for it from word `at` on, where the entries i <= j stand row by row.
+pub fn same_upper(b: &[u8], at: usize, n: usize, x: &[f64]) -> bool {
+    for t in 0..x.len() {
+        if !same(x[t], word(b, after(at, place(1, n, t)))) {
+            return false;
+        }
+    }
+    true
+}
+
 // ---- the file
 
 // How many bytes the next record has.
-fn announced() -> usize {
+fn announced(fd: i32) -> usize {
     let mut head = [0u8; 8];
-    io::read_full(STDIN_FILENO, &mut head);
+    io::read_full(fd, &mut head);
     8 * number(&head, 0, 80000)
 }
 
 // The next record goes to the front of b; how many bytes it has, or 0 where there is no room.
-pub fn next(b: &mut [u8]) -> usize
+pub fn next(fd: i32, b: &mut [u8]) -> usize
     ensures { λ r. ⌜ r ≤ length (now (b .exit)) ⌝ }
 {
-    let k = announced();
+    let k = announced(fd);
     if b.len() < k {
         return 0;
     }
-    io::read_full(STDIN_FILENO, &mut b[..k]);
+    io::read_full(fd, &mut b[..k]);
     k
 }
 
 // How many records there are of an operation; 0 where the file is none of its.
-pub fn records(op: u64) -> usize {
+pub fn records(fd: i32, op: u64) -> usize {
     let mut head = [0u8; 32];
-    io::read_full(STDIN_FILENO, &mut head);
+    io::read_full(fd, &mut head);
     if word(&head, 0) != 0x3130_7961_6c70_6572 {
         return 0;
     }
@@ -283,9 +304,11 @@ pub fn add(t: Tally, h: Held, place: usize) -> Tally {
     }
 }
 
-// The tally, a line each.
-pub fn tell(t: Tally) {
-    print(b"answers alike: ", t.answers);
-    print(b"refusals alike: ", t.refusals);
-    print(b"different: ", t.differences);
+// The tally of a file, a line each.
+pub fn tell(name: &[u8], t: Tally) {
+    io::write_all(STDOUT_FILENO, name);
+    io::write_all(STDOUT_FILENO, b"\n");
+    print(b"  answers alike: ", t.answers);
+    print(b"  refusals alike: ", t.refusals);
+    print(b"  different: ", t.differences);
 }

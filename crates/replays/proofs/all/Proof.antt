@@ -1,18 +1,21 @@
--- `replay_dapc::all` meets its contract. Each record is the front of the bytes.
+-- `replays::all` meets its contract. Each record is the front of the bytes.
 -- Assumes nothing.
 use Prim.Native.Nat.{_-_}
 use mathlib.Core.Path.{_≡_, refl, _∙_, sym}
 use native.Mathlib.Omega.{arith}
 use lib.ListN.{length}
 use lib.Seq.{length-take-le}
-use Rattle.replay_dapc.proofs.all.Statement.{statement}
-use Rattle.replay_dapc.proofs.all.Tie as tie
+use Rattle.replays.proofs.all.Statement.{statement}
+use Rattle.replays.proofs.all.Tie as tie
 
 abbrev Inv-loop : tie.InvT-loop
-Inv-loop b₀ records tally₀ t₀ b tally t = length b ≡ length b₀
+Inv-loop fd name op b₀ records tally₀ t₀ b tally t = length b ≡ length b₀
 
 abbrev μ-loop : tie.MeasureT-loop
-μ-loop b₀ records tally₀ t₀ b tally t = records - t
+μ-loop fd name op b₀ records tally₀ t₀ b tally t = records - t
+
+records-requires : tie.Need-records-requires Inv-loop μ-loop
+records-requires c κs = tt
 
 none-requires : tie.Need-none-requires Inv-loop μ-loop
 none-requires c κs = tt
@@ -27,7 +30,7 @@ slice-reshare-prefix-hold : tie.Need-slice-reshare-prefix-hold Inv-loop μ-loop
 slice-reshare-prefix-hold c = c .before .before .next .ensures
 
 slice-aggregate-hold : tie.Need-slice-aggregate-hold Inv-loop μ-loop
-slice-aggregate-hold c = sym (length-take-le _ (c .before .before .before .next .last .0) (c .before .before .before .next .ensures))
+slice-aggregate-hold c = sym (length-take-le _ (c .before .before .before .next .last .1 .0) (c .before .before .before .next .ensures))
 
 hold-requires : tie.Need-hold-requires Inv-loop μ-loop
 hold-requires c κs = tt
@@ -42,7 +45,7 @@ loop-less : tie.Need-loop-less Inv-loop μ-loop
 loop-less c = omega arith
 
 loop-again : tie.Need-loop-again Inv-loop μ-loop
-loop-again c = c .before .before .before .before .before .next .kept .0 ∙ c .before .before .before .before .before .before .before .before .loop .inv
+loop-again c = c .before .before .before .before .before .next .kept .1 .0 ∙ c .before .before .before .before .before .before .before .before .loop .inv
 
 tell-requires : tie.Need-tell-requires Inv-loop μ-loop
 tell-requires c κs = tt
@@ -59,6 +62,7 @@ all-spec =
     (tie.spec
     Inv-loop
     μ-loop
+    records-requires
     none-requires
     loop-holds
     next-requires

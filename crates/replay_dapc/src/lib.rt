@@ -1,4 +1,4 @@
-// Replays the Rust's answers of `dapc`: standard input is a replay file (oracle/README.md).
+// Holds `dapc` against a record of a replay file (oracle/README.md).
 use dapc::Answer;
 use dapc::Separation;
 use dapc::dapc;
@@ -86,26 +86,10 @@ fn cut(b: &[u8], x: &mut [f64], labels: &mut [u16], out: &mut [f64], assigned: &
 }
 
 // The same, with room of its own.
-fn hold(b: &[u8]) -> Held {
+pub fn hold(b: &[u8]) -> Held {
     let mut x = [0.0; 4096];
     let mut labels = [0u16; 256];
     let mut out = [0.0; 4112];
     let mut assigned = [0u16; 256];
     cut(b, &mut x, &mut labels, &mut out, &mut assigned)
-}
-
-// All records.
-fn all(b: &mut [u8], records: usize) {
-    let mut tally = replay::none();
-    for t in 0..records {
-        let k = replay::next(b);
-        tally = replay::add(tally, hold(&b[..k]), t);
-    }
-    replay::tell(tally);
-}
-
-fn main() {
-    let mut b = [0u8; 640000];
-    let records = replay::records(4);
-    all(&mut b, records);
 }

@@ -1,0 +1,97 @@
+-- `replay_jacobi::cut` meets its contract. Each part lent is a front.
+-- Assumes nothing.
+use Prim.Native.Nat.{_-_}
+use mathlib.Core.Path.{sym}
+use lib.Seq.{length-take-le}
+use borrow.Author.Needs.{needs}
+use Rattle.replay_jacobi.proofs.cut.Statement.{statement}
+use Rattle.replay_jacobi.proofs.cut.Tie as tie
+
+number-requires : tie.Need-number-requires
+number-requires c κs = search needs
+
+product-requires : tie.Need-product-requires
+product-requires c κs = search needs
+
+after-requires : tie.Need-after-requires
+after-requires c κs = search needs
+
+returns : tie.Need-returns
+returns c = search needs
+
+returns-2 : tie.Need-returns-2
+returns-2 c = search needs
+
+returns-3 : tie.Need-returns-3
+returns-3 c = search needs
+
+returns-4 : tie.Need-returns-4
+returns-4 c = search needs
+
+slice-relend-prefix-held : tie.Need-slice-relend-prefix-held
+slice-relend-prefix-held c = search needs
+
+slice-aggregate-held : tie.Need-slice-aggregate-held
+slice-aggregate-held c = sym (length-take-le _ (c .before .before .before .before .before .before .before .before .before .before .before .before .before .args .a .now) (c .before .before .before .before .if1 .left))
+
+slice-relend-prefix-held-2 : tie.Need-slice-relend-prefix-held-2
+slice-relend-prefix-held-2 c = search needs
+
+slice-aggregate-held-2 : tie.Need-slice-aggregate-held-2
+slice-aggregate-held-2 c = sym (length-take-le _ (c .before .before .before .before .before .before .before .before .before .before .before .before .before .before .args .out .now) (c .before .before .before .before .if2 .left))
+
+slice-relend-prefix-held-3 : tie.Need-slice-relend-prefix-held-3
+slice-relend-prefix-held-3 c = search needs
+
+slice-aggregate-held-3 : tie.Need-slice-aggregate-held-3
+slice-aggregate-held-3 c = sym (length-take-le _ (c .before .before .before .before .before .before .before .before .before .before .before .before .before .before .before .args .m .now) (c .before .before .before .before .if3 .left))
+
+slice-relend-prefix-held-4 : tie.Need-slice-relend-prefix-held-4
+slice-relend-prefix-held-4 c = search needs
+
+slice-aggregate-held-4 : tie.Need-slice-aggregate-held-4
+slice-aggregate-held-4 c = sym (length-take-le _ (c .before .before .before .before .before .before .before .before .before .before .before .before .before .before .before .before .args .v .now) (c .before .before .before .before .if4 .left))
+
+held-requires : tie.Need-held-requires
+held-requires c κs = search needs
+
+same-length : tie.Need-same-length
+same-length c = search needs
+
+same-length-2 : tie.Need-same-length-2
+same-length-2 c = search needs
+
+same-length-3 : tie.Need-same-length-3
+same-length-3 c = search needs
+
+same-length-4 : tie.Need-same-length-4
+same-length-4 c = search needs
+
+returns-5 : tie.Need-returns-5
+returns-5 c = search needs
+
+pub cut-spec : {M : Type 1} → statement M
+cut-spec =
+    tie.close
+    (tie.spec
+    number-requires
+    product-requires
+    after-requires
+    returns
+    returns-2
+    returns-3
+    returns-4
+    slice-relend-prefix-held
+    slice-aggregate-held
+    slice-relend-prefix-held-2
+    slice-aggregate-held-2
+    slice-relend-prefix-held-3
+    slice-aggregate-held-3
+    slice-relend-prefix-held-4
+    slice-aggregate-held-4
+    held-requires
+    same-length
+    same-length-2
+    same-length-3
+    same-length-4
+    returns-5)

@@ -1,0 +1,42 @@
+// Replays the Rust's answers (oracle/README.md): asks for every record of the files under data/ again, and tells how many answers
+// are alike to the bit.
+use replay::Held;
+
+// A record of an operation.
+fn hold(op: u64, b: &[u8]) -> Held {
+    if op == 4 {
+        return replay_dapc::hold(b);
+    }
+    if op == 5 {
+        return replay_jacobi::hold(b);
+    }
+    if op == 7 {
+        return replay_gram::hold(b);
+    }
+    Held::Difference
+}
+
+// All records of an open file.
+fn all(fd: i32, name: &[u8], op: u64, b: &mut [u8]) {
+    let records = replay::records(fd, op);
+    let mut tally = replay::none();
+    for t in 0..records {
+        let k = replay::next(fd, b);
+        tally = replay::add(tally, hold(op, &b[..k]), t);
+    }
+    replay::tell(name, tally);
+}
+
+// All records of a file.
+fn file(path: &[u8], op: u64) {
+    let mut b = [0u8; 640000];
+    let fd = os::open_read(path);
+    all(fd, path, op, &mut b);
+    libc::close(fd);
+}
+
+fn main() {
+    file(b"dapc.bin", 4);
+    file(b"jacobi_eigen.bin", 5);
+    file(b"gram_matrix.bin", 7);
+}
