@@ -1,5 +1,4 @@
 -- The laws that the proofs of `permanova` share.
-pub mod Shuffles
 pub mod Chances
 pub mod Alarms
 pub mod Answers
