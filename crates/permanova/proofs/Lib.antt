@@ -2,3 +2,5 @@
 pub mod Chances
 pub mod Alarms
 pub mod Answers
+pub mod Lots
+pub mod Whole

@@ -1,11 +1,12 @@
 // The sampled test (document 01, section 8): PERMANOVA and PERMDISP with shuffles within strata.
+use outcome::Check;
 use outcome::Refusal;
 use shuffles::Seen;
 use statistics::Statistic;
 ghost use mathlib.Core.Path.{_≡_};
 ghost use Prim.Native.Nat.{_*_, _<_, _≤_};
-ghost use lib.ListN.{length};
-ghost use Rattle.lists.specs.Writes.{over};
+ghost use lib.ListN.{length, take};
+ghost use Rattle.lists.specs.Writes.{over, cleared};
 ghost use Rattle.lot.specs.Kept.{sizes};
 ghost use Rattle.dispersion.specs.Dispersion.{zOf};
 ghost use Rattle.dispersion.specs.Anova.{meanZ};
@@ -14,15 +15,16 @@ ghost use Prim.Native.Nat.{max, min};
 ghost use mathlib.Core.Bool.{not, _&&_};
 ghost use lib.Dec.{eqb};
 ghost use lib.Ieee.{lt};
-ghost use Rattle.float.specs.Floats.{0·5};
+ghost use Rattle.float.specs.Floats.{0·5, zero⁺};
 ghost use Rattle.lists.specs.Numbers.{howMany};
-ghost use Rattle.lot.specs.Lot.{none};
+ghost use Rattle.lot.specs.Lot.{none, lotOf};
 ghost use Rattle.statistics.specs.Warnings.{leftOut};
 ghost use Rattle.permanova.specs.Sampled.{chance};
 ghost use Rattle.permanova.specs.Together.{largest, smallest, alarmed, together};
 ghost use Rattle.observation.specs.Room.{Weighed};
 ghost use Rattle.permanova.specs.Room.{Kept};
 ghost use Rattle.permanova.specs.Answered.{answerFor, meansFor};
+ghost use Rattle.permanova.specs.Call.{slicesOf, tooShort, testCheck, accepted, testCall, called};
 
 // A p, or none.
 pub enum Chance {
@@ -392,4 +394,245 @@ fn run_kept(
         &mut w[..m],
         &mut z[..m],
     )
+}
+
+// The answer for the first m of `ks`, whose groups and strata stand in front of `gs` and `ss`. Both work slices are cleared.
+fn run_front(
+    counts: &mut [u16],
+    means: &mut [f64],
+    t: &mut [f64],
+    p: &mut [f64],
+    d: &[f64],
+    n: usize,
+    labels: &[u16],
+    ks: &[u16],
+    gs: &[u16],
+    ss: &[u16],
+    stratified: bool,
+    weighted: bool,
+    weights: &[f64],
+    m: usize,
+    g: usize,
+    s: usize,
+    seed: u64,
+    n_perm: u64,
+) -> TestResult
+    requires { ⌜ Kept n m g s (now d) (now labels) (take m (now ks)) (take m (now gs)) (take m (now ss)) weighted (now weights) × («n_perm» ≤ 999999) ⌝ }
+    requires { ⌜ (m ≤ length (now ks)) × (m ≤ length (now gs)) × (m ≤ length (now ss)) × (g ≤ length (now counts)) × (g ≤ length (now means)) × (m * m ≤ length (now t)) × (m * m ≤ length (now p)) ⌝ }
+    ensures { λ r. ⌜ (r ≡ answerFor (now (d .entry)) n (now (labels .entry)) (take m (now (ks .entry))) (take m (now (gs .entry))) (take m (now (ss .entry))) stratified weighted (now (weights .entry)) m g s seed «n_perm»)
+        × (now (counts .exit) ≡ over (sizes (take m (now (gs .entry))) m g) (now (counts .entry)))
+        × (now (means .exit) ≡ over (meansFor (now (d .entry)) n (take m (now (ks .entry))) (take m (now (gs .entry))) weighted (now (weights .entry)) m g) (now (means .entry)))
+        × (now (t .exit) ≡ cleared zero⁺ (now (t .entry)))
+        × (now (p .exit) ≡ cleared zero⁺ (now (p .entry))) ⌝ }
+{
+    let k = m * m;
+    let r = run_kept(
+        d,
+        n,
+        labels,
+        &ks[..m],
+        &gs[..m],
+        &ss[..m],
+        stratified,
+        weighted,
+        weights,
+        m,
+        g,
+        s,
+        seed,
+        n_perm,
+        counts,
+        means,
+        &mut t[..k],
+        &mut p[..k],
+    );
+    lists::clear(t);
+    lists::clear(p);
+    r
+}
+
+// ---- the operation
+
+// Line 1, for outputs and work slices of these lengths.
+fn too_short(
+    n: usize,
+    names: usize,
+    counts: usize,
+    means: usize,
+    terms: usize,
+    pulls: usize,
+) -> bool
+    ensures { λ r. ⌜ r ≡ tooShort n names counts means terms pulls ⌝ }
+{
+    if names < n {
+        return true;
+    }
+    if counts < n {
+        return true;
+    }
+    if means < n {
+        return true;
+    }
+    if n >= 4294967296 {
+        return true;
+    }
+    if terms < n * n {
+        return true;
+    }
+    pulls < n * n
+}
+
+// A lot that no line turns away. `ks`, `gs` and `ss` lend room for the kept samples, their groups and strata.
+fn run_lot(
+    names: &mut [u16],
+    counts: &mut [u16],
+    means: &mut [f64],
+    terms: &mut [f64],
+    pulls: &mut [f64],
+    ks: &mut [u16],
+    gs: &mut [u16],
+    ss: &mut [u16],
+    n: usize,
+    distances: &[f64],
+    labels: &[u16],
+    stratified: bool,
+    strata: &[u16],
+    weighted: bool,
+    weights: &[f64],
+    seed: u64,
+    n_perm: u64,
+) -> Answer
+    requires { ⌜ testCheck (lotOf n (now distances) (now labels) stratified (now strata) weighted (now weights)) «n_perm» (slicesOf (now names) (now counts) (now means) (now terms) (now pulls)) ≡ Check.Passed ⌝ }
+    requires { ⌜ (length (now ks) ≡ 256) × (length (now gs) ≡ 256) × (length (now ss) ≡ 256) ⌝ }
+    ensures { λ r. ⌜ called r (slicesOf (now (names .exit)) (now (counts .exit)) (now (means .exit)) (now (terms .exit)) (now (pulls .exit)))
+        ≡ accepted (lotOf n (now (distances .entry)) (now (labels .entry)) stratified (now (strata .entry)) weighted (now (weights .entry))) seed «n_perm» (slicesOf (now (names .entry)) (now (counts .entry)) (now (means .entry)) (now (terms .entry)) (now (pulls .entry))) ⌝ }
+{
+    let shape = lot::describe(labels, stratified, strata, ks, names, gs, ss);
+    let r = run_front(
+        counts,
+        means,
+        terms,
+        pulls,
+        distances,
+        n,
+        labels,
+        ks,
+        gs,
+        ss,
+        stratified,
+        weighted,
+        weights,
+        shape.kept,
+        shape.groups,
+        shape.strata,
+        seed,
+        n_perm,
+    );
+    Answer::Tested(r)
+}
+
+// The same, with room of its own.
+fn run(
+    names: &mut [u16],
+    counts: &mut [u16],
+    means: &mut [f64],
+    terms: &mut [f64],
+    pulls: &mut [f64],
+    n: usize,
+    distances: &[f64],
+    labels: &[u16],
+    stratified: bool,
+    strata: &[u16],
+    weighted: bool,
+    weights: &[f64],
+    seed: u64,
+    n_perm: u64,
+) -> Answer
+    requires { ⌜ testCheck (lotOf n (now distances) (now labels) stratified (now strata) weighted (now weights)) «n_perm» (slicesOf (now names) (now counts) (now means) (now terms) (now pulls)) ≡ Check.Passed ⌝ }
+    ensures { λ r. ⌜ called r (slicesOf (now (names .exit)) (now (counts .exit)) (now (means .exit)) (now (terms .exit)) (now (pulls .exit)))
+        ≡ accepted (lotOf n (now (distances .entry)) (now (labels .entry)) stratified (now (strata .entry)) weighted (now (weights .entry))) seed «n_perm» (slicesOf (now (names .entry)) (now (counts .entry)) (now (means .entry)) (now (terms .entry)) (now (pulls .entry))) ⌝ }
+{
+    let mut ks = [0u16; 256];
+    let mut gs = [0u16; 256];
+    let mut ss = [0u16; 256];
+    run_lot(
+        names,
+        counts,
+        means,
+        terms,
+        pulls,
+        &mut ks,
+        &mut gs,
+        &mut ss,
+        n,
+        distances,
+        labels,
+        stratified,
+        strata,
+        weighted,
+        weights,
+        seed,
+        n_perm,
+    )
+}
+
+// PERMANOVA and PERMDISP of n samples by their labels, with n_perm shuffles within strata. `names`, `counts` and `means` get each group's label, count and
+// mean z; `terms` and `pulls` are work.
+pub fn test(
+    n: usize,
+    distances: &[f64],
+    labels: &[u16],
+    stratified: bool,
+    strata: &[u16],
+    weighted: bool,
+    weights: &[f64],
+    seed: u64,
+    n_perm: u64,
+    names: &mut [u16],
+    counts: &mut [u16],
+    means: &mut [f64],
+    terms: &mut [f64],
+    pulls: &mut [f64],
+) -> Answer
+    ensures { λ r. ⌜ called r (slicesOf (now (names .exit)) (now (counts .exit)) (now (means .exit)) (now (terms .exit)) (now (pulls .exit)))
+        ≡ testCall (lotOf n (now (distances .entry)) (now (labels .entry)) stratified (now (strata .entry)) weighted (now (weights .entry))) seed «n_perm» (slicesOf (now (names .entry)) (now (counts .entry)) (now (means .entry)) (now (terms .entry)) (now (pulls .entry))) ⌝ }
+{
+    let short = too_short(
+        n,
+        names.len(),
+        counts.len(),
+        means.len(),
+        terms.len(),
+        pulls.len(),
+    );
+    let c = lot::lines::check_lot(
+        n,
+        distances,
+        labels,
+        stratified,
+        strata,
+        weighted,
+        weights,
+        short,
+        999999 < n_perm,
+    );
+    match c {
+        Check::Refused(r) => Answer::Refused(r),
+        Check::Passed => run(
+            names,
+            counts,
+            means,
+            terms,
+            pulls,
+            n,
+            distances,
+            labels,
+            stratified,
+            strata,
+            weighted,
+            weights,
+            seed,
+            n_perm,
+        ),
+    }
 }
