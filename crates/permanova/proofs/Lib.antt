@@ -1,5 +1,6 @@
 -- The laws that the proofs of `permanova` share.
-pub mod Shuffles
 pub mod Chances
 pub mod Alarms
 pub mod Answers
+pub mod Lots
+pub mod Whole
