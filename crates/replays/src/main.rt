@@ -4,6 +4,9 @@ use replay::Held;
 
 // A record of an operation.
 fn hold(op: u64, b: &[u8]) -> Held {
+    if op == 1 {
+        return replay_test::hold(b);
+    }
     if op == 4 {
         return replay_dapc::hold(b);
     }
@@ -36,6 +39,7 @@ fn file(path: &[u8], op: u64) {
 }
 
 fn main() {
+    file(b"test.bin", 1);
     file(b"dapc.bin", 4);
     file(b"jacobi_eigen.bin", 5);
     file(b"gram_matrix.bin", 7);
