@@ -4,3 +4,4 @@ pub mod Alarms
 pub mod Answers
 pub mod Lots
 pub mod Whole
+pub mod Cases
