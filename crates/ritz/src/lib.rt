@@ -1,0 +1,2 @@
+// Section 4 of document 01: the Rayleigh-Ritz step of `top_eigs`.
+use outcome::Check;
