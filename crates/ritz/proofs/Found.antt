@@ -31,7 +31,7 @@ unfolding combined
 length-combined n b k v q = length-grid k n (combinedAt n b v q)
 
 -- the eigenpairs are refused for a NaN alone
-only-unordered : (n : ℕ) (a : List Float) (r : Refusal) → refused r ≡ jacobi n a → r ≡ Unordered
+pub only-unordered : (n : ℕ) (a : List Float) (r : Refusal) → refused r ≡ jacobi n a → r ≡ Unordered
 unfolding jacobi eigenpairs
 only-unordered n a r e = by (any isNan (diagonal n (sweepsFrom 100 n 0 (turned a (identity n)) .left .matrix))) _ e
   where
