@@ -1,4 +1,4 @@
--- `permanova::smallest` meets its contract. From the last down.
+-- `chances::smallest` meets its contract. From the last down.
 -- Assumes nothing.
 
 use mathlib.Core.Path.{_≡_, _∙_}
@@ -7,10 +7,10 @@ use native.Mathlib.Omega.{arith}
 use lib.ListN.{length, drop}
 use Rattle.lot.specs.Kept.{sizes}
 use mathlib.Core.List.{foldr}
-use Rattle.permanova.specs.Together.{largest, smallest}
-use Rattle.permanova.proofs.Alarms.{fold-none, fold-more, fold-all}
-use Rattle.permanova.proofs.smallest.Statement.{statement}
-use Rattle.permanova.proofs.smallest.Tie as tie
+use Rattle.chances.specs.Together.{largest, smallest}
+use Rattle.chances.proofs.Alarms.{fold-none, fold-more, fold-all}
+use Rattle.chances.proofs.smallest.Statement.{statement}
+use Rattle.chances.proofs.smallest.Tie as tie
 
 abbrev Inv-loop : tie.InvT-loop
 Inv-loop sizes least₀ k₀ least k = (k ≤ length sizes) × (least ≡ foldr min (largest sizes) (drop k sizes))

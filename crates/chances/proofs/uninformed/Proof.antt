@@ -1,9 +1,9 @@
--- `permanova::uninformed` meets its contract. By whether strata are given.
+-- `chances::uninformed` meets its contract. By whether strata are given.
 -- Assumes nothing.
 
 use Prim.Native.Nat.{_-_}
-use Rattle.permanova.proofs.uninformed.Statement.{statement}
-use Rattle.permanova.proofs.uninformed.Tie as tie
+use Rattle.chances.proofs.uninformed.Statement.{statement}
+use Rattle.chances.proofs.uninformed.Tie as tie
 
 returns : tie.Need-returns
 returns c = rw (c .if1 .taken)

@@ -5,8 +5,8 @@ use mathlib.Core.List.{List, foldr}
 use lib.Ieee.{Float, lt, le}
 use Rattle.float.specs.Floats.{_⊗_, num, 0·05, 0·2, 3·0}
 use Rattle.statistics.specs.Warnings.{bit}
-use Rattle.permanova.specs.declared.Chance.{Chance}
-use Rattle.permanova.specs.declared.Chance.the-variants.{P, NoP}
+use Rattle.chances.specs.declared.Chance.{Chance}
+use Rattle.chances.specs.declared.Chance.the-variants.{P, NoP}
 
 -- the largest and the smallest group
 unfoldable pub largest : List ℕ → ℕ

@@ -1,13 +1,13 @@
--- `permanova::together_of` meets its contract. By cases of both p.
+-- `chances::together_of` meets its contract. By cases of both p.
 -- Assumes nothing.
 
 use Prim.Native.Nat.{_-_}
 use borrow.Author.Needs.{needs}
 use Rattle.lot.specs.Kept.{sizes}
-use Rattle.permanova.specs.Together.{largest, smallest}
-use Rattle.permanova.proofs.Alarms.{together-first, together-second, together-both}
-use Rattle.permanova.proofs.together_of.Statement.{statement}
-use Rattle.permanova.proofs.together_of.Tie as tie
+use Rattle.chances.specs.Together.{largest, smallest}
+use Rattle.chances.proofs.Alarms.{together-first, together-second, together-both}
+use Rattle.chances.proofs.together_of.Statement.{statement}
+use Rattle.chances.proofs.together_of.Tie as tie
 
 enum-known-location : tie.Need-enum-known-location
 enum-known-location c = search needs

@@ -1,4 +1,4 @@
--- `permanova::left_out` meets its contract. None of the first i labels is held by one sample.
+-- `chances::left_out` meets its contract. None of the first i labels is held by one sample.
 -- Assumes nothing.
 
 use mathlib.Core.Path.{_≡_, refl, sym, _∙_}
@@ -12,8 +12,8 @@ use Rattle.lists.specs.Numbers.{howMany}
 use Rattle.lists.proofs.Filters.{any-here, any-later, any-none}
 use Rattle.lot.specs.Lot.{none}
 use Rattle.statistics.specs.Warnings.{leftOut}
-use Rattle.permanova.proofs.left_out.Statement.{statement}
-use Rattle.permanova.proofs.left_out.Tie as tie
+use Rattle.chances.proofs.left_out.Statement.{statement}
+use Rattle.chances.proofs.left_out.Tie as tie
 
 abbrev Inv-loop : tie.InvT-loop
 Inv-loop labels i₀ i = any (λ l. not (eqb l none) && eqb (howMany l labels) 1) (drop i labels) ≡ leftOut labels

@@ -1,9 +1,9 @@
--- `permanova::few_inform` meets its contract. By whether the fraction is below 0.5.
+-- `chances::few_inform` meets its contract. By whether the fraction is below 0.5.
 -- Assumes nothing.
 
 use Prim.Native.Nat.{_-_}
-use Rattle.permanova.proofs.few_inform.Statement.{statement}
-use Rattle.permanova.proofs.few_inform.Tie as tie
+use Rattle.chances.proofs.few_inform.Statement.{statement}
+use Rattle.chances.proofs.few_inform.Tie as tie
 
 returns : tie.Need-returns
 returns c = rw (c .if1 .taken)

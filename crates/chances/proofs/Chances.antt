@@ -13,9 +13,9 @@ use Rattle.lists.proofs.Ranges.{length-range}
 use Rattle.lists.proofs.Filters.{countIf-below}
 use Rattle.statistics.specs.declared.Statistic.{Statistic}
 use Rattle.statistics.specs.declared.Statistic.the-variants.{Finite, Unbounded}
-use Rattle.permanova.specs.declared.Chance.{Chance}
-use Rattle.permanova.specs.declared.Chance.the-variants.{P, NoP}
-use Rattle.permanova.specs.Sampled.{chance}
+use Rattle.chances.specs.declared.Chance.{Chance}
+use Rattle.chances.specs.declared.Chance.the-variants.{P, NoP}
+use Rattle.chances.specs.Chances.{chance}
 
 module _ (none : Bool) (hits n : ℕ) {s : Statistic} where
   pub chance-unbounded : s ≡ Unbounded → NoP ≡ chance none s hits n

@@ -1,4 +1,4 @@
--- `permanova::largest` meets its contract. From the last down.
+-- `chances::largest` meets its contract. From the last down.
 -- Assumes nothing.
 
 use mathlib.Core.Path.{_≡_}
@@ -7,10 +7,10 @@ use native.Mathlib.Omega.{arith}
 use lib.ListN.{length, drop}
 use Rattle.lot.specs.Kept.{sizes}
 use mathlib.Core.List.{foldr}
-use Rattle.permanova.specs.Together.{largest}
-use Rattle.permanova.proofs.Alarms.{fold-none, fold-more, fold-all}
-use Rattle.permanova.proofs.largest.Statement.{statement}
-use Rattle.permanova.proofs.largest.Tie as tie
+use Rattle.chances.specs.Together.{largest}
+use Rattle.chances.proofs.Alarms.{fold-none, fold-more, fold-all}
+use Rattle.chances.proofs.largest.Statement.{statement}
+use Rattle.chances.proofs.largest.Tie as tie
 
 abbrev Inv-loop : tie.InvT-loop
 Inv-loop sizes most₀ k₀ most k = (k ≤ length sizes) × (most ≡ foldr max 0 (drop k sizes))

@@ -1,11 +1,11 @@
--- `permanova::alarm` meets its contract. By the tests in order.
+-- `chances::alarm` meets its contract. By the tests in order.
 -- Assumes nothing.
 
 use Prim.Native.Nat.{_-_}
 use borrow.Author.Needs.{needs}
-use Rattle.permanova.proofs.Alarms.{alarm-both, alarm-sizes, alarm-spread, alarm-equal, alarm-none}
-use Rattle.permanova.proofs.alarm.Statement.{statement}
-use Rattle.permanova.proofs.alarm.Tie as tie
+use Rattle.chances.proofs.Alarms.{alarm-both, alarm-sizes, alarm-spread, alarm-equal, alarm-none}
+use Rattle.chances.proofs.alarm.Statement.{statement}
+use Rattle.chances.proofs.alarm.Tie as tie
 
 returns : tie.Need-returns
 returns c = alarm-both (c .before .before .args .p) (c .before .before .args .q) (c .before .before .args .most) (c .before .before .args .least) (c .before .if1 .taken) (c .if2 .taken)

@@ -1,4 +1,4 @@
--- `permanova::chance_of` meets its contract. By cases of the statistic.
+-- `chances::chance_of` meets its contract. By cases of the statistic.
 -- Assumes nothing.
 
 use Prim.Native.Nat.{_+_, _-_, _^_}
@@ -6,9 +6,9 @@ use native.Mathlib.Omega.{arith}
 use borrow.Author.Needs.{needs}
 use lib.Dec.{le→leb}
 use lib.Ieee.{inFloat}
-use Rattle.permanova.proofs.Chances.{chance-unbounded, chance-none, chance-given}
-use Rattle.permanova.proofs.chance_of.Statement.{statement}
-use Rattle.permanova.proofs.chance_of.Tie as tie
+use Rattle.chances.proofs.Chances.{chance-unbounded, chance-none, chance-given}
+use Rattle.chances.proofs.chance_of.Statement.{statement}
+use Rattle.chances.proofs.chance_of.Tie as tie
 
 enum-known-seen : tie.Need-enum-known-seen
 enum-known-seen c = search needs

@@ -1,11 +1,11 @@
--- `permanova::single` meets its contract. By whether l is none.
+-- `chances::single` meets its contract. By whether l is none.
 -- Assumes nothing.
 
 use Prim.Native.Nat.{_-_}
 use borrow.Author.Needs.{needs}
 use borrow.Author.Tests.{eq-eqb, ne-eqb}
-use Rattle.permanova.proofs.single.Statement.{statement}
-use Rattle.permanova.proofs.single.Tie as tie
+use Rattle.chances.proofs.single.Statement.{statement}
+use Rattle.chances.proofs.single.Tie as tie
 
 returns : tie.Need-returns
 returns c = rw (eq-eqb _ _ (c .if1 .taken))

@@ -12,9 +12,9 @@ use Rattle.lists.proofs.Filters.{drop-more}
 use Rattle.lists.specs.Numbers.{addUp}
 use Rattle.statistics.specs.Warnings.{bit}
 use Rattle.statistics.proofs.Cases.{bit-le}
-use Rattle.permanova.specs.declared.Chance.{Chance}
-use Rattle.permanova.specs.declared.Chance.the-variants.{P, NoP}
-use Rattle.permanova.specs.Together.{largest, smallest, alarmed, together}
+use Rattle.chances.specs.declared.Chance.{Chance}
+use Rattle.chances.specs.declared.Chance.the-variants.{P, NoP}
+use Rattle.chances.specs.Together.{largest, smallest, alarmed, together}
 
 -- a fold from the last number down: none, one more, all
 module _ (f : ℕ → ℕ → ℕ) (z : ℕ) (l : List ℕ) where
