@@ -3,7 +3,6 @@ use Prim.Native.Nat.{_+_, _*_, _-_, _≤_}
 use native.Mathlib.Omega.{arith}
 use lib.ListN.{length}
 use Rattle.lists.specs.Ranges.{table, grid}
-use Rattle.lists.specs.Rows.{row}
 use Rattle.lists.proofs.Ranges.{length-table}
 use Rattle.lists.proofs.Rows.{row-end, length-part}
 use Rattle.lists.proofs.Writes.{Filling, filling-none, filling-next, filling-all}

@@ -3,7 +3,6 @@ use mathlib.Core.Path.{sym, _∙_}
 use native.Mathlib.Nat.{min-le-right}
 use native.Mathlib.Omega.{arith}
 use borrow.Author.Needs.{needs}
-use Rattle.topeigs.specs.Call.{misfits, beyond}
 use Rattle.topeigs.proofs.Call.{line-length, line-limit, line-value, line-none}
 use Rattle.topeigs.proofs.check.Statement.{statement}
 use Rattle.topeigs.proofs.check.Tie as tie
