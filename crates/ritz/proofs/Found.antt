@@ -1,8 +1,9 @@
 -- Which pairs are found, by what Jacobi answers. Assumes nothing.
-use mathlib.Core.Path.{_≡_, refl, sym, ap, ap₂, _∙_}
+use mathlib.Core.Path.{_≡_, sym, ap, _∙_}
 use mathlib.Core.Bool.{Bool, true, false}
 use mathlib.Core.List.{List, _++_}
 use Prim.Native.Nat.{ℕ, _+_, _*_, _≤_}
+use native.Mathlib.Nat.{mul-le-mul}
 use native.Mathlib.Omega.{arith}
 use lib.ListN.{length, take, drop, replicate, length-append, length-replicate}
 use lib.Seq.{take-at, drop-at}
@@ -24,7 +25,11 @@ use Rattle.jacobi.specs.declared.Answer.the-variants as jacobi-answers
 use Rattle.jacobi.specs.Eigen.{Eigen, identity, diagonal, eigenpairs, jacobi}
 use Rattle.jacobi.specs.Call.{eigenOf}
 use Rattle.ritz.specs.Ritz.{combinedAt, combined, Pairs}
-use Rattle.ritz.specs.Given.{written, Given, given, gives}
+use Rattle.ritz.specs.Given.{written, given, gives}
+
+-- a block has at most 24 columns
+pub small-square : {b : ℕ} → b ≤ 24 → b * b ≤ 576
+small-square h = mul-le-mul h h
 
 pub length-combined : (n b k : ℕ) (v q : List Float) → length (combined n b k v q) ≡ k * n
 unfolding combined

@@ -93,24 +93,27 @@ module _ (components n : ℕ) (a out w m v : List Float) where
 
 -- ---- the lines of the table, one by one
 
-module _ (components n : ℕ) (a : List Float) (out w m v : ℕ) where
-  pub line-length : misfits (min components n) n (length a) out w m v ≡ true → Refused Length ≡ first (topLines components n a out w m v)
-  unfolding topLines
-  line-length h = sym (first-holds Length _ h)
+module _ (components n : ℕ) (a : List Float) (out w m v : ℕ) {k : ℕ} (is : k ≡ min components n) where
+  told-misfits : {b : Bool} → misfits k n (length a) out w m v ≡ b → misfits (min components n) n (length a) out w m v ≡ b
+  told-misfits h = ap (λ (j : ℕ). misfits j n (length a) out w m v) (sym is) ∙ h
 
-  module _ (h : misfits (min components n) n (length a) out w m v ≡ false) where
+  pub line-length : misfits k n (length a) out w m v ≡ true → Refused Length ≡ first (topLines components n a out w m v)
+  unfolding topLines
+  line-length h = sym (first-holds Length _ (told-misfits h))
+
+  module _ (h : misfits k n (length a) out w m v ≡ false) where
     pub line-limit : beyond n components ≡ true → Refused Limit ≡ first (topLines components n a out w m v)
     unfolding topLines
-    line-limit g = sym (first-passes Length _ h ∙ first-holds Limit _ g)
+    line-limit g = sym (first-passes Length _ (told-misfits h) ∙ first-holds Limit _ g)
 
     module _ (g : beyond n components ≡ false) where
       pub line-value : any notFinite a ≡ true → Refused Value ≡ first (topLines components n a out w m v)
       unfolding topLines
-      line-value f = sym (first-passes Length _ h ∙ first-passes Limit _ g ∙ first-holds Value _ f)
+      line-value f = sym (first-passes Length _ (told-misfits h) ∙ first-passes Limit _ g ∙ first-holds Value _ f)
 
       pub line-none : any notFinite a ≡ false → Passed ≡ first (topLines components n a out w m v)
       unfolding topLines first
-      line-none f = rw (h, g, f)
+      line-none f = rw (told-misfits h, g, f)
 
 -- ---- what the arguments are where no line holds
 

@@ -13,7 +13,6 @@ use lib.Ieee.{Float}
 use Rattle.float.specs.Floats.{_⊗_, zero⁺, 1·05}
 use Rattle.lists.specs.Rows.{row}
 use Rattle.lists.specs.Writes.{cleared}
-use Rattle.outcome.specs.declared.Refusal.{Refusal}
 use Rattle.outcome.specs.Outcome.{Outcome, answered, refused, andThen}
 use Rattle.outcome.specs.Slices.{work}
 use Rattle.jacobi.specs.Eigen.{Eigen, jacobi}
@@ -44,6 +43,10 @@ take-zeros k n h =
     ap (λ (t : ℕ). take k (replicate t zero⁺)) (sym split)
     ∙ ap (take k) (sym (replicate-append-replicate k (n - k) zero⁺))
     ∙ take-at (replicate k zero⁺) (replicate (n - k) zero⁺) k (length-replicate k zero⁺)
+
+-- a block of at most 24 columns has no more entries than the matrix
+pub block-fits : (k n : ℕ) → 64 < n → k ≤ 16 → (k + 8) * n ≤ n * n
+block-fits k n many few = mul-le-mul-right n (omega arith)
 
 module _ (n : ℕ) (a : List Float) (b : ℕ) where
   -- the power steps begin with the block's first column

@@ -19,7 +19,7 @@ pub use Rattle.ritz.specs.Ritz.{Pairs}
 unfoldable pub leading : ℕ → ℕ → List Float → Outcome Pairs
 leading k n a = andThen (jacobi n a) (λ e. answered (record { values = take k (e .values); vectors = take (k * n) (e .vectors) }))
 
--- the shift that leaves no value below 0: 1.05 times a bound of the spectral radius, by power steps on the block's first column
+-- the shift that is to leave no value below 0: 1.05 times what power steps on the block's first column find of the spectral radius
 unfoldable pub shiftOf : ℕ → List Float → List Float → Float
 shiftOf n a q = powerBound 30 n a zero⁺ (row n 0 q) ⊗ 1·05
 

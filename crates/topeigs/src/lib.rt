@@ -266,10 +266,19 @@ fn has_not_finite(a: &[f64]) -> bool
 }
 
 // Lines 1 to 3 of the table, for slices of these lengths.
-fn check(a: &[f64], n: usize, components: usize, out: usize, w: usize, m: usize, v: usize) -> Check
+fn check(
+    a: &[f64],
+    n: usize,
+    components: usize,
+    k: usize,
+    out: usize,
+    w: usize,
+    m: usize,
+    v: usize,
+) -> Check
+    requires { ⌜ k ≡ min components n ⌝ }
     ensures { λ r. ⌜ r ≡ first (topLines components n (now (a .entry)) out w m v) ⌝ }
 {
-    let k = lesser(components, n);
     if misfits(k, n, a.len(), out, w, m, v) {
         return Check::Refused(Refusal::Length);
     }
@@ -296,9 +305,10 @@ pub fn top_eigs(
     ensures { λ r. ⌜ called r (now (out .exit)) (now (w .exit)) (now (m .exit)) (now (v .exit))
         ≡ topCall components n (now (a .entry)) (now (out .entry)) (now (w .entry)) (now (m .entry)) (now (v .entry)) ⌝ }
 {
-    let c = check(a, n, components, out.len(), w.len(), m.len(), v.len());
+    let k = lesser(components, n);
+    let c = check(a, n, components, k, out.len(), w.len(), m.len(), v.len());
     match c {
         Check::Refused(e) => Check::Refused(e),
-        Check::Passed => solve(out, w, m, v, a, n, lesser(components, n)),
+        Check::Passed => solve(out, w, m, v, a, n, k),
     }
 }

@@ -1,6 +1,7 @@
 -- `ritz::combine` meets its contract. After j turns the first j rows are written. Assumes nothing.
-use Prim.Native.Nat.{_-_}
+use Prim.Native.Nat.{_+_, _*_, _-_, _≤_}
 use native.Mathlib.Omega.{arith}
+use lib.ListN.{length}
 use Rattle.lists.specs.Ranges.{table, grid}
 use Rattle.lists.proofs.Ranges.{length-table}
 use Rattle.lists.proofs.Rows.{row-end, length-part}
@@ -15,6 +16,10 @@ Inv-loop out₀ v q n b k j₀ out j = Filling k n (λ j. table n (combinedAt n 
 abbrev μ-loop : tie.MeasureT-loop
 μ-loop out₀ v q n b k j₀ out j = k - j
 
+-- row j lies within the slice
+within : (c : tie.In-loop Inv-loop μ-loop) → c .before .loop .j * c .before .before .before .before .before .args .n + c .before .before .before .before .before .args .n ≤ length (c .before .loop .out)
+within c = omega (arith, row-end (c .before .before .before .before .before .args .n) (c .before .loop .j) (c .before .before .before .before .before .args .k) (c .loop-test .taken), c .before .loop .inv .long)
+
 loop-holds : tie.Need-loop-holds Inv-loop μ-loop
 loop-holds c =
     let at-start = c .before .before .before in
@@ -22,53 +27,25 @@ loop-holds c =
     filling-none (a .k) (a .n) (λ j. table (a .n) (combinedAt (a .n) (a .b) (a .v .now) (a .q .now) j)) (λ j. length-table (combinedAt (a .n) (a .b) (a .v .now) (a .q .now) j) (a .n)) (a .out .now) (at-start .pre .0)
 
 mul-combine-row : tie.Need-mul-combine-row Inv-loop μ-loop
-mul-combine-row c =
-    let at-loop = c .before in
-    let at-start = at-loop .before .before .before .before in
-    let a = at-start .args in
-    omega (arith, row-end (a .n) (at-loop .loop .j) (a .k) (c .loop-test .taken), at-loop .loop .inv .long)
+mul-combine-row c = omega (arith, within c)
 
 mul-combine-row-2 : tie.Need-mul-combine-row-2 Inv-loop μ-loop
-mul-combine-row-2 c =
-    let at-loop = c .before in
-    let at-start = at-loop .before .before .before .before in
-    let a = at-start .args in
-    omega (arith, row-end (a .n) (at-loop .loop .j) (a .k) (c .loop-test .taken), at-loop .loop .inv .long)
+mul-combine-row-2 c = omega (arith, within c)
 
 add-combine-row : tie.Need-add-combine-row Inv-loop μ-loop
-add-combine-row c =
-    let at-loop = c .before in
-    let at-start = at-loop .before .before .before .before in
-    let a = at-start .args in
-    omega (arith, row-end (a .n) (at-loop .loop .j) (a .k) (c .loop-test .taken), at-loop .loop .inv .long)
+add-combine-row c = omega (arith, within c)
 
 mul-combine-row-3 : tie.Need-mul-combine-row-3 Inv-loop μ-loop
-mul-combine-row-3 c =
-    let at-loop = c .before in
-    let at-start = at-loop .before .before .before .before in
-    let a = at-start .args in
-    omega (arith, row-end (a .n) (at-loop .loop .j) (a .k) (c .loop-test .taken), at-loop .loop .inv .long)
+mul-combine-row-3 c = omega (arith, within c)
 
 sub-combine-row : tie.Need-sub-combine-row Inv-loop μ-loop
-sub-combine-row c =
-    let at-loop = c .before in
-    let at-start = at-loop .before .before .before .before in
-    let a = at-start .args in
-    omega (arith, row-end (a .n) (at-loop .loop .j) (a .k) (c .loop-test .taken), at-loop .loop .inv .long)
+sub-combine-row c = omega (arith, within c)
 
 part-combine-row-start : tie.Need-part-combine-row-start Inv-loop μ-loop
-part-combine-row-start c =
-    let at-loop = c .before in
-    let at-start = at-loop .before .before .before .before in
-    let a = at-start .args in
-    omega (arith, row-end (a .n) (at-loop .loop .j) (a .k) (c .loop-test .taken), at-loop .loop .inv .long)
+part-combine-row-start c = omega (arith, within c)
 
 part-combine-row-end : tie.Need-part-combine-row-end Inv-loop μ-loop
-part-combine-row-end c =
-    let at-loop = c .before in
-    let at-start = at-loop .before .before .before .before in
-    let a = at-start .args in
-    omega (arith, row-end (a .n) (at-loop .loop .j) (a .k) (c .loop-test .taken), at-loop .loop .inv .long)
+part-combine-row-end c = omega (arith, within c)
 
 combine-row-requires : tie.Need-combine-row-requires Inv-loop μ-loop
 combine-row-requires c κs =
@@ -76,7 +53,7 @@ combine-row-requires c κs =
     let at-loop = at-loop-test .before in
     let at-start = at-loop .before .before .before .before in
     let a = at-start .args in
-    let long = length-part (a .n) (at-loop .loop .j) (at-loop .loop .out) (omega (arith, row-end (a .n) (at-loop .loop .j) (a .k) (at-loop-test .loop-test .taken), at-loop .loop .inv .long)) in
+    let long = length-part (a .n) (at-loop .loop .j) (at-loop .loop .out) (within at-loop-test) in
     (long, at-start .pre .1, at-start .pre .2, omega arith)
 
 add-j : tie.Need-add-j Inv-loop μ-loop

@@ -1,8 +1,9 @@
 -- `ritz::combine_at` meets its contract. With the products from column c on, s is the whole sum. Assumes nothing.
 use mathlib.Core.Path.{_≡_, refl, sym}
 use mathlib.Core.List.{map}
-use Prim.Native.Nat.{_-_, _≤_}
+use Prim.Native.Nat.{_+_, _*_, _-_, _≤_, _<_}
 use native.Mathlib.Omega.{arith}
+use lib.ListN.{length}
 use Rattle.float.specs.Floats.{zero⁻, _⊗_}
 use Rattle.lists.specs.Ranges.{range}
 use Rattle.lists.specs.Sums.{sumFrom}
@@ -19,6 +20,17 @@ Inv-loop v q n b j i s₀ c₀ s c = (c ≤ b) × (sumFrom s (map (λ c. entry b
 abbrev μ-loop : tie.MeasureT-loop
 μ-loop v q n b j i s₀ c₀ s c = b - c
 
+-- the entries that are read lie within both matrices
+inside : (c : tie.In-loop Inv-loop μ-loop) → (c .before .before .args .j * c .before .before .args .b + c .before .loop .c < length (c .before .before .args .v .now))
+    × (c .before .loop .c * c .before .before .args .n + c .before .before .args .i < length (c .before .before .args .q .now))
+inside c =
+    let at-start = c .before .before in
+    let a = at-start .args in
+    let taken = c .loop-test .taken in
+    let one = cell-below (a .b) (a .b) (a .j) (c .before .loop .c) (at-start .pre .2) taken in
+    let two = cell-below (a .n) (a .b) (c .before .loop .c) (a .i) taken (at-start .pre .3) in
+    (omega arith, omega arith)
+
 loop-holds : tie.Need-loop-holds Inv-loop μ-loop
 unfolding combinedAt
 loop-holds c =
@@ -26,65 +38,38 @@ loop-holds c =
     (omega arith, sym (sum-table zero⁻ (a .b) (λ c. entry (a .b) (a .v .now) (a .j) c ⊗ entry (a .n) (a .q .now) c (a .i))))
 
 mul-s : tie.Need-mul-s Inv-loop μ-loop
-mul-s c =
-    let at-loop = c .before in
-    let at-start = at-loop .before in
-    let a = at-start .args in
-    omega (arith, cell-below (a .b) (a .b) (a .j) (at-loop .loop .c) (at-start .pre .2) (c .loop-test .taken), cell-below (a .n) (a .b) (at-loop .loop .c) (a .i) (c .loop-test .taken) (at-start .pre .3))
+mul-s c = omega (arith, inside c)
 
 add-s : tie.Need-add-s Inv-loop μ-loop
-add-s c =
-    let at-loop = c .before in
-    let at-start = at-loop .before in
-    let a = at-start .args in
-    omega (arith, cell-below (a .b) (a .b) (a .j) (at-loop .loop .c) (at-start .pre .2) (c .loop-test .taken), cell-below (a .n) (a .b) (at-loop .loop .c) (a .i) (c .loop-test .taken) (at-start .pre .3))
+add-s c = omega (arith, inside c)
 
 mul-s-2 : tie.Need-mul-s-2 Inv-loop μ-loop
-mul-s-2 c =
-    let at-loop = c .before in
-    let at-start = at-loop .before in
-    let a = at-start .args in
-    omega (arith, cell-below (a .b) (a .b) (a .j) (at-loop .loop .c) (at-start .pre .2) (c .loop-test .taken), cell-below (a .n) (a .b) (at-loop .loop .c) (a .i) (c .loop-test .taken) (at-start .pre .3))
+mul-s-2 c = omega (arith, inside c)
 
 shared-slice-read-s : tie.Need-shared-slice-read-s Inv-loop μ-loop
 shared-slice-read-s c =
     let at-loop-test = c .before in
-    let at-loop = at-loop-test .before in
-    let at-start = at-loop .before in
-    let a = at-start .args in
-    omega (arith, cell-below (a .b) (a .b) (a .j) (at-loop .loop .c) (at-start .pre .2) (at-loop-test .loop-test .taken), cell-below (a .n) (a .b) (at-loop .loop .c) (a .i) (at-loop-test .loop-test .taken) (at-start .pre .3))
+    omega (arith, inside at-loop-test)
 
 mul-s-3 : tie.Need-mul-s-3 Inv-loop μ-loop
 mul-s-3 c =
     let at-loop-test = c .before in
-    let at-loop = at-loop-test .before in
-    let at-start = at-loop .before in
-    let a = at-start .args in
-    omega (arith, cell-below (a .b) (a .b) (a .j) (at-loop .loop .c) (at-start .pre .2) (at-loop-test .loop-test .taken), cell-below (a .n) (a .b) (at-loop .loop .c) (a .i) (at-loop-test .loop-test .taken) (at-start .pre .3))
+    omega (arith, inside at-loop-test)
 
 add-s-2 : tie.Need-add-s-2 Inv-loop μ-loop
 add-s-2 c =
     let at-loop-test = c .before in
-    let at-loop = at-loop-test .before in
-    let at-start = at-loop .before in
-    let a = at-start .args in
-    omega (arith, cell-below (a .b) (a .b) (a .j) (at-loop .loop .c) (at-start .pre .2) (at-loop-test .loop-test .taken), cell-below (a .n) (a .b) (at-loop .loop .c) (a .i) (at-loop-test .loop-test .taken) (at-start .pre .3))
+    omega (arith, inside at-loop-test)
 
 mul-s-4 : tie.Need-mul-s-4 Inv-loop μ-loop
 mul-s-4 c =
     let at-loop-test = c .before in
-    let at-loop = at-loop-test .before in
-    let at-start = at-loop .before in
-    let a = at-start .args in
-    omega (arith, cell-below (a .b) (a .b) (a .j) (at-loop .loop .c) (at-start .pre .2) (at-loop-test .loop-test .taken), cell-below (a .n) (a .b) (at-loop .loop .c) (a .i) (at-loop-test .loop-test .taken) (at-start .pre .3))
+    omega (arith, inside at-loop-test)
 
 shared-slice-read-s-2 : tie.Need-shared-slice-read-s-2 Inv-loop μ-loop
 shared-slice-read-s-2 c =
     let at-loop-test = c .before .before in
-    let at-loop = at-loop-test .before in
-    let at-start = at-loop .before in
-    let a = at-start .args in
-    omega (arith, cell-below (a .b) (a .b) (a .j) (at-loop .loop .c) (at-start .pre .2) (at-loop-test .loop-test .taken), cell-below (a .n) (a .b) (at-loop .loop .c) (a .i) (at-loop-test .loop-test .taken) (at-start .pre .3))
+    omega (arith, inside at-loop-test)
 
 add-c : tie.Need-add-c Inv-loop μ-loop
 add-c c = omega arith

@@ -1,7 +1,6 @@
 -- `ritz::combine_row` meets its contract. After i turns the first i entries are written. Assumes nothing.
 use Prim.Native.Nat.{_-_}
 use native.Mathlib.Omega.{arith}
-use Rattle.lists.specs.Rows.{row}
 use Rattle.lists.proofs.Writes.{Writing, writing-none, writing-next, writing-table}
 use Rattle.ritz.specs.Ritz.{combinedAt}
 use Rattle.ritz.proofs.combine_row.Statement.{statement}

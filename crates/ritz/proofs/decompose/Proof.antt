@@ -1,6 +1,5 @@
 -- `ritz::decompose` meets its contract. The small matrix is filled, made even and taken apart. Assumes nothing.
 use mathlib.Core.Path.{ap, _∙_}
-use Prim.Native.Nat.{_-_}
 use borrow.Author.Needs.{needs}
 use Rattle.jacobi.specs.Eigen.{jacobi}
 use Rattle.jacobi.proofs.Call.{solved-found}

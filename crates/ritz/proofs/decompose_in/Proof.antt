@@ -1,53 +1,45 @@
 -- `ritz::decompose_in` meets its contract. Room of its own. Assumes nothing.
 use mathlib.Core.Path.{sym}
-use Prim.Native.Nat.{_-_}
-use native.Mathlib.Nat.{mul-le-mul}
 use native.Mathlib.Omega.{arith}
 use lib.Seq.{length-take-le}
+use Rattle.ritz.proofs.Found.{small-square}
 use Rattle.ritz.proofs.decompose_in.Statement.{statement}
 use Rattle.ritz.proofs.decompose_in.Tie as tie
 
 mul-s : tie.Need-mul-s
 mul-s c =
     let at-start = c .before .before .before in
-    let a = at-start .args in
-    omega (arith, mul-le-mul {n₁ = a .b} {m₁ = a .b} {n₂ = 24} {m₂ = 24} (at-start .pre .3) (at-start .pre .3))
+    omega (arith, small-square (at-start .pre .3))
 
 array-borrow-prefix-t : tie.Need-array-borrow-prefix-t
 array-borrow-prefix-t c =
     let at-start = c .before .before .before .before in
-    let a = at-start .args in
-    omega (arith, mul-le-mul {n₁ = a .b} {m₁ = a .b} {n₂ = 24} {m₂ = 24} (at-start .pre .3) (at-start .pre .3))
+    omega (arith, small-square (at-start .pre .3))
 
 slice-aggregate-decompose : tie.Need-slice-aggregate-decompose
 slice-aggregate-decompose c =
     let at-start = c .before .before .before .before .before in
-    let a = at-start .args in
-    sym (length-take-le _ _ (omega (arith, mul-le-mul {n₁ = a .b} {m₁ = a .b} {n₂ = 24} {m₂ = 24} (at-start .pre .3) (at-start .pre .3))))
+    sym (length-take-le _ _ (omega (arith, small-square (at-start .pre .3))))
 
 array-borrow-prefix-m : tie.Need-array-borrow-prefix-m
 array-borrow-prefix-m c =
     let at-start = c .before .before .before .before .before in
-    let a = at-start .args in
-    omega (arith, mul-le-mul {n₁ = a .b} {m₁ = a .b} {n₂ = 24} {m₂ = 24} (at-start .pre .3) (at-start .pre .3))
+    omega (arith, small-square (at-start .pre .3))
 
 slice-aggregate-decompose-2 : tie.Need-slice-aggregate-decompose-2
 slice-aggregate-decompose-2 c =
     let at-start = c .before .before .before .before .before .before in
-    let a = at-start .args in
-    sym (length-take-le _ _ (omega (arith, mul-le-mul {n₁ = a .b} {m₁ = a .b} {n₂ = 24} {m₂ = 24} (at-start .pre .3) (at-start .pre .3))))
+    sym (length-take-le _ _ (omega (arith, small-square (at-start .pre .3))))
 
 array-borrow-prefix-v : tie.Need-array-borrow-prefix-v
 array-borrow-prefix-v c =
     let at-start = c .before .before .before .before .before .before in
-    let a = at-start .args in
-    omega (arith, mul-le-mul {n₁ = a .b} {m₁ = a .b} {n₂ = 24} {m₂ = 24} (at-start .pre .3) (at-start .pre .3))
+    omega (arith, small-square (at-start .pre .3))
 
 slice-aggregate-decompose-3 : tie.Need-slice-aggregate-decompose-3
 slice-aggregate-decompose-3 c =
     let at-start = c .before .before .before .before .before .before .before in
-    let a = at-start .args in
-    sym (length-take-le _ _ (omega (arith, mul-le-mul {n₁ = a .b} {m₁ = a .b} {n₂ = 24} {m₂ = 24} (at-start .pre .3) (at-start .pre .3))))
+    sym (length-take-le _ _ (omega (arith, small-square (at-start .pre .3))))
 
 array-borrow-prefix-row : tie.Need-array-borrow-prefix-row
 array-borrow-prefix-row c =
@@ -72,8 +64,7 @@ slice-aggregate-decompose-5 c =
 decompose-requires : tie.Need-decompose-requires
 decompose-requires c κs =
     let at-start = c .before .before .before .before .before .before .before .before .before in
-    let a = at-start .args in
-    let small = mul-le-mul {n₁ = a .b} {m₁ = a .b} {n₂ = 24} {m₂ = 24} (at-start .pre .3) (at-start .pre .3) in (
+    let small = small-square (at-start .pre .3) in (
       (at-start .pre .0, length-take-le _ _ (omega (arith, small)), length-take-le _ _ (omega (arith, small)), length-take-le _ _ (omega (arith, small)), length-take-le _ _ (omega (arith, at-start .pre .3)), length-take-le _ _ (omega (arith, at-start .pre .3))),
       (at-start .pre .1, at-start .pre .2, at-start .pre .3),
     )

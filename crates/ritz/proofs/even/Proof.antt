@@ -1,6 +1,5 @@
 -- `ritz::even` meets its contract. Two stores. Assumes nothing.
 use mathlib.Core.Path.{refl}
-use Prim.Native.Nat.{_-_}
 use borrow.Author.Needs.{needs}
 use lib.ListN.{length-set}
 use Rattle.lists.specs.Rows.{entry}

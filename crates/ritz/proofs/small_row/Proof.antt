@@ -1,7 +1,6 @@
 -- `ritz::small_row` meets its contract. After j turns the first j entries are written. Assumes nothing.
 use Prim.Native.Nat.{_-_}
 use native.Mathlib.Omega.{arith}
-use Rattle.lists.specs.Rows.{row}
 use Rattle.lists.proofs.Rows.{row-end}
 use Rattle.lists.proofs.Writes.{Writing, writing-none, writing-next, writing-table}
 use Rattle.ritz.specs.Ritz.{smallAt}

@@ -7,6 +7,9 @@ use Rattle.topeigs.proofs.Call.{call-refused, call-passed, passed-fits}
 use Rattle.topeigs.proofs.top_eigs.Statement.{statement}
 use Rattle.topeigs.proofs.top_eigs.Tie as tie
 
+lesser-requires : tie.Need-lesser-requires
+lesser-requires c κs = search needs
+
 check-requires : tie.Need-check-requires
 check-requires c κs = search needs
 
@@ -16,18 +19,16 @@ enum-known-c c = search needs
 enum-told : tie.Need-enum-told
 enum-told c = search needs
 
-lesser-requires : tie.Need-lesser-requires
-lesser-requires c κs = search needs
-
 solve-requires : tie.Need-solve-requires
 solve-requires c κs =
-    let at-enum-told = c .before .before .before .before .before in
+    let at-enum-told = c .before .before .before .before in
     let at-check = at-enum-told .before .before in
-    let at-start = at-check .before .before .before .before .before .before in
+    let at-lesser = at-check .before in
+    let at-start = at-lesser .before .before .before .before .before .before in
     let a = at-start .args in
     let passed = sym (at-enum-told .enum-told .given .1) ∙ at-check .check .ensures in
     let fits = passed-fits (a .components) (a .n) (a .a .now) (length (a .out .now)) (length (a .w .now)) (length (a .m .now)) (length (a .v .now)) passed in
-    let k-is = c .lesser .ensures in (
+    let k-is = at-lesser .lesser .ensures in (
       (rw k-is (fits .out-fits), fits .w-fits, fits .m-fits, fits .v-fits),
       (fits .a-fits, fits .n-fits, rw k-is (min-le-right (a .components) (a .n)), rw k-is (fits .k-fits)),
     )
@@ -36,7 +37,7 @@ returns : tie.Need-returns
 returns c =
     let at-c = c .before in
     let at-check = at-c .before .before in
-    let at-start = at-check .before .before .before .before .before .before in
+    let at-start = at-check .before .before .before .before .before .before .before in
     let a = at-start .args in
     call-refused (a .components) (a .n) (a .a .now) (a .out .now) (a .w .now) (a .m .now) (a .v .now) (sym (at-c .c .given .1) ∙ at-check .check .ensures)
 
@@ -55,10 +56,10 @@ same-length-4 c = search needs
 returns-2 : tie.Need-returns-2
 returns-2 c =
     let at-solve = c .before .before .before .before .before .before .before .before in
-    let at-lesser = at-solve .before in
-    let at-enum-told = at-lesser .before .before .before .before .before in
+    let at-enum-told = at-solve .before .before .before .before .before in
     let at-check = at-enum-told .before .before in
-    let at-start = at-check .before .before .before .before .before .before in
+    let at-lesser = at-check .before in
+    let at-start = at-lesser .before .before .before .before .before .before in
     let a = at-start .args in
     call-passed (a .components) (a .n) (a .a .now) (a .out .now) (a .w .now) (a .m .now) (a .v .now) (sym (at-enum-told .enum-told .given .1) ∙ at-check .check .ensures) (at-lesser .lesser .ensures) (at-solve .solve .ensures)
 
@@ -66,10 +67,10 @@ pub top-eigs-spec : {M : Type 1} → statement M
 top-eigs-spec =
     tie.close
     (tie.spec
+    lesser-requires
     check-requires
     enum-known-c
     enum-told
-    lesser-requires
     solve-requires
     returns
     same-length

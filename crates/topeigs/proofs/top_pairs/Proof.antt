@@ -1,14 +1,13 @@
 -- `topeigs::top_pairs` meets its contract. Jacobi up to n = 64, a block above. Assumes nothing.
 use mathlib.Core.Path.{sym, ap, _∙_}
 use Prim.Native.Nat.{_+_, _*_}
-use native.Mathlib.Nat.{mul-le-mul-right}
 use native.Mathlib.Omega.{arith}
 use borrow.Author.Needs.{needs}
 use lib.Seq.{length-take-le}
 use Rattle.outcome.specs.Outcome.{Outcome}
 use Rattle.ritz.specs.Ritz.{Pairs}
 use Rattle.ritz.specs.Given.{gives}
-use Rattle.topeigs.proofs.Whole.{top-few, top-many}
+use Rattle.topeigs.proofs.Whole.{top-few, top-many, block-fits}
 use Rattle.topeigs.proofs.top_pairs.Statement.{statement}
 use Rattle.topeigs.proofs.top_pairs.Tie as tie
 
@@ -43,49 +42,49 @@ mul-by-block c =
     let at-if1 = c .before in
     let at-start = at-if1 .before .before .before .before .before .before in
     let a = at-start .args in
-    omega (arith, mul-le-mul-right {m = a .k + 8} {n = a .n} (a .n) (omega (arith, at-if1 .if1 .left, at-start .pre .1 .2)))
+    omega (arith, block-fits (a .k) (a .n) (at-if1 .if1 .left) (at-start .pre .1 .2))
 
 slice-relend-prefix-by-block : tie.Need-slice-relend-prefix-by-block
 slice-relend-prefix-by-block c =
     let at-if1 = c .before in
     let at-start = at-if1 .before .before .before .before .before .before in
     let a = at-start .args in
-    omega (arith, mul-le-mul-right {m = a .k + 8} {n = a .n} (a .n) (omega (arith, at-if1 .if1 .left, at-start .pre .1 .2)), at-start .pre .0 .2)
+    omega (arith, block-fits (a .k) (a .n) (at-if1 .if1 .left) (at-start .pre .1 .2), at-start .pre .0 .2)
 
 slice-aggregate-by-block : tie.Need-slice-aggregate-by-block
 slice-aggregate-by-block c =
     let at-if1 = c .before .before in
     let at-start = at-if1 .before .before .before .before .before .before in
     let a = at-start .args in
-    sym (length-take-le ((a .k + 8) * a .n) (a .w .now) (omega (arith, mul-le-mul-right {m = a .k + 8} {n = a .n} (a .n) (omega (arith, at-if1 .if1 .left, at-start .pre .1 .2)), at-start .pre .0 .2)))
+    sym (length-take-le ((a .k + 8) * a .n) (a .w .now) (omega (arith, block-fits (a .k) (a .n) (at-if1 .if1 .left) (at-start .pre .1 .2), at-start .pre .0 .2)))
 
 mul-by-block-2 : tie.Need-mul-by-block-2
 mul-by-block-2 c =
     let at-if1 = c .before .before in
     let at-start = at-if1 .before .before .before .before .before .before in
     let a = at-start .args in
-    omega (arith, mul-le-mul-right {m = a .k + 8} {n = a .n} (a .n) (omega (arith, at-if1 .if1 .left, at-start .pre .1 .2)))
+    omega (arith, block-fits (a .k) (a .n) (at-if1 .if1 .left) (at-start .pre .1 .2))
 
 slice-relend-prefix-by-block-2 : tie.Need-slice-relend-prefix-by-block-2
 slice-relend-prefix-by-block-2 c =
     let at-if1 = c .before .before in
     let at-start = at-if1 .before .before .before .before .before .before in
     let a = at-start .args in
-    omega (arith, mul-le-mul-right {m = a .k + 8} {n = a .n} (a .n) (omega (arith, at-if1 .if1 .left, at-start .pre .1 .2)), at-start .pre .0 .3)
+    omega (arith, block-fits (a .k) (a .n) (at-if1 .if1 .left) (at-start .pre .1 .2), at-start .pre .0 .3)
 
 slice-aggregate-by-block-2 : tie.Need-slice-aggregate-by-block-2
 slice-aggregate-by-block-2 c =
     let at-if1 = c .before .before .before in
     let at-start = at-if1 .before .before .before .before .before .before in
     let a = at-start .args in
-    sym (length-take-le ((a .k + 8) * a .n) (a .m .now) (omega (arith, mul-le-mul-right {m = a .k + 8} {n = a .n} (a .n) (omega (arith, at-if1 .if1 .left, at-start .pre .1 .2)), at-start .pre .0 .3)))
+    sym (length-take-le ((a .k + 8) * a .n) (a .m .now) (omega (arith, block-fits (a .k) (a .n) (at-if1 .if1 .left) (at-start .pre .1 .2), at-start .pre .0 .3)))
 
 by-block-requires : tie.Need-by-block-requires
 by-block-requires c κs =
     let at-if1 = c .before .before .before in
     let at-start = at-if1 .before .before .before .before .before .before in
     let a = at-start .args in
-    let fits = mul-le-mul-right {m = a .k + 8} {n = a .n} (a .n) (omega (arith, at-if1 .if1 .left, at-start .pre .1 .2)) in (
+    let fits = block-fits (a .k) (a .n) (at-if1 .if1 .left) (at-start .pre .1 .2) in (
       (at-start .pre .0 .1, length-take-le ((a .k + 8) * a .n) (a .w .now) (omega (arith, fits, at-start .pre .0 .2)), length-take-le ((a .k + 8) * a .n) (a .m .now) (omega (arith, fits, at-start .pre .0 .3)), at-start .pre .0 .0, omega arith, at-start .pre .1 .0),
       (omega arith, at-start .pre .1 .2, omega (arith, at-start .pre .1 .2)),
     )
