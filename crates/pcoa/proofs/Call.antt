@@ -40,16 +40,16 @@ module _ (k n : ℕ) (o : Outcome Coordinates) (late : Late o) (out b w m v : Li
   given-leaves r {new} {b′} {w′} {m′} {v′} e many hb hw hm hv =
       let answer : r ≡ checkOf o = check-read k r new ∙ ap (λ (g : Given). checkOf (g .found)) e in
       let first : new ++ drop (k + k + n * k) out ≡ written k n o out = output-front laid (k + k + n * k) o out many (ap (λ (g : Given). g .out) e) in
-      let b-is = hb ∙ late-work o b late in
-      let w-is = hw ∙ late-work o w late in
-      let m-is = hm ∙ late-work o m late in
-      let v-is = hv ∙ late-work o v late in
+      let b-is = hb ∙ late-work zero⁺ o b late in
+      let w-is = hw ∙ late-work zero⁺ o w late in
+      let m-is = hm ∙ late-work zero⁺ o m late in
+      let v-is = hv ∙ late-work zero⁺ o v late in
       λ i. record { answer = answer i; out = first i; b = b-is i; w = w-is i; m = m-is i; v = v-is i }
 
 -- what a work slice held does not show, only its length
 pub work-same : (o : Outcome Coordinates) (late : Late o) (b′ b : List Float) → length b′ ≡ length b → work zero⁺ o b′ ≡ work zero⁺ o b
 unfolding cleared
-work-same o late b′ b e = sym (late-work o b′ late) ∙ ap (λ (j : ℕ). replicate j zero⁺) e ∙ late-work o b late
+work-same o late b′ b e = sym (late-work zero⁺ o b′ late) ∙ ap (λ (j : ℕ). replicate j zero⁺) e ∙ late-work zero⁺ o b late
 
 pub leaves-same : (k n : ℕ) (o : Outcome Coordinates) (late : Late o) (out b′ b w m v : List Float) {c : Called} → length b′ ≡ length b
     → c ≡ leaves k n o out b′ w m v → c ≡ leaves k n o out b w m v

@@ -48,10 +48,10 @@ late-top k n a = by (min k n) (leb n 64)
 
 -- ---- what such an operation leaves
 
-pub late-work : {A : Type 0} (o : Outcome A) (l : List Float) → Late o → cleared zero⁺ l ≡ work zero⁺ o l
+pub late-work : {A B : Type 0} (zero : B) (o : Outcome A) (l : List B) → Late o → cleared zero l ≡ work zero o l
 unfolding work
-late-work (answered a) l h = refl
-late-work (refused r) l h = sym (ap (λ (b : Bool). cond b l (cleared zero⁺ l)) h)
+late-work zero (answered a) l h = refl
+late-work zero (refused r) l h = sym (ap (λ (b : Bool). cond b l (cleared zero l)) h)
 
 -- an output of just its length is all zero, or all that is answered
 pub zeroed : (k : ℕ) (out : List Float) {new : List Float} → length out ≡ k → new ≡ cleared zero⁺ out → new ≡ over (replicate k zero⁺) out

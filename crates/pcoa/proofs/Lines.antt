@@ -16,6 +16,7 @@ use Rattle.outcome.specs.declared.Check.the-variants.{Passed, Refused}
 use Rattle.outcome.specs.Refusals.{first, unfit, short}
 use Rattle.jacobi.proofs.Extra.{or-false, first-passed}
 use Rattle.lot.specs.Lines.{badDistance}
+use Rattle.pcoa.specs.Given.{Room}
 use Rattle.pcoa.specs.Call.{tooShort, badComponents, pcoaLines}
 
 -- ---- lengths that fit n do not wrap
@@ -75,13 +76,6 @@ module _ (k n out b w m v : ℕ) where
         short-v h = rw (le-ltb out (k + k + n * k) o, le-ltb b (n * n) p, le-ltb w (n + n * n) q, le-ltb m (n * n) h) (last (ltb v (n * n)))
 
 -- slices that are long enough
-pub record Room (k n out b w m v : ℕ) : Type 0 where
-  pub out-fits : k + k + n * k ≤ out
-  pub b-fits : n * n ≤ b
-  pub w-fits : n + n * n ≤ w
-  pub m-fits : n * n ≤ m
-  pub v-fits : n * n ≤ v
-
 pub long-enough : (k n out b w m v : ℕ) → tooShort k n out b w m v ≡ false → Room k n out b w m v
 unfolding tooShort short any
 long-enough k n out b w m v e =
