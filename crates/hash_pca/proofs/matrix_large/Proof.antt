@@ -1,0 +1,46 @@
+-- `hash_pca::matrix_large` meets its contract. There is room for all hashes that the table allows.
+-- Assumes nothing.
+use Rattle.gram.specs.declared.Answer.the-variants as answer
+use Rattle.gram.specs.Call as of-gram
+use Prim.Native.Nat.{_-_}
+use native.Mathlib.Omega.{arith}
+use borrow.Author.Needs.{needs}
+use Rattle.hash_pca.proofs.matrix_large.Statement.{statement}
+use Rattle.hash_pca.proofs.matrix_large.Tie as tie
+
+slice-aggregate-matrix-in : tie.Need-slice-aggregate-matrix-in
+slice-aggregate-matrix-in c = search needs
+
+slice-aggregate-matrix-in-2 : tie.Need-slice-aggregate-matrix-in-2
+slice-aggregate-matrix-in-2 c = search needs
+
+slice-aggregate-matrix-in-3 : tie.Need-slice-aggregate-matrix-in-3
+slice-aggregate-matrix-in-3 c = search needs
+
+slice-aggregate-matrix-in-4 : tie.Need-slice-aggregate-matrix-in-4
+slice-aggregate-matrix-in-4 c = search needs
+
+matrix-in-requires : tie.Need-matrix-in-requires
+matrix-in-requires c κs = ((omega arith, omega arith), ((omega arith, omega arith), c .before .before .before .before .before .before .before .before .before .before .pre))
+
+same-length : tie.Need-same-length
+same-length c = search needs
+
+same-length-2 : tie.Need-same-length-2
+same-length-2 c = search needs
+
+returns : tie.Need-returns
+returns c = search needs
+
+pub matrix-large-spec : {M : Type 1} → statement M
+matrix-large-spec =
+    tie.close
+    (tie.spec
+    slice-aggregate-matrix-in
+    slice-aggregate-matrix-in-2
+    slice-aggregate-matrix-in-3
+    slice-aggregate-matrix-in-4
+    matrix-in-requires
+    same-length
+    same-length-2
+    returns)

@@ -1,0 +1,3 @@
+-- Section 4 of document 01: `hash_pca`.
+pub mod Matrix
+pub mod Call
