@@ -1,0 +1,22 @@
+-- The two parts of an output, values with shares and then coordinates, are what `finish` says. Assumes nothing.
+use mathlib.Core.Path.{_≡_, refl, sym, ap, ap₂, _∙_}
+use mathlib.Core.List.{List, _++_, append-assoc}
+use Prim.Native.Nat.{ℕ, _-_, _≤_}
+use native.Mathlib.Omega.{arith}
+use lib.ListN.{length, take, drop}
+use lib.Seq.{length-take-le}
+use lib.Ieee.{Float}
+use Rattle.lists.proofs.Rows.{part-rest}
+use Rattle.coordinates.specs.Finish.{signs, scales, shares, coords, finish, laid}
+
+pub finished : (n k : ℕ) (total : Float) (pairs : List Float) {x y : List Float} → k ≤ length pairs → x ≡ take k pairs ++ shares total (take k pairs)
+    → y ≡ coords n k (signs n k (take (length pairs - k) (drop k pairs))) (scales (take k pairs)) (take (length pairs - k) (drop k pairs))
+    → x ++ y ≡ laid (finish n total (take k pairs) (drop k pairs))
+unfolding finish laid
+finished n k total pairs {x} {y} h e f =
+    let values = take k pairs in
+    let vectors = drop k pairs in
+    let rest : y ≡ coords n k (signs n k vectors) (scales values) vectors = f ∙ ap (λ (v : List Float). coords n k (signs n k v) (scales values) v) (part-rest pairs k) in
+    ap₂ (λ (a b : List Float). a ++ b) e rest
+    ∙ append-assoc values (shares total values) (coords n k (signs n k vectors) (scales values) vectors)
+    ∙ ap (λ (j : ℕ). values ++ (shares total values ++ coords n j (signs n j vectors) (scales values) vectors)) (sym (length-take-le k pairs h))

@@ -1,0 +1,65 @@
+-- `coordinates::describe` meets its contract. The output is filled in two parts, each lent by itself.
+-- Assumes nothing.
+use mathlib.Core.Path.{sym, ap₂, _∙_}
+use mathlib.Core.List.{List, _++_}
+use Prim.Native.Nat.{_+_, _-_}
+use native.Mathlib.Omega.{arith}
+use borrow.Author.Needs.{needs}
+use lib.ListN.{length}
+use lib.Seq.{length-take-le}
+use lib.Ieee.{Float}
+use Rattle.jacobi.proofs.Extra.{length-second, put-second}
+use Rattle.coordinates.proofs.describe.Statement.{statement}
+use Rattle.coordinates.proofs.describe.Tie as tie
+
+slice-relend-prefix-copy : tie.Need-slice-relend-prefix-copy
+slice-relend-prefix-copy c = search needs
+
+slice-aggregate-copy : tie.Need-slice-aggregate-copy
+slice-aggregate-copy c = sym (length-take-le (length (c .before .before .before .args .values .now)) (c .before .before .before .args .out .now) (omega arith))
+
+copy-requires : tie.Need-copy-requires
+copy-requires c κs = length-take-le (length (c .before .before .before .args .values .now)) (c .before .before .before .args .out .now) (omega arith)
+
+mul-fill-shares : tie.Need-mul-fill-shares
+mul-fill-shares c = search needs
+
+sub-fill-shares : tie.Need-sub-fill-shares
+sub-fill-shares c = search needs
+
+part-fill-shares-start : tie.Need-part-fill-shares-start
+part-fill-shares-start c = search needs
+
+part-fill-shares-end : tie.Need-part-fill-shares-end
+part-fill-shares-end c = search needs
+
+fill-shares-requires : tie.Need-fill-shares-requires
+fill-shares-requires c κs =
+    let k = length (c .before .before .before .before .before .before .before .args .values .now) in
+    let out = c .before .before .before .before .before .before .before .args .out .now in
+    length-second k out (c .before .before .before .copy .last .0) (omega arith) (c .before .before .before .copy .kept .0 ∙ length-take-le k out (omega arith)) ∙ omega arith
+
+same-length : tie.Need-same-length
+same-length c = search needs
+
+returns : tie.Need-returns
+returns c =
+    let k = length (c .before .before .before .before .before .before .before .before .before .before .args .values .now) in
+    let out = c .before .before .before .before .before .before .before .before .before .before .args .out .now in
+    put-second k out (c .before .before .before .before .before .before .copy .last .0) (omega arith) (c .before .before .before .before .before .before .copy .kept .0 ∙ length-take-le k out (omega arith)) (c .before .before .fill-shares .last .0)
+    ∙ ap₂ (λ (x y : List Float). x ++ y) (c .before .before .before .before .before .before .copy .ensures) (c .before .before .fill-shares .ensures)
+
+pub describe-spec : {M : Type 1} → statement M
+describe-spec =
+    tie.close
+    (tie.spec
+    slice-relend-prefix-copy
+    slice-aggregate-copy
+    copy-requires
+    mul-fill-shares
+    sub-fill-shares
+    part-fill-shares-start
+    part-fill-shares-end
+    fill-shares-requires
+    same-length
+    returns)

@@ -1,0 +1,82 @@
+-- `coordinates::fill_coords` meets its contract. After i turns the first i samples stand there.
+-- Assumes nothing.
+use mathlib.Core.Path.{sym, ap, _∙_}
+use Prim.Native.Nat.{ℕ, _*_, _-_}
+use native.Mathlib.Omega.{arith}
+use Rattle.lists.specs.Ranges.{table}
+use Rattle.lists.proofs.Rows.{row-end, length-part}
+use Rattle.lists.proofs.Writes.{Filling}
+use Rattle.coordinates.specs.Finish.{coordAt, coords}
+use Rattle.coordinates.proofs.Grids.{grid-none, grid-next, grid-all}
+use Rattle.coordinates.proofs.fill_coords.Statement.{statement}
+use Rattle.coordinates.proofs.fill_coords.Tie as tie
+
+abbrev Inv-loop : tie.InvT-loop
+Inv-loop out₀ sg sc vectors n k i₀ out i = Filling n k (λ j. table k (coordAt n sg sc vectors j)) out₀ out i
+
+abbrev μ-loop : tie.MeasureT-loop
+μ-loop out₀ sg sc vectors n k i₀ out i = n - i
+
+loop-holds : tie.Need-loop-holds Inv-loop μ-loop
+loop-holds c = grid-none (c .before .before .before .before .args .n) (c .before .before .before .before .args .k) (coordAt (c .before .before .before .before .args .n) (c .before .before .before .before .args .sg .now) (c .before .before .before .before .args .sc .now) (c .before .before .before .before .args .vectors .now)) (c .before .before .before .before .args .out .now) (c .before .before .before .before .pre .0)
+
+mul-coord-row : tie.Need-mul-coord-row Inv-loop μ-loop
+mul-coord-row c = omega (arith, row-end (c .before .before .before .before .before .before .args .k) (c .before .loop .i) (c .before .before .before .before .before .before .args .n) (c .loop-test .taken), c .before .loop .inv .long)
+
+mul-coord-row-2 : tie.Need-mul-coord-row-2 Inv-loop μ-loop
+mul-coord-row-2 c = omega (arith, row-end (c .before .before .before .before .before .before .args .k) (c .before .loop .i) (c .before .before .before .before .before .before .args .n) (c .loop-test .taken), c .before .loop .inv .long)
+
+add-coord-row : tie.Need-add-coord-row Inv-loop μ-loop
+add-coord-row c = omega (arith, row-end (c .before .before .before .before .before .before .args .k) (c .before .loop .i) (c .before .before .before .before .before .before .args .n) (c .loop-test .taken), c .before .loop .inv .long)
+
+mul-coord-row-3 : tie.Need-mul-coord-row-3 Inv-loop μ-loop
+mul-coord-row-3 c = omega (arith, row-end (c .before .before .before .before .before .before .args .k) (c .before .loop .i) (c .before .before .before .before .before .before .args .n) (c .loop-test .taken), c .before .loop .inv .long)
+
+sub-coord-row : tie.Need-sub-coord-row Inv-loop μ-loop
+sub-coord-row c = omega (arith, row-end (c .before .before .before .before .before .before .args .k) (c .before .loop .i) (c .before .before .before .before .before .before .args .n) (c .loop-test .taken), c .before .loop .inv .long)
+
+part-coord-row-start : tie.Need-part-coord-row-start Inv-loop μ-loop
+part-coord-row-start c = omega (arith, row-end (c .before .before .before .before .before .before .args .k) (c .before .loop .i) (c .before .before .before .before .before .before .args .n) (c .loop-test .taken), c .before .loop .inv .long)
+
+part-coord-row-end : tie.Need-part-coord-row-end Inv-loop μ-loop
+part-coord-row-end c = omega (arith, row-end (c .before .before .before .before .before .before .args .k) (c .before .loop .i) (c .before .before .before .before .before .before .args .n) (c .loop-test .taken), c .before .loop .inv .long)
+
+coord-row-requires : tie.Need-coord-row-requires Inv-loop μ-loop
+coord-row-requires c κs = let long = length-part (c .before .before .before .before .before .before .before .args .k) (c .before .before .loop .i) (c .before .before .loop .out) (omega (arith, row-end (c .before .before .before .before .before .before .before .args .k) (c .before .before .loop .i) (c .before .before .before .before .before .before .before .args .n) (c .before .loop-test .taken), c .before .before .loop .inv .long)) in (c .before .before .before .before .before .before .before .pre .1 ∙ sym long, c .before .before .before .before .before .before .before .pre .2 ∙ sym long, c .before .before .before .before .before .before .before .pre .3 ∙ ap (λ (j : ℕ). j * c .before .before .before .before .before .before .before .args .n) (sym long), c .before .loop-test .taken)
+
+add-i : tie.Need-add-i Inv-loop μ-loop
+add-i c = omega (arith, row-end (c .before .before .before .before .before .before .before .before .before .before .args .k) (c .before .before .before .before .before .loop .i) (c .before .before .before .before .before .before .before .before .before .before .args .n) (c .before .before .before .before .loop-test .taken), c .before .before .before .before .before .loop .inv .long)
+
+loop-less : tie.Need-loop-less Inv-loop μ-loop
+loop-less c = omega (arith, row-end (c .before .before .before .before .before .before .before .before .before .before .args .k) (c .before .before .before .before .before .loop .i) (c .before .before .before .before .before .before .before .before .before .before .args .n) (c .before .before .before .before .loop-test .taken), c .before .before .before .before .before .loop .inv .long)
+
+loop-again : tie.Need-loop-again Inv-loop μ-loop
+loop-again c = let long = length-part (c .before .before .before .before .before .before .before .before .before .before .args .k) (c .before .before .before .before .before .loop .i) (c .before .before .before .before .before .loop .out) (omega (arith, row-end (c .before .before .before .before .before .before .before .before .before .before .args .k) (c .before .before .before .before .before .loop .i) (c .before .before .before .before .before .before .before .before .before .before .args .n) (c .before .before .before .before .loop-test .taken), c .before .before .before .before .before .loop .inv .long)) in grid-next (c .before .before .before .before .before .before .before .before .before .before .args .n) (c .before .before .before .before .before .before .before .before .before .before .args .k) (coordAt (c .before .before .before .before .before .before .before .before .before .before .args .n) (c .before .before .before .before .before .before .before .before .before .before .args .sg .now) (c .before .before .before .before .before .before .before .before .before .before .args .sc .now) (c .before .before .before .before .before .before .before .before .before .before .args .vectors .now)) (c .before .before .before .before .before .before .before .before .before .before .args .out .now) (c .before .before .before .before .before .before .before .before .before .before .pre .0) (c .before .before .before .before .before .loop .inv) (c .before .before .before .before .loop-test .taken) long (c .before .before .coord-row .ensures)
+
+same-length : tie.Need-same-length Inv-loop μ-loop
+same-length c = c .before .loop .inv .long
+
+returns : tie.Need-returns Inv-loop μ-loop
+unfolding coords
+returns c = grid-all (c .before .before .before .before .before .before .args .n) (c .before .before .before .before .before .before .args .k) (coordAt (c .before .before .before .before .before .before .args .n) (c .before .before .before .before .before .before .args .sg .now) (c .before .before .before .before .before .before .args .sc .now) (c .before .before .before .before .before .before .args .vectors .now)) (c .before .before .before .before .before .before .args .out .now) (c .before .before .before .before .before .before .pre .0) (c .before .loop .inv) (c .loop-test .left)
+
+pub fill-coords-spec : {M : Type 1} → statement M
+fill-coords-spec =
+    tie.close
+    (tie.spec
+    Inv-loop
+    μ-loop
+    loop-holds
+    mul-coord-row
+    mul-coord-row-2
+    add-coord-row
+    mul-coord-row-3
+    sub-coord-row
+    part-coord-row-start
+    part-coord-row-end
+    coord-row-requires
+    add-i
+    loop-less
+    loop-again
+    same-length
+    returns)

@@ -1,0 +1,116 @@
+-- `coordinates::finish_in` meets its contract. The output is filled in two parts, each lent by itself.
+-- Assumes nothing.
+use mathlib.Core.Path.{sym, ap, _∙_}
+use Prim.Native.Nat.{_+_, _-_}
+use native.Mathlib.Omega.{arith}
+use borrow.Author.Needs.{needs}
+use lib.ListN.{length, length-drop}
+use lib.Seq.{length-take-le}
+use Rattle.lists.proofs.Rows.{part-rest}
+use Rattle.jacobi.proofs.Extra.{length-second, put-second}
+use Rattle.coordinates.specs.Finish.{finish, laid}
+use Rattle.coordinates.proofs.Finished.{finished}
+use Rattle.coordinates.proofs.finish_in.Statement.{statement}
+use Rattle.coordinates.proofs.finish_in.Tie as tie
+
+add-describe : tie.Need-add-describe
+add-describe c = search needs
+
+slice-relend-prefix-describe : tie.Need-slice-relend-prefix-describe
+slice-relend-prefix-describe c = search needs
+
+slice-aggregate-describe : tie.Need-slice-aggregate-describe
+slice-aggregate-describe c = sym (length-take-le (c .before .before .before .before .before .args .k + c .before .before .before .before .before .args .k) (c .before .before .before .before .before .args .out .now) (omega arith))
+
+slice-aggregate-describe-2 : tie.Need-slice-aggregate-describe-2
+slice-aggregate-describe-2 c = sym (length-take-le (c .before .before .before .before .before .before .args .k) (c .before .before .before .before .before .before .args .pairs .now) (omega arith))
+
+describe-requires : tie.Need-describe-requires
+describe-requires c κs = let many = length-take-le (c .before .before .before .before .before .before .args .k) (c .before .before .before .before .before .before .args .pairs .now) (omega arith) in length-take-le (c .before .before .before .before .before .before .args .k + c .before .before .before .before .before .before .args .k) (c .before .before .before .before .before .before .args .out .now) (omega arith) ∙ omega arith
+
+add-place : tie.Need-add-place
+add-place c = search needs
+
+mul-place : tie.Need-mul-place
+mul-place c = search needs
+
+sub-place : tie.Need-sub-place
+sub-place c = search needs
+
+part-place-start : tie.Need-part-place-start
+part-place-start c = search needs
+
+part-place-end : tie.Need-part-place-end
+part-place-end c = search needs
+
+slice-aggregate-place : tie.Need-slice-aggregate-place
+slice-aggregate-place c = sym (length-take-le (c .before .before .before .before .before .before .before .before .before .before .before .before .before .args .k) (c .before .before .before .before .before .before .before .before .before .before .before .before .before .args .pairs .now) (omega arith))
+
+mul-place-2 : tie.Need-mul-place-2
+mul-place-2 c = search needs
+
+sub-place-2 : tie.Need-sub-place-2
+sub-place-2 c = search needs
+
+part-place-start-2 : tie.Need-part-place-start-2
+part-place-start-2 c = search needs
+
+part-place-end-2 : tie.Need-part-place-end-2
+part-place-end-2 c = search needs
+
+place-requires : tie.Need-place-requires
+place-requires c κs =
+    let k = c .before .before .before .before .before .before .before .before .before .before .before .before .before .before .args .k in
+    let out = c .before .before .before .before .before .before .before .before .before .before .before .before .before .before .args .out .now in
+    let pairs = c .before .before .before .before .before .before .before .before .before .before .before .before .before .before .args .pairs .now in (
+      length-second (k + k) out (c .before .before .before .before .before .before .before .describe .last .0) (omega arith) (c .before .before .before .before .before .before .before .describe .kept .0 ∙ length-take-le (c .before .before .before .before .before .before .before .before .before .before .before .before .before .before .args .k + c .before .before .before .before .before .before .before .before .before .before .before .before .before .before .args .k) (c .before .before .before .before .before .before .before .before .before .before .before .before .before .before .args .out .now) (omega arith)) ∙ omega arith,
+      c .before .before .before .before .before .before .before .before .before .before .before .before .before .before .pre .1,
+      c .before .before .before .before .before .before .before .before .before .before .before .before .before .before .pre .2,
+      length-take-le (c .before .before .before .before .before .before .before .before .before .before .before .before .before .before .args .k) (c .before .before .before .before .before .before .before .before .before .before .before .before .before .before .args .pairs .now) (omega arith),
+      ap length (part-rest pairs k) ∙ length-drop k pairs ∙ omega arith,
+    )
+
+same-length : tie.Need-same-length
+same-length c = search needs
+
+same-length-2 : tie.Need-same-length-2
+same-length-2 c = search needs
+
+same-length-3 : tie.Need-same-length-3
+same-length-3 c = search needs
+
+returns : tie.Need-returns
+unfolding finish laid
+returns c =
+    let k = c .before .before .before .before .before .before .before .before .before .before .before .before .before .before .before .before .before .before .before .before .before .args .k in
+    let n = c .before .before .before .before .before .before .before .before .before .before .before .before .before .before .before .before .before .before .before .before .before .args .n in
+    let out = c .before .before .before .before .before .before .before .before .before .before .before .before .before .before .before .before .before .before .before .before .before .args .out .now in
+    let pairs = c .before .before .before .before .before .before .before .before .before .before .before .before .before .before .before .before .before .before .before .before .before .args .pairs .now in
+    let total = c .before .before .before .before .before .before .before .before .before .before .before .before .before .before .before .before .before .before .before .before .before .args .total in
+    put-second (k + k) out (c .before .before .before .before .before .before .before .before .before .before .before .before .before .before .describe .last .0) (omega arith) (c .before .before .before .before .before .before .before .before .before .before .before .before .before .before .describe .kept .0 ∙ length-take-le (c .before .before .before .before .before .before .before .before .before .before .before .before .before .before .before .before .before .before .before .before .before .args .k + c .before .before .before .before .before .before .before .before .before .before .before .before .before .before .before .before .before .before .before .before .before .args .k) (c .before .before .before .before .before .before .before .before .before .before .before .before .before .before .before .before .before .before .before .before .before .args .out .now) (omega arith)) (c .before .before .before .before .before .before .place .last .0)
+    ∙ finished n k total pairs (omega arith) (c .before .before .before .before .before .before .before .before .before .before .before .before .before .before .describe .ensures) (c .before .before .before .before .before .before .place .ensures)
+
+pub finish-in-spec : {M : Type 1} → statement M
+finish-in-spec =
+    tie.close
+    (tie.spec
+    add-describe
+    slice-relend-prefix-describe
+    slice-aggregate-describe
+    slice-aggregate-describe-2
+    describe-requires
+    add-place
+    mul-place
+    sub-place
+    part-place-start
+    part-place-end
+    slice-aggregate-place
+    mul-place-2
+    sub-place-2
+    part-place-start-2
+    part-place-end-2
+    place-requires
+    same-length
+    same-length-2
+    same-length-3
+    returns)
