@@ -239,7 +239,16 @@ fn with_distance(x: f64) {
 // The second sample weighs x.
 fn with_weight(x: f64) {
     let d = example();
-    call_four(4, &d, &[0, 0, 1, 1], false, &[], true, &[1.0, x, 1.0, 1.0], 9);
+    call_four(
+        4,
+        &d,
+        &[0, 0, 1, 1],
+        false,
+        &[],
+        true,
+        &[1.0, x, 1.0, 1.0],
+        9,
+    );
 }
 
 fn with_strata(strata: &[u16]) {
@@ -327,7 +336,16 @@ fn sizes() {
 // The lower number wins: 1 before 2, 2 before 3, 3 before 4, 4 before 5.
 fn order() {
     let mut d = example();
-    call_four(4, &[1.0; 15], &[0, 0, 1, 1], false, &[], false, &[], 1000000);
+    call_four(
+        4,
+        &[1.0; 15],
+        &[0, 0, 1, 1],
+        false,
+        &[],
+        false,
+        &[],
+        1000000,
+    );
     d[3] = -1.0;
     call_four(4, &d, &[0, 0, 1, 1], false, &[], false, &[], 1000000);
     call_four(4, &d, &[0, 0, 1, 1], false, &[], true, &[0.0; 4], 9);
