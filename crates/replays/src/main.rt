@@ -7,11 +7,17 @@ fn hold(op: u64, b: &[u8]) -> Held {
     if op == 1 {
         return replay_test::hold(b);
     }
+    if op == 2 {
+        return replay_pcoa::hold(b);
+    }
     if op == 4 {
         return replay_dapc::hold(b);
     }
     if op == 5 {
         return replay_jacobi::hold(b);
+    }
+    if op == 6 {
+        return replay_topeigs::hold(b);
     }
     if op == 7 {
         return replay_gram::hold(b);
@@ -40,7 +46,9 @@ fn file(path: &[u8], op: u64) {
 
 fn main() {
     file(b"test.bin", 1);
+    file(b"pcoa.bin", 2);
     file(b"dapc.bin", 4);
     file(b"jacobi_eigen.bin", 5);
+    file(b"top_eigs.bin", 6);
     file(b"gram_matrix.bin", 7);
 }
