@@ -134,6 +134,9 @@ marked-none n {d} {seen} h e s = record {
   marks = λ i j g k. ap (λ (l : List ℕ). getD l (i * n + j) 0) s ∙ getD-replicate 1024 (i * n + j) 0 0 (cell-lt n i j h (omega arith) k);
 }
 
+pub marked-room : {n : ℕ} {d : List Float} {seen : List ℕ} {pairs : List Frame} → Marked n noDistances d seen pairs → (length d ≡ 1024) × (length seen ≡ 1024)
+marked-room m = (m .long ∙ length-replicate 1024 zero⁺, m .wide ∙ length-replicate 1024 zero⁺)
+
 module _ (n : ℕ) {d₀ d : List Float} {seen : List ℕ} {pairs : List Frame} (m : Marked n d₀ d seen pairs) (f : Frame) where
   -- the mark tells whether the pair was there
   pub same-test : unseen n seen f ≡ isPair n pairs f

@@ -6,15 +6,17 @@ use borrow.Author.Tests.{leb-true}
 use mathlib.Core.Path.{_≡_, refl, sym, ap, ap₂, _∙_, subst}
 use mathlib.Core.Bool.{Bool, true, false, _&&_, cond, false≢true}
 use mathlib.Core.List.{List, [], map}
+use lib.ListN.{length, replicate, length-replicate}
 use lib.Ieee.{Float}
+use Rattle.float.specs.Floats.{zero⁺}
 use Rattle.lists.specs.Ranges.{grid}
-use Rattle.lists.specs.Writes.{over}
+use Rattle.lists.specs.Writes.{over, cleared}
 use Rattle.outcome.specs.Outcome.{Outcome, answered, refused, andThen}
 use Rattle.outcome.specs.declared.Refusal.{Refusal}
 use Rattle.lot.specs.Lot.{Lot}
 use Rattle.frames.specs.Frames.{head, tail, isHeader, isSample, isPair, pairCount, isEnd, malformed, Taken, several, distance, described, lotIn, readLot}
 use Rattle.frames.specs.Call.{noNumbers, noDistances, held, leaves, readCall, called}
-use Rattle.frames.specs.Reached.{framesFrom, Opens, OpenedBy, Took, ReachedBy, Sampled, Paired, Reads, ReadBy}
+use Rattle.frames.specs.Reached.{framesFrom, Opens, OpenedBy, Took, ReachedBy, Sampled, Paired, Room, Cleared, Reads, ReadBy}
 use Rattle.frames.specs.declared.Frame.{Frame}
 use Rattle.frames.specs.declared.Header.{Header}
 use Rattle.frames.specs.declared.Opening.{Opening}
@@ -131,6 +133,22 @@ module _ (text : List ℕ) where
   called-refused e = ap leaves (sym e)
 
   pub whole-refused : (l s : List ℕ) (d : List Float) {r : Answer} {x : Refusal} {l′ s′ : List ℕ} {d′ : List Float} → ReadBy text l s d r → r ≡ Refused x →
-      l′ ≡ noNumbers → s′ ≡ noNumbers → d′ ≡ noDistances → called r l′ s′ d′ ≡ readCall text
+      Cleared l′ s′ d′ → called r l′ s′ d′ ≡ readCall text
   unfolding ReadBy
-  whole-refused l s d {r} {x} t e el es ed = rw (e, el, es, ed) (called-refused (subst (ReadBy text l s d) e t))
+  whole-refused l s d {r} {x} t e c = rw (e, c .labels, c .strata, c .distances) (called-refused (subst (ReadBy text l s d) e t))
+
+-- slices that were cleared by their lengths
+pub cleared-all : (l s : List ℕ) (d : List Float) {l′ s′ : List ℕ} {d′ : List Float} → Room l s d → l′ ≡ cleared 0 l → s′ ≡ cleared 0 s → d′ ≡ cleared zero⁺ d → Cleared l′ s′ d′
+unfolding cleared
+cleared-all l s d r el es ed = record {
+  labels = el ∙ ap (λ (k : ℕ). replicate k 0) (r .labels);
+  strata = es ∙ ap (λ (k : ℕ). replicate k 0) (r .strata);
+  distances = ed ∙ ap (λ (k : ℕ). replicate k zero⁺) (r .distances);
+}
+
+pub room-kept : {l s l′ s′ : List ℕ} {d d′ : List Float} → Cleared l s d → length l′ ≡ length l → length s′ ≡ length s → length d′ ≡ length d → Room l′ s′ d′
+room-kept c el es ed = record {
+  labels = el ∙ ap length (c .labels) ∙ length-replicate {A = ℕ} 32 0;
+  strata = es ∙ ap length (c .strata) ∙ length-replicate {A = ℕ} 32 0;
+  distances = ed ∙ ap length (c .distances) ∙ length-replicate 1024 zero⁺;
+}

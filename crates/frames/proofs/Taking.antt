@@ -6,7 +6,7 @@ use mathlib.Core.Bool.{Bool, true, false, _&&_, cond}
 use mathlib.Core.List.{List, [], _∷_, _++_, map}
 use native.Mathlib.Omega.{arith}
 use lib.Dec.{eqb, leb}
-use lib.ListN.{length, drop, set, length-append, length-replicate}
+use lib.ListN.{length, drop, set, length-append, length-set, length-replicate}
 use borrow.Author.Tests.{eq-eqb, ne-eqb, lt-leb, le-leb, leb-true, leb-false}
 use Rattle.lists.specs.Filters.{firstAt}
 use Rattle.lists.specs.Writes.{over}
@@ -114,8 +114,16 @@ pub is-sample : (before : List Frame) (f : Frame) {k : ℕ} → length before �
 unfolding isSample
 is-sample before f {k} m e h = rw (eq-eqb (f .kind) 0xa2 e, m, eq-eqb (f .first) k h)
 
+pub blank : {l : List ℕ} → l ≡ noNumbers → length l ≡ 32
+blank e = ap length e ∙ length-replicate {A = ℕ} 32 0
+
 pub sampled-none : {l s : List ℕ} → l ≡ noNumbers → s ≡ noNumbers → Sampled l s []
-sampled-none e g = record { labelled = e ∙ sym (over-none noNumbers); stratified = g ∙ sym (over-none noNumbers) }
+sampled-none e g = record {
+  labels = blank e;
+  strata = blank g;
+  labelled = e ∙ sym (over-none noNumbers);
+  stratified = g ∙ sym (over-none noNumbers);
+}
 
 length-map : (g : Frame → ℕ) (fs : List Frame) → length (map g fs) ≡ length fs
 length-map g [] = refl
@@ -127,9 +135,11 @@ one-more g fs f m h e =
     over-next (map g fs) noNumbers e (length-map g fs ∙ m) refl (omega (arith, length-replicate {A = ℕ} 32 0))
     ∙ ap (λ (t : List ℕ). over t noNumbers) (sym (map-last g fs f))
 
-pub sampled-next : (fs : List Frame) (f : Frame) {l s : List ℕ} {k : ℕ} → length fs ≡ k → k < 32 → Sampled l s fs →
-    Sampled (set l k (f .second)) (set s k (f .third)) (fs ++ (f ∷ []))
-sampled-next fs f m h s = record {
+pub sampled-next : (fs : List Frame) (f : Frame) {l t : List ℕ} {k : ℕ} → length fs ≡ k → k < 32 → Sampled l t fs →
+    Sampled (set l k (f .second)) (set t k (f .third)) (fs ++ (f ∷ []))
+sampled-next fs f {l} {t} {k} m h s = record {
+  labels = length-set l k (f .second) ∙ s .labels;
+  strata = length-set t k (f .third) ∙ s .strata;
   labelled = one-more (λ f. f .second) fs f m h (s .labelled);
   stratified = one-more (λ f. f .third) fs f m h (s .stratified);
 }

@@ -4,7 +4,7 @@ use mathlib.Core.Path.{_≡_}
 use mathlib.Core.Bool.{Bool, true, false, _&&_, cond}
 use mathlib.Core.List.{List, map}
 use lib.Dec.{eqb, ltb}
-use lib.ListN.{drop, getD, set}
+use lib.ListN.{length, drop, getD, set}
 use lib.Ieee.{Float}
 use Rattle.float.specs.Floats.{f64}
 use Rattle.lists.specs.Ranges.{grid}
@@ -53,8 +53,21 @@ unfoldable pub ReachedBy : List ℕ → Outcome Taken → (List Frame → Type 0
 ReachedBy text o P (At next) = Took o (framesFrom text next) P
 ReachedBy text o P Nowhere = o ≡ malformed
 
+-- slices with room for 32 samples, and those that are cleared
+pub record Room (l s : List ℕ) (d : List Float) : Type 0 where
+  pub labels : length l ≡ 32
+  pub strata : length s ≡ 32
+  pub distances : length d ≡ 1024
+
+pub record Cleared (l s : List ℕ) (d : List Float) : Type 0 where
+  pub labels : l ≡ noNumbers
+  pub strata : s ≡ noNumbers
+  pub distances : d ≡ noDistances
+
 -- two cleared slices got the samples' labels and strata
 pub record Sampled (l s : List ℕ) (samples : List Frame) : Type 0 where
+  pub labels : length l ≡ 32
+  pub strata : length s ≡ 32
   pub labelled : l ≡ over (map (λ f. f .second) samples) noNumbers
   pub stratified : s ≡ over (map (λ f. f .third) samples) noNumbers
 

@@ -8,7 +8,7 @@ ghost use Rattle.lists.specs.Filters.{firstAt};
 ghost use Rattle.frames.specs.Hex.{nibble, fieldAt, feed};
 ghost use Rattle.frames.specs.Frames.{noFrame, frameOf, frame, isSample, isPair, pairCount, isEnd, several};
 ghost use Rattle.frames.specs.Call.{noNumbers, noDistances, readCall, called};
-ghost use Rattle.frames.specs.Reached.{framesFrom, IsLine, OpenedBy, ReachedBy, Sampled, Put, Paired, ReadBy};
+ghost use Rattle.frames.specs.Reached.{framesFrom, IsLine, OpenedBy, ReachedBy, Sampled, Put, Paired, Room, Cleared, ReadBy};
 use outcome::Refusal;
 
 // The number in a field of digits.
@@ -253,13 +253,7 @@ pub enum Place {
 }
 
 // The n samples whose frames start at place from.
-fn read_samples(
-    text: &[u8],
-    from: usize,
-    n: usize,
-    labels: &mut [u16; 32],
-    strata: &mut [u16; 32],
-) -> Place
+fn read_samples(text: &[u8], from: usize, n: usize, labels: &mut [u16], strata: &mut [u16]) -> Place
     requires { ⌜ (n ≤ 32) × (now labels ≡ noNumbers) × (now strata ≡ noNumbers) ⌝ }
     ensures { λ r. ⌜ ReachedBy (now (text .entry)) (several isSample n [] (framesFrom (now (text .entry)) from)) (Sampled (now (labels .exit)) (now (strata .exit))) r ⌝ }
 {
@@ -293,8 +287,8 @@ fn float_of(b: u64) -> f64
 }
 
 // Puts a pair's distance at both its places, if it is a pair of the lot that was not seen.
-fn put_pair(f: Frame, n: usize, distances: &mut [f64; 1024], seen: &mut [u8; 1024]) -> bool
-    requires { ⌜ n ≤ 32 ⌝ }
+fn put_pair(f: Frame, n: usize, distances: &mut [f64], seen: &mut [u8]) -> bool
+    requires { ⌜ (n ≤ 32) × (length (now distances) ≡ 1024) × (length (now seen) ≡ 1024) ⌝ }
     ensures { λ r. ⌜ Put n f (now (distances .entry)) (now (seen .entry)) (now (distances .exit)) (now (seen .exit)) r ⌝ }
 {
     if f.kind != 0xa3 {
@@ -321,13 +315,7 @@ fn put_pair(f: Frame, n: usize, distances: &mut [f64; 1024], seen: &mut [u8; 102
 }
 
 // The pairs whose frames start at place from, over zeros.
-fn read_pairs(
-    text: &[u8],
-    from: usize,
-    n: usize,
-    distances: &mut [f64; 1024],
-    seen: &mut [u8; 1024],
-) -> Place
+fn read_pairs(text: &[u8], from: usize, n: usize, distances: &mut [f64], seen: &mut [u8]) -> Place
     requires { ⌜ (n ≤ 32) × (now distances ≡ noDistances) × (now seen ≡ replicate 1024 0) ⌝ }
     ensures { λ r. ⌜ ReachedBy (now (text .entry)) (several (isPair n) (pairCount n) [] (framesFrom (now (text .entry)) from)) (Paired n (now (distances .exit))) r ⌝ }
 {
@@ -373,12 +361,12 @@ pub enum Answer {
 // The lot that the text describes, over zeros.
 fn read_over(
     text: &[u8],
-    labels: &mut [u16; 32],
-    strata: &mut [u16; 32],
-    distances: &mut [f64; 1024],
-    seen: &mut [u8; 1024],
+    labels: &mut [u16],
+    strata: &mut [u16],
+    distances: &mut [f64],
+    seen: &mut [u8],
 ) -> Answer
-    requires { ⌜ (now labels ≡ noNumbers) × (now strata ≡ noNumbers) × (now distances ≡ noDistances) × (now seen ≡ replicate 1024 0) ⌝ }
+    requires { ⌜ Cleared (now labels) (now strata) (now distances) × (now seen ≡ replicate 1024 0) ⌝ }
     ensures { λ r. ⌜ ReadBy (now (text .entry)) (now (labels .exit)) (now (strata .exit)) (now (distances .exit)) r ⌝ }
 {
     let Opening::Opened {
@@ -402,12 +390,47 @@ fn read_over(
     }
 }
 
-fn clear_all(labels: &mut [u16; 32], strata: &mut [u16; 32], distances: &mut [f64; 1024])
-    ensures { λ _. ⌜ (now (labels .exit) ≡ noNumbers) × (now (strata .exit) ≡ noNumbers) × (now (distances .exit) ≡ noDistances) ⌝ }
+// All three become zeros.
+fn clear_all(labels: &mut [u16], strata: &mut [u16], distances: &mut [f64])
+    requires { ⌜ Room (now labels) (now strata) (now distances) ⌝ }
+    ensures { λ _. ⌜ Cleared (now (labels .exit)) (now (strata .exit)) (now (distances .exit)) ⌝ }
 {
-    *labels = [0u16; 32];
-    *strata = [0u16; 32];
-    *distances = [0.0f64; 1024];
+    lists::clear_u16(labels);
+    lists::clear_u16(strata);
+    lists::clear(distances);
+}
+
+// The same over any contents; a refusal leaves zeros.
+fn read_with(
+    text: &[u8],
+    labels: &mut [u16],
+    strata: &mut [u16],
+    distances: &mut [f64],
+    seen: &mut [u8],
+) -> Answer
+    requires { ⌜ Room (now labels) (now strata) (now distances) × (now seen ≡ replicate 1024 0) ⌝ }
+    ensures { λ r. ⌜ called r (now (labels .exit)) (now (strata .exit)) (now (distances .exit)) ≡ readCall (now (text .entry)) ⌝ }
+{
+    clear_all(labels, strata, distances);
+    let r = read_over(text, labels, strata, distances, seen);
+    if let Answer::Refused(_) = r {
+        clear_all(labels, strata, distances);
+    }
+    r
+}
+
+// `read_lot` on slices.
+pub fn read_into(
+    text: &[u8],
+    labels: &mut [u16],
+    strata: &mut [u16],
+    distances: &mut [f64],
+) -> Answer
+    requires { ⌜ Room (now labels) (now strata) (now distances) ⌝ }
+    ensures { λ r. ⌜ called r (now (labels .exit)) (now (strata .exit)) (now (distances .exit)) ≡ readCall (now (text .entry)) ⌝ }
+{
+    let mut seen = [0u8; 1024];
+    read_with(text, labels, strata, distances, &mut seen)
 }
 
 // The lot that the text describes: n labels, n strata and n by n distances, and zeros behind them. A refusal is 12, and leaves zeros.
@@ -419,11 +442,5 @@ pub fn read_lot(
 ) -> Answer
     ensures { λ r. ⌜ called r (now (labels .exit)) (now (strata .exit)) (now (distances .exit)) ≡ readCall (now (text .entry)) ⌝ }
 {
-    clear_all(labels, strata, distances);
-    let mut seen = [0u8; 1024];
-    let r = read_over(text, labels, strata, distances, &mut seen);
-    if let Answer::Refused(_) = r {
-        clear_all(labels, strata, distances);
-    }
-    r
+    read_into(text, labels, strata, distances)
 }
