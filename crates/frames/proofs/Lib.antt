@@ -1,5 +1,4 @@
-pub mod Spelling
-pub mod Framing
+pub mod Lines
 pub mod Taking
 pub mod Pairing
 pub mod Patterns

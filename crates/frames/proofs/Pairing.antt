@@ -23,7 +23,7 @@ use Rattle.lists.proofs.Writes.{length-over, getD-over, getD-behind}
 use Rattle.frames.specs.Frames.{joins, isPair, distance}
 use Rattle.frames.specs.Reached.{unseen, Put, Paired}
 use Rattle.frames.specs.Call.{noDistances}
-use Rattle.frames.specs.declared.Frame.{Frame}
+use Rattle.reader.specs.declared.Frame.{Frame}
 
 -- ---- tests joined by "and" and "or"
 

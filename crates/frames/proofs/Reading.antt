@@ -5,7 +5,7 @@ use lib.Dec.{eqb, leb}
 use borrow.Author.Tests.{leb-true}
 use mathlib.Core.Path.{_≡_, refl, sym, ap, ap₂, _∙_, subst}
 use mathlib.Core.Bool.{Bool, true, false, _&&_, cond, false≢true}
-use mathlib.Core.List.{List, [], map}
+use mathlib.Core.List.{List, []}
 use lib.ListN.{length, replicate, length-replicate}
 use lib.Ieee.{Float}
 use Rattle.float.specs.Floats.{zero⁺}
@@ -17,7 +17,7 @@ use Rattle.lot.specs.Lot.{Lot}
 use Rattle.frames.specs.Frames.{head, tail, isHeader, isSample, isPair, pairCount, isEnd, malformed, Taken, several, distance, described, lotIn, readLot}
 use Rattle.frames.specs.Call.{noNumbers, noDistances, held, leaves, readCall, called}
 use Rattle.frames.specs.Reached.{framesFrom, Opens, OpenedBy, Took, ReachedBy, Sampled, Paired, Room, Cleared, Reads, ReadBy}
-use Rattle.frames.specs.declared.Frame.{Frame}
+use Rattle.reader.specs.declared.Frame.{Frame}
 use Rattle.frames.specs.declared.Header.{Header}
 use Rattle.frames.specs.declared.Opening.{Opening}
 use Rattle.frames.specs.declared.Opening.the-variants.{Opened, Unopened}

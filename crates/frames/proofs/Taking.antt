@@ -1,7 +1,7 @@
 -- Laws of frames taken one after the other. A loop takes m frames by a test from place `from` on, and after k of them stands at place `at`.
 -- Assumes nothing.
-use Prim.Native.Nat.{ℕ, zero, suc, _+_, _-_, _<_, _≤_}
-use mathlib.Core.Path.{_≡_, refl, sym, ap, _∙_, subst}
+use Prim.Native.Nat.{ℕ, suc, _+_, _-_, _<_, _≤_}
+use mathlib.Core.Path.{_≡_, refl, sym, ap, _∙_}
 use mathlib.Core.Bool.{Bool, true, false, _&&_, cond}
 use mathlib.Core.List.{List, [], _∷_, _++_, map}
 use native.Mathlib.Omega.{arith}
@@ -12,13 +12,14 @@ use Rattle.lists.specs.Filters.{firstAt}
 use Rattle.lists.specs.Writes.{over}
 use Rattle.lists.proofs.Ranges.{map-last}
 use Rattle.lists.proofs.Writes.{over-none, over-next}
-use Rattle.outcome.specs.Outcome.{Outcome, answered}
-use Rattle.frames.specs.Hex.{feed, lines}
-use Rattle.frames.specs.Frames.{frame, head, tail, isHeader, isSample, isEnd, malformed, Taken, several}
+use Rattle.outcome.specs.Outcome.{Outcome}
+use Rattle.frames.specs.Lines.{feed, lines}
+use Rattle.frames.specs.Frames.{head, tail, isHeader, isSample, isEnd, malformed, Taken, several}
 use Rattle.frames.specs.Reached.{framesFrom, IsLine, Opens, Took, Sampled}
 use Rattle.frames.specs.Call.{noNumbers}
-use Rattle.frames.specs.declared.Frame.{Frame}
-use Rattle.frames.proofs.Spelling.{lines-past, lines-from}
+use Rattle.reader.specs.declared.Frame.{Frame}
+use Rattle.reader.specs.Frame.{frame}
+use Rattle.frames.proofs.Lines.{lines-past, lines-from}
 
 -- ---- several frames
 

@@ -11,10 +11,11 @@ use Rattle.lists.specs.Ranges.{grid}
 use Rattle.lists.specs.Writes.{over}
 use Rattle.outcome.specs.Outcome.{Outcome, answered, refused}
 use Rattle.lot.specs.Lot.{Lot}
-use Rattle.frames.specs.Hex.{lines}
-use Rattle.frames.specs.Frames.{frame, head, tail, isHeader, malformed, Taken, distance, readLot}
+use Rattle.reader.specs.declared.Frame.{Frame}
+use Rattle.reader.specs.Frame.{frame}
+use Rattle.frames.specs.Lines.{lines}
+use Rattle.frames.specs.Frames.{head, tail, isHeader, malformed, Taken, distance, readLot}
 use Rattle.frames.specs.Call.{noNumbers, noDistances, headerOf}
-use Rattle.frames.specs.declared.Frame.{Frame}
 use Rattle.frames.specs.declared.Header.{Header}
 use Rattle.frames.specs.declared.Opening.{Opening}
 use Rattle.frames.specs.declared.Opening.the-variants.{Opened, Unopened}

@@ -13,8 +13,10 @@ use Rattle.outcome.specs.declared.Refusal.the-variants as refusal
 use Rattle.outcome.specs.Outcome.{Outcome, answered, refused, andThen}
 use Rattle.statistics.specs.declared.Statistic.the-variants.{Finite, Unbounded}
 use Rattle.lot.specs.Lot.{Lot, none, lotOf}
-use Rattle.frames.specs.Hex.{spelled, fieldAt, lines}
-use Rattle.frames.specs.Frames.{withFields, frameOf, ofKind, frame, isHeader, isSample, joins, isPair, isEnd, head, tail, several, distance, described, lotIn, readLot}
+use Rattle.reader.specs.Hex.{spelled, fieldAt}
+use Rattle.reader.specs.Frame.{withFields, frameOf, ofKind, frame}
+use Rattle.frames.specs.Lines.{lines}
+use Rattle.frames.specs.Frames.{isHeader, isSample, joins, isPair, isEnd, head, tail, several, distance, described, lotIn, readLot}
 use Rattle.printing.specs.Hex.{hex}
 use Rattle.printing.specs.Printed.{testedLine, assignedLine, verdictLines, refusalLine, printed}
 use Rattle.printing.specs.declared.Verdict.{Verdict}

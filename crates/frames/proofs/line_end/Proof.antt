@@ -6,7 +6,7 @@ use lib.ListN.{length, drop}
 use borrow.Author.Tests.{eq-eqb, ne-eqb}
 use Rattle.lists.specs.Filters.{firstAt}
 use Rattle.lists.proofs.Filters.{first-here, first-later, first-none}
-use Rattle.frames.specs.Hex.{feed}
+use Rattle.frames.specs.Lines.{feed}
 use Rattle.frames.proofs.line_end.Statement.{statement}
 use Rattle.frames.proofs.line_end.Tie as tie
 

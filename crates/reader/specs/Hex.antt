@@ -1,11 +1,11 @@
--- Section 7: hexadecimal digits and lines. Definitions only.
+-- Section 7: hexadecimal digits. Definitions only.
 use Prim.Native.Nat.{ℕ, _+_, _-_, _*_}
-use mathlib.Core.Bool.{Bool, true, false, _&&_, cond}
+use mathlib.Core.Bool.{_&&_, cond}
 use mathlib.Core.List.{List, [], _∷_}
-use lib.Dec.{eqb, leb, ltb}
+use lib.Dec.{leb, ltb}
 use lib.ListN.{length, take, drop}
-use Rattle.frames.specs.declared.Field.{Field}
-use Rattle.frames.specs.declared.Field.the-variants.{Number, Malformed}
+use Rattle.reader.specs.declared.Field.{Field}
+use Rattle.reader.specs.declared.Field.the-variants.{Number, Malformed}
 
 -- the value of a digit, `0` to `9`, `A` to `F` or `a` to `f`; 16 for any other byte
 abbrev pub nibble : ℕ → ℕ
@@ -22,15 +22,3 @@ spelled v (c ∷ cs) = let rest = spelled (v * 16 + nibble c) cs in cond (ltb (n
 -- the number in the k digits from place at on: at most 16 of them, all within the line
 unfoldable pub fieldAt : List ℕ → ℕ → ℕ → Field
 fieldAt line at k = cond (leb k 16 && leb (at + k) (length line)) (spelled 0 (take k (drop at line))) Malformed
-
--- a line feed
-abbrev pub feed : ℕ → Bool
-feed c = eqb c 10
-
--- the lines of a text, without their line feeds; only the last may lack its own
-unfoldable pub lines : List ℕ → List (List ℕ)
-lines [] = []
-lines (c ∷ rest) = elim (feed c) as (λ b. List (List ℕ)) [
-  | true ↦ [] ∷ lines rest
-  | false ↦ elim (lines rest) as (λ ls. List (List ℕ)) [ [] ↦ (c ∷ []) ∷ [] | l ∷ ls ↦ (c ∷ l) ∷ ls ]
-]

@@ -1,20 +1,17 @@
--- Laws of hexadecimal fields: one digit more, how large a field's number is. Laws of lines: the first line and the rest.
--- Assumes nothing.
-use Prim.Native.Nat.{ℕ, zero, min, suc, _+_, _-_, _*_, _^_, _<_, _≤_}
-use mathlib.Core.Path.{_≡_, refl, sym, ap, ap₂, _∙_}
+-- Laws of hexadecimal fields: one digit more, and how large a field's number is. Assumes nothing.
+use Prim.Native.Nat.{ℕ, min, suc, _+_, _-_, _*_, _^_, _<_, _≤_}
+use mathlib.Core.Path.{_≡_, refl, sym, ap, _∙_}
 use mathlib.Core.Bool.{Bool, true, false, _&&_, cond}
 use mathlib.Core.List.{List, [], _∷_}
 use native.Mathlib.Omega.{arith}
 use native.Mathlib.Numerals.{add-one}
-use native.Mathlib.Nat.{pow-le-pow-right, not-suc-le-zero, add-zero, zero-add}
-use lib.Dec.{eqb, ltb, leb}
-use lib.ListN.{length, getD, take, drop, length-take, length-drop, drop-of-length-le}
-use lib.Seq.{drop-cons, drop-drop}
-use borrow.Author.Tests.{ltb-true, ne-eqb, lt-ltb, le-ltb, le-leb, lt-leb}
-use Rattle.lists.specs.Filters.{firstAt}
-use Rattle.frames.specs.Hex.{nibble, spelled, fieldAt, feed, lines}
-use Rattle.frames.specs.declared.Field.{Field}
-use Rattle.frames.specs.declared.Field.the-variants.{Number, Malformed}
+use native.Mathlib.Nat.{pow-le-pow-right, add-zero, zero-add}
+use lib.Dec.{ltb, leb}
+use lib.ListN.{length, getD, take, drop, length-take}
+use lib.Seq.{drop-cons}
+use borrow.Author.Tests.{ltb-true, lt-ltb, le-ltb, le-leb, lt-leb}
+use Rattle.reader.specs.Hex.{nibble, spelled, fieldAt}
+use Rattle.reader.specs.declared.Field.the-variants.{Number, Malformed}
 
 -- ---- a field's digits, one after the other
 
@@ -94,61 +91,3 @@ field-lt line at k m v h e =
     let n : length (take k (drop at line)) ≡ min k (length (drop at line)) = length-take k (drop at line) in
     let p : 16 ^ length (take k (drop at line)) ≤ 16 ^ m = pow-le-pow-right {n = 16} (omega arith) (omega arith) in
     let q = field-lt-by line at k v (leb k 16 && leb (at + k) (length line)) e in omega arith
-
--- ---- lines
-
--- the line that c begins, or not, and the lines after it
-more : Bool → ℕ → List (List ℕ) → List (List ℕ)
-more b c ls = elim b as (λ b. List (List ℕ)) [
-  | true ↦ [] ∷ ls
-  | false ↦ elim ls as (λ ls. List (List ℕ)) [ [] ↦ (c ∷ []) ∷ [] | l ∷ ls ↦ (c ∷ l) ∷ ls ]
-]
-
-more-split : (b : Bool) (c k : ℕ) (s : List ℕ) (ls : List (List ℕ)) → ls ≡ lines s → ls ≡ take k s ∷ lines (drop (suc k) s) →
-    more b c ls ≡ take (cond b 0 (suc k)) (c ∷ s) ∷ lines (drop (suc (cond b 0 (suc k))) (c ∷ s))
-unfolding more
-more-split true c k s ls e f = ap (λ (ls : List (List ℕ)). [] ∷ ls) e
-more-split false c k s ls e f = ap (more false c) f
-
-more-last : (b : Bool) (c : ℕ) → more b c [] ≡ take (cond b 0 1) (c ∷ []) ∷ lines (drop (suc (cond b 0 1)) (c ∷ []))
-unfolding more lines
-more-last true c = refl
-more-last false c = refl
-
--- the lines of a text that is not empty are its first line and the lines past the line feed
-lines-split : (s : List ℕ) → 0 < length s → lines s ≡ take (firstAt feed s) s ∷ lines (drop (suc (firstAt feed s)) s)
-unfolding lines firstAt more
-lines-split [] h = absurd (not-suc-le-zero h)
-lines-split (c ∷ []) h = more-last (feed c) c
-lines-split (c ∷ d ∷ s) h = more-split (feed c) c (firstAt feed (d ∷ s)) (d ∷ s) (lines (d ∷ s)) refl (lines-split (d ∷ s) (omega arith))
-
--- ---- the line at a place of a text
-
-first-most : (s : List ℕ) → firstAt feed s ≤ length s
-unfolding firstAt
-first-most [] = omega arith
-first-most (c ∷ s) = by (feed c) (first-most s)
-  where
-    by : (b : Bool) → firstAt feed s ≤ length s → cond b 0 (suc (firstAt feed s)) ≤ suc (length s)
-    by true h = omega arith
-    by false h = omega arith
-
-pub line-end-in : (text : List ℕ) (at : ℕ) → at ≤ length text → at + firstAt feed (drop at text) ≤ length text
-line-end-in text at h =
-    let a = first-most (drop at text) in
-    let b = length-drop at text in omega arith
-
-pub lines-from : (text : List ℕ) (at e : ℕ) → at < length text → e ≡ at + firstAt feed (drop at text) →
-    lines (drop at text) ≡ take (e - at) (drop at text) ∷ lines (drop (e + 1) text)
-lines-from text at e h f =
-    let n : firstAt feed (drop at text) ≡ e - at = omega arith in
-    let l = length-drop at text in
-    let m : at + suc (e - at) ≡ e + 1 = omega (arith, f) in
-    lines-split (drop at text) (omega arith)
-    ∙ ap₂ (λ (x y : List ℕ). x ∷ lines y)
-    (ap (λ (k : ℕ). take k (drop at text)) n)
-    (ap (λ (k : ℕ). drop (suc k) (drop at text)) n ∙ drop-drop (suc (e - at)) at text ∙ ap (λ (k : ℕ). drop k text) m)
-
-pub lines-past : (text : List ℕ) (at : ℕ) → length text ≤ at → lines (drop at text) ≡ []
-unfolding lines
-lines-past text at h = rw (drop-of-length-le text {i = at} h)

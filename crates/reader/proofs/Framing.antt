@@ -1,18 +1,13 @@
--- Laws of frames: a line's frame field by field, and the first of a text's frames.
--- Assumes nothing.
-use Prim.Native.Nat.{ℕ, _+_, _-_, _<_, _≤_}
-use mathlib.Core.Path.{_≡_, sym, ap, _∙_}
-use mathlib.Core.List.{List, [], _∷_, map}
-use lib.ListN.{length, take, drop}
+-- Laws of a line's frame: its kind, and field by field. Assumes nothing.
+use Prim.Native.Nat.{ℕ, _+_, _-_}
+use mathlib.Core.Path.{_≡_, ap, _∙_}
+use mathlib.Core.List.{List}
+use lib.ListN.{length}
 use borrow.Author.Tests.{eq-eqb, ne-eqb}
-use Rattle.lists.specs.Filters.{firstAt}
-use Rattle.frames.specs.Hex.{fieldAt, feed}
-use Rattle.frames.specs.Frames.{noFrame, with, withFields, frameOf, ofKind, frame, head, tail}
-use Rattle.frames.specs.Reached.{framesFrom, IsLine}
-use Rattle.frames.specs.declared.Field.{Field}
-use Rattle.frames.specs.declared.Field.the-variants.{Number, Malformed}
-use Rattle.frames.specs.declared.Frame.{Frame}
-use Rattle.frames.proofs.Spelling.{lines-from, lines-past}
+use Rattle.reader.specs.Hex.{fieldAt}
+use Rattle.reader.specs.Frame.{noFrame, with, withFields, frameOf, ofKind, frame}
+use Rattle.reader.specs.declared.Field.{Field}
+use Rattle.reader.specs.declared.Field.the-variants.{Number, Malformed}
 
 pub other-length : (kind a b c d : ℕ) (line : List ℕ) → (length line ≡ 2 + a + b + c + d → ⊥) → frameOf kind a b c d line ≡ noFrame
 unfolding frameOf
@@ -53,22 +48,3 @@ module _ (line : List ℕ) {k : ℕ} (e : fieldAt line 0 2 ≡ Number k) where
   pub is-other : (k ≡ 0xa1 → ⊥) → (k ≡ 0xa2 → ⊥) → (k ≡ 0xa3 → ⊥) → (k ≡ 0xaf → ⊥) → frame line ≡ noFrame
   unfolding ofKind
   is-other n m l o = kind-is ∙ rw (ne-eqb k 0xa1 n, ne-eqb k 0xa2 m, ne-eqb k 0xa3 l, ne-eqb k 0xaf o)
-
--- the frame at a place
-pub line-past : (text : List ℕ) (at : ℕ) {f : Frame} → length text ≤ at → f ≡ noFrame → IsLine text at f at
-unfolding framesFrom head tail
-line-past text at h e =
-    let n : framesFrom text at ≡ [] = ap (map frame) (lines-past text at h) in
-    record { its-frame = e ∙ sym (ap head n); the-rest = n ∙ sym (ap tail n) }
-
--- after the line feed or at the text's end
-pub line-there : (text : List ℕ) (at e next : ℕ) {f : Frame} → at < length text → e ≡ at + firstAt feed (drop at text) →
-    f ≡ frame (take (e - at) (drop at text)) → framesFrom text next ≡ framesFrom text (e + 1) → IsLine text at f next
-unfolding framesFrom head tail
-line-there text at e next h g k r =
-    let n : framesFrom text at ≡ frame (take (e - at) (drop at text)) ∷ framesFrom text (e + 1) = ap (map frame) (lines-from text at e h g) in
-    record { its-frame = k ∙ sym (ap head n); the-rest = r ∙ sym (ap tail n) }
-
-pub both-past : (text : List ℕ) (i j : ℕ) → length text ≤ i → length text ≤ j → framesFrom text i ≡ framesFrom text j
-unfolding framesFrom
-both-past text i j h g = ap (map frame) (lines-past text i h ∙ sym (lines-past text j g))
