@@ -1,7 +1,7 @@
 // Holds `test` against a record of a replay file (oracle/README.md).
+use chances::Chance;
 use outcome::number_of;
 use permanova::Answer;
-use permanova::Chance;
 use permanova::TestResult;
 use permanova::test;
 use replay::Held;

@@ -1,0 +1,34 @@
+-- `frames::read_header` meets its contract. The tests say whether the first frame is a header.
+-- Assumes nothing.
+use Prim.Native.Nat.{_-_}
+use borrow.Author.Needs.{needs}
+use Rattle.frames.specs.Reached.{OpenedBy}
+use Rattle.frames.proofs.Taking.{not-a1, too-many, not-a-flag, is-header}
+use Rattle.frames.proofs.read_header.Statement.{statement}
+use Rattle.frames.proofs.read_header.Tie as tie
+
+line-at-requires : tie.Need-line-at-requires
+line-at-requires c κs = search needs
+
+returns : tie.Need-returns
+unfolding OpenedBy
+returns c = not-a1 (c .before .before .before .line-at .ensures) (c .if1 .taken)
+
+returns-2 : tie.Need-returns-2
+unfolding OpenedBy
+returns-2 c = too-many (c .before .before .before .before .before .line-at .ensures) (c .before .before .if1 .left) (c .if2 .taken)
+
+returns-3 : tie.Need-returns-3
+unfolding OpenedBy
+returns-3 c = not-a-flag (c .before .before .before .before .before .before .before .line-at .ensures) (c .before .before .before .before .if1 .left) (c .before .before .if2 .left) (c .if3 .taken)
+
+cast-t5 : tie.Need-cast-t5
+cast-t5 c = search needs
+
+returns-4 : tie.Need-returns-4
+unfolding OpenedBy
+returns-4 c = is-header (c .before .before .before .before .before .before .before .before .before .line-at .ensures) (c .before .before .before .before .before .before .if1 .left) (c .before .before .before .before .if2 .left) (c .before .before .if3 .left)
+
+pub read-header-spec : {M : Type 1} → statement M
+read-header-spec =
+    tie.close (tie.spec line-at-requires returns returns-2 returns-3 cast-t5 returns-4)

@@ -1,0 +1,17 @@
+-- Section 7: the lines of a text. Definitions only.
+use Prim.Native.Nat.{ℕ}
+use mathlib.Core.Bool.{Bool, true, false}
+use mathlib.Core.List.{List, [], _∷_}
+use lib.Dec.{eqb}
+
+-- a line feed
+abbrev pub feed : ℕ → Bool
+feed c = eqb c 10
+
+-- the lines of a text, without their line feeds; only the last may lack its own
+unfoldable pub lines : List ℕ → List (List ℕ)
+lines [] = []
+lines (c ∷ rest) = elim (feed c) as (λ b. List (List ℕ)) [
+  | true ↦ [] ∷ lines rest
+  | false ↦ elim (lines rest) as (λ ls. List (List ℕ)) [ [] ↦ (c ∷ []) ∷ [] | l ∷ ls ↦ (c ∷ l) ∷ ls ]
+]

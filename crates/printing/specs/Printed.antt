@@ -1,0 +1,77 @@
+-- Section 7: what `lotjudge` prints. Definitions only.
+use Prim.Native.Nat.{ℕ}
+use mathlib.Core.List.{List, _++_}
+use lib.ListN.{length}
+use Rattle.float.specs.Floats.{bits}
+use Rattle.lists.specs.Writes.{over}
+use Rattle.outcome.specs.declared.Refusal.{Refusal}
+use Rattle.outcome.specs.Refusals.{number}
+use Rattle.outcome.specs.Outcome.{Outcome, answered, refused}
+use Rattle.statistics.specs.declared.Statistic.{Statistic}
+use Rattle.statistics.specs.declared.Statistic.the-variants.{Finite, Unbounded}
+use Rattle.printing.specs.Hex.{hex, feed}
+use Rattle.printing.specs.declared.Assignment.{Assignment}
+use Rattle.printing.specs.declared.Assignment.the-variants.{Right, Withheld}
+use Rattle.printing.specs.declared.Verdict.{Verdict}
+use Rattle.printing.specs.declared.Answer.{Answer}
+use Rattle.printing.specs.declared.Answer.the-variants.{Judged, Refused}
+
+-- 01 finite, 00 unbounded; F's bits, 0 if unbounded
+abbrev pub stateOf : Statistic → ℕ
+stateOf (Finite f) = 1
+stateOf Unbounded = 0
+
+abbrev pub patternOf : Statistic → ℕ
+patternOf (Finite f) = bits f
+patternOf Unbounded = 0
+
+-- 01 given, 02 none; how many are right, 0 if none is given
+abbrev pub givenOf : Assignment → ℕ
+givenOf (Right r) = 1
+givenOf Withheld = 2
+
+abbrev pub rightOf : Assignment → ℕ
+rightOf (Right r) = r
+rightOf Withheld = 0
+
+-- a line of a statistic: state, F bits, hits
+unfoldable pub testedLine : ℕ → Statistic → ℕ → List ℕ
+testedLine kind s hits = hex 2 kind ++ hex 2 (stateOf s) ++ hex 16 (patternOf s) ++ hex 8 hits ++ feed
+
+-- the line of the assignment: state, right, hits
+unfoldable pub assignedLine : Assignment → ℕ → List ℕ
+assignedLine a hits = hex 2 0xb5 ++ hex 2 (givenOf a) ++ hex 2 (rightOf a) ++ hex 8 hits ++ feed
+
+-- kept, groups, M; location; dispersion; warnings; the assignment
+unfoldable pub verdictLines : Verdict → List ℕ
+verdictLines v =
+    (hex 2 0xb1 ++ hex 2 (v .kept) ++ hex 2 (v .groups) ++ hex 8 (v .ways) ++ feed)
+    ++ testedLine 0xb2 (v .location .statistic) (v .location .hits)
+    ++ testedLine 0xb3 (v .dispersion .statistic) (v .dispersion .hits)
+    ++ (hex 2 0xb4 ++ hex 2 (v .warnings) ++ feed)
+    ++ assignedLine (v .assigned .assignment) (v .assigned .hits)
+
+-- A refusal prints only its number.
+unfoldable pub refusalLine : Refusal → List ℕ
+refusalLine r = hex 2 0xbf ++ hex 2 (number r) ++ feed
+
+unfoldable pub printed : Outcome Verdict → List ℕ
+printed (answered v) = verdictLines v
+printed (refused r) = refusalLine r
+
+-- ---- how a contract says it: how many bytes are printed, and what the slice holds
+
+pub record Page : Type 0 where
+  pub size : ℕ
+  pub bytes : List ℕ
+
+abbrev pub page : ℕ → List ℕ → Page
+page size bytes = record { size = size; bytes = bytes }
+
+-- the text at the front of a slice
+unfoldable pub onto : List ℕ → List ℕ → Page
+onto text before = record { size = length text; bytes = over text before }
+
+abbrev pub outcomeOf : Answer → Outcome Verdict
+outcomeOf (Judged v) = answered v
+outcomeOf (Refused r) = refused r

@@ -1,0 +1,213 @@
+// The output of `lotjudge` (document 01, section 7): the lines of a verdict or a refusal.
+ghost use mathlib.Core.Path.{_≡_};
+ghost use mathlib.Core.List.{_++_};
+ghost use Prim.Native.Nat.{_+_, _<_, _≤_};
+ghost use lib.ListN.{length};
+ghost use Rattle.printing.specs.Hex.{digit, hex, feed};
+ghost use Rattle.printing.specs.Printed.{stateOf, patternOf, givenOf, rightOf, testedLine, assignedLine, verdictLines, refusalLine, printed, page, onto, outcomeOf};
+ghost use Rattle.printing.specs.Wrote.{Wrote};
+use outcome::Refusal;
+use statistics::Statistic;
+
+// How many kept samples the discriminant scores place right, or none.
+pub enum Assignment {
+    Right(usize),
+    Withheld,
+}
+
+// A statistic of the observed way, and its hits.
+pub struct Tested {
+    pub statistic: Statistic,
+    pub hits: usize,
+}
+
+// The assignment of the observed way, and its hits.
+pub struct Assigned {
+    pub assignment: Assignment,
+    pub hits: usize,
+}
+
+// What is printed of a lot that was judged.
+pub struct Verdict {
+    // kept samples, groups, and M
+    pub kept: usize,
+    pub groups: usize,
+    pub ways: usize,
+    pub location: Tested,
+    pub dispersion: Tested,
+    pub warnings: u8,
+    pub assigned: Assigned,
+}
+
+pub enum Answer {
+    Judged(Verdict),
+    Refused(Refusal),
+}
+
+// ---- numbers
+
+// A digit in lower case.
+fn digit_of(v: u64) -> u8
+    requires { ⌜ v < 16 ⌝ }
+    ensures { λ r. ⌜ r ≡ digit v ⌝ }
+{
+    if v < 10 {
+        (48 + v) as u8
+    } else {
+        (87 + v) as u8
+    }
+}
+
+// Writes v in count digits from place at on.
+fn put_hex(out: &mut [u8], at: usize, count: usize, v: u64) -> usize
+    requires { ⌜ (at + count ≤ length (now out)) × (count ≤ 16) ⌝ }
+    ensures { λ r. ⌜ Wrote (now (out .entry)) at count (hex count v) (now (out .exit)) r ⌝ }
+{
+    let mut i = 0;
+    while i < count {
+        let shift = 4 * (count - i - 1);
+        out[at + i] = digit_of((v >> shift) % 16);
+        i += 1;
+    }
+    at + count
+}
+
+fn put_feed(out: &mut [u8], at: usize) -> usize
+    requires { ⌜ at < length (now out) ⌝ }
+    ensures { λ r. ⌜ Wrote (now (out .entry)) at 1 feed (now (out .exit)) r ⌝ }
+{
+    out[at] = 10;
+    at + 1
+}
+
+// ---- lines
+
+// A line of a kind with one number of two digits.
+fn put_short(out: &mut [u8], at: usize, kind: u64, x: u64) -> usize
+    requires { ⌜ at + 5 ≤ length (now out) ⌝ }
+    ensures { λ r. ⌜ Wrote (now (out .entry)) at 5 (hex 2 kind ++ hex 2 x ++ feed) (now (out .exit)) r ⌝ }
+{
+    let p = put_hex(out, at, 2, kind);
+    let q = put_hex(out, p, 2, x);
+    put_feed(out, q)
+}
+
+// A line of a kind with numbers of 2, count and 8 digits.
+fn put_line(out: &mut [u8], at: usize, kind: u64, x: u64, count: usize, y: u64, z: u64) -> usize
+    requires { ⌜ (at + (2 + 2 + count + 8 + 1) ≤ length (now out)) × (count ≤ 16) ⌝ }
+    ensures { λ r. ⌜ Wrote (now (out .entry)) at (2 + 2 + count + 8 + 1) (hex 2 kind ++ hex 2 x ++ hex count y ++ hex 8 z ++ feed) (now (out .exit)) r ⌝ }
+{
+    let p = put_hex(out, at, 2, kind);
+    let q = put_hex(out, p, 2, x);
+    let r = put_hex(out, q, count, y);
+    let s = put_hex(out, r, 8, z);
+    put_feed(out, s)
+}
+
+// ---- the values of each case
+
+fn state_of(s: Statistic) -> u64
+    ensures { λ r. ⌜ r ≡ stateOf s ⌝ }
+{
+    match s {
+        Statistic::Finite(_) => 1,
+        Statistic::Unbounded => 0,
+    }
+}
+
+fn pattern_of(s: Statistic) -> u64
+    ensures { λ r. ⌜ r ≡ patternOf s ⌝ }
+{
+    match s {
+        Statistic::Finite(f) => {
+            if f != f {
+                return 0x7ff8_0000_0000_0000;
+            }
+            f64::to_bits(f)
+        }
+        Statistic::Unbounded => 0,
+    }
+}
+
+fn given_of(a: Assignment) -> u64
+    ensures { λ r. ⌜ r ≡ givenOf a ⌝ }
+{
+    match a {
+        Assignment::Right(_) => 1,
+        Assignment::Withheld => 2,
+    }
+}
+
+fn right_of(a: Assignment) -> u64
+    ensures { λ r. ⌜ r ≡ rightOf a ⌝ }
+{
+    match a {
+        Assignment::Right(n) => n as u64,
+        Assignment::Withheld => 0,
+    }
+}
+
+// ---- the lines of a verdict
+
+fn put_tested(out: &mut [u8], at: usize, kind: u64, t: Tested) -> usize
+    requires { ⌜ at + 29 ≤ length (now out) ⌝ }
+    ensures { λ r. ⌜ Wrote (now (out .entry)) at 29 (testedLine kind (t .statistic) (t .hits)) (now (out .exit)) r ⌝ }
+{
+    let s = t.statistic;
+    put_line(out, at, kind, state_of(s), 16, pattern_of(s), t.hits as u64)
+}
+
+fn put_assigned(out: &mut [u8], at: usize, t: Assigned) -> usize
+    requires { ⌜ at + 15 ≤ length (now out) ⌝ }
+    ensures { λ r. ⌜ Wrote (now (out .entry)) at 15 (assignedLine (t .assignment) (t .hits)) (now (out .exit)) r ⌝ }
+{
+    let a = t.assignment;
+    put_line(out, at, 0xb5, given_of(a), 2, right_of(a), t.hits as u64)
+}
+
+fn print_verdict(v: Verdict, out: &mut [u8]) -> usize
+    requires { ⌜ 93 ≤ length (now out) ⌝ }
+    ensures { λ r. ⌜ Wrote (now (out .entry)) 0 93 (verdictLines v) (now (out .exit)) r ⌝ }
+{
+    let location = v.location;
+    let dispersion = v.dispersion;
+    let assigned = v.assigned;
+    let p = put_line(
+        out,
+        0,
+        0xb1,
+        v.kept as u64,
+        2,
+        v.groups as u64,
+        v.ways as u64,
+    );
+    let q = put_tested(out, p, 0xb2, location);
+    let r = put_tested(out, q, 0xb3, dispersion);
+    let s = put_short(out, r, 0xb4, v.warnings as u64);
+    put_assigned(out, s, assigned)
+}
+
+fn print_refusal(r: Refusal, out: &mut [u8]) -> usize
+    requires { ⌜ 5 ≤ length (now out) ⌝ }
+    ensures { λ n. ⌜ Wrote (now (out .entry)) 0 5 (refusalLine r) (now (out .exit)) n ⌝ }
+{
+    put_short(out, 0, 0xbf, outcome::number_of(r) as u64)
+}
+
+// `print` on a slice.
+pub fn print_into(a: Answer, out: &mut [u8]) -> usize
+    requires { ⌜ 93 ≤ length (now out) ⌝ }
+    ensures { λ r. ⌜ page r (now (out .exit)) ≡ onto (printed (outcomeOf a)) (now (out .entry)) ⌝ }
+{
+    match a {
+        Answer::Judged(v) => print_verdict(v, out),
+        Answer::Refused(r) => print_refusal(r, out),
+    }
+}
+
+// Prints a verdict or a refusal at the front of `out`; the answer is the number of bytes.
+pub fn print(a: Answer, out: &mut [u8; 93]) -> usize
+    ensures { λ r. ⌜ page r (now (out .exit)) ≡ onto (printed (outcomeOf a)) (now (out .entry)) ⌝ }
+{
+    print_into(a, out)
+}

@@ -1,0 +1,50 @@
+-- Laws of a line's frame: its kind, and field by field. Assumes nothing.
+use Prim.Native.Nat.{ℕ, _+_, _-_}
+use mathlib.Core.Path.{_≡_, ap, _∙_}
+use mathlib.Core.List.{List}
+use lib.ListN.{length}
+use borrow.Author.Tests.{eq-eqb, ne-eqb}
+use Rattle.reader.specs.Hex.{fieldAt}
+use Rattle.reader.specs.Frame.{noFrame, with, withFields, frameOf, ofKind, frame}
+use Rattle.reader.specs.declared.Field.{Field}
+use Rattle.reader.specs.declared.Field.the-variants.{Number, Malformed}
+
+pub other-length : (kind a b c d : ℕ) (line : List ℕ) → (length line ≡ 2 + a + b + c + d → ⊥) → frameOf kind a b c d line ≡ noFrame
+unfolding frameOf
+other-length kind a b c d line h = rw (ne-eqb (length line) (2 + a + b + c + d) h)
+
+pub by-fields : (kind a b c d : ℕ) (line : List ℕ) {x y z w : Field} → length line ≡ 2 + a + b + c + d →
+    fieldAt line 2 a ≡ x → fieldAt line (2 + a) b ≡ y → fieldAt line (2 + a + b) c ≡ z → fieldAt line (2 + a + b + c) d ≡ w →
+    frameOf kind a b c d line ≡ withFields kind x y z w
+unfolding frameOf
+by-fields kind a b c d line h e f g i = rw (eq-eqb (length line) (2 + a + b + c + d) h) (cc)
+
+-- which kind a line is
+pub no-kind : (line : List ℕ) → fieldAt line 0 2 ≡ Malformed → frame line ≡ noFrame
+unfolding frame
+no-kind line e = ap (λ (f : Field). with f (ofKind line)) e
+
+module _ (line : List ℕ) {k : ℕ} (e : fieldAt line 0 2 ≡ Number k) where
+  kind-is : frame line ≡ ofKind line k
+  unfolding frame
+  kind-is = ap (λ (f : Field). with f (ofKind line)) e
+
+  pub is-a1 : k ≡ 0xa1 → frame line ≡ frameOf 0xa1 2 2 0 0 line
+  unfolding ofKind
+  is-a1 h = kind-is ∙ rw (eq-eqb k 0xa1 h)
+
+  pub is-a2 : (k ≡ 0xa1 → ⊥) → k ≡ 0xa2 → frame line ≡ frameOf 0xa2 2 4 4 0 line
+  unfolding ofKind
+  is-a2 n h = kind-is ∙ rw (ne-eqb k 0xa1 n, eq-eqb k 0xa2 h)
+
+  pub is-a3 : (k ≡ 0xa1 → ⊥) → (k ≡ 0xa2 → ⊥) → k ≡ 0xa3 → frame line ≡ frameOf 0xa3 2 2 0 16 line
+  unfolding ofKind
+  is-a3 n m h = kind-is ∙ rw (ne-eqb k 0xa1 n, ne-eqb k 0xa2 m, eq-eqb k 0xa3 h)
+
+  pub is-af : (k ≡ 0xa1 → ⊥) → (k ≡ 0xa2 → ⊥) → (k ≡ 0xa3 → ⊥) → k ≡ 0xaf → frame line ≡ frameOf 0xaf 0 0 0 0 line
+  unfolding ofKind
+  is-af n m l h = kind-is ∙ rw (ne-eqb k 0xa1 n, ne-eqb k 0xa2 m, ne-eqb k 0xa3 l, eq-eqb k 0xaf h)
+
+  pub is-other : (k ≡ 0xa1 → ⊥) → (k ≡ 0xa2 → ⊥) → (k ≡ 0xa3 → ⊥) → (k ≡ 0xaf → ⊥) → frame line ≡ noFrame
+  unfolding ofKind
+  is-other n m l o = kind-is ∙ rw (ne-eqb k 0xa1 n, ne-eqb k 0xa2 m, ne-eqb k 0xa3 l, ne-eqb k 0xaf o)
