@@ -3,3 +3,4 @@ pub mod Taking
 pub mod Pairing
 pub mod Patterns
 pub mod Reading
+pub mod Fits

@@ -27,7 +27,7 @@ use Rattle.reader.specs.declared.Frame.{Frame}
 
 -- ---- tests joined by "and" and "or"
 
-both : (a b : Bool) → (a && b) ≡ true → (a ≡ true) × (b ≡ true)
+pub both : (a b : Bool) → (a && b) ≡ true → (a ≡ true) × (b ≡ true)
 both true b e = (refl, e)
 both false b e = absurd (false≢true e)
 
@@ -83,7 +83,7 @@ joins-self : (f : Frame) → joins (f .first) (f .second) f ≡ true
 unfolding joins
 joins-self f = rw (eq-eqb (f .first) (f .first) refl, eq-eqb (f .second) (f .second) refl)
 
-joins-turn : (i j : ℕ) (f : Frame) → joins i j f ≡ joins j i f
+pub joins-turn : (i j : ℕ) (f : Frame) → joins i j f ≡ joins j i f
 unfolding joins
 joins-turn i j f = or-comm (eqb (f .first) i && eqb (f .second) j) (eqb (f .first) j && eqb (f .second) i)
 
@@ -92,7 +92,7 @@ unfolding any
 any-turn i j [] = refl
 any-turn i j (f ∷ fs) = ap₂ (λ (a b : Bool). a || b) (joins-turn i j f) (any-turn i j fs)
 
-joined : (i j : ℕ) (f : Frame) → joins i j f ≡ true → ((f .first ≡ i) × (f .second ≡ j)) ⊎ ((f .first ≡ j) × (f .second ≡ i))
+pub joined : (i j : ℕ) (f : Frame) → joins i j f ≡ true → ((f .first ≡ i) × (f .second ≡ j)) ⊎ ((f .first ≡ j) × (f .second ≡ i))
 unfolding joins
 joined i j f e = ⊎-elim (λ t. inl (is i j t)) (λ t. inr (is j i t)) (either (eqb (f .first) i && eqb (f .second) j) (eqb (f .first) j && eqb (f .second) i) e)
   where
