@@ -112,6 +112,7 @@ described-fits h samples pairs e m u =
       strata = length-map (λ f. f .third) samples ∙ m;
       distances = length-grid n n (distance pairs);
       unweighted = refl;
+      weights = refl;
       symmetric = λ i j g k. entry-grid n n (distance pairs) i j g k ∙ distance-turn pairs i j ∙ sym (entry-grid n n (distance pairs) j i k g);
       diagonal = λ i g. entry-grid n n (distance pairs) i i g g ∙ distance-diagonal pairs i u;
     }

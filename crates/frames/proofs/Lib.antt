@@ -4,3 +4,4 @@ pub mod Pairing
 pub mod Patterns
 pub mod Reading
 pub mod Fits
+pub mod Fronts
