@@ -1,7 +1,7 @@
 -- Every lot that is read fits its n, is symmetric and has a diagonal of 0; so the table's first line does not hold for it. Assumes nothing.
 use Prim.Native.Nat.{ℕ, zero, suc, _+_, _*_}
 use mathlib.Core.Path.{_≡_, refl, sym, ap, ap₂, _∙_, subst}
-use mathlib.Core.Bool.{Bool, true, false, not, _&&_, _||_, cond, false≢true}
+use mathlib.Core.Bool.{Bool, true, false, not, _&&_, _||_, cond}
 use mathlib.Core.List.{List, [], _∷_, _++_, map}
 use mathlib.Core.Logic.{⊎-elim}
 use native.Mathlib.Omega.{arith}
@@ -9,9 +9,9 @@ use native.Mathlib.Nat.{zero-add}
 use lib.Dec.{eqb, leb, ltb}
 use lib.ListN.{length, length-append}
 use lib.Ieee.{Float}
-use borrow.Author.Tests.{eq-eqb, leb-true, ltb-true}
+use borrow.Author.Tests.{eq-eqb, leb-true, ltb-true, lt-ltb}
 use Rattle.float.specs.Floats.{f64, zero⁺}
-use Rattle.lists.specs.Filters.{any, all}
+use Rattle.lists.specs.Filters.{all}
 use Rattle.lists.proofs.Ranges.{length-grid}
 use Rattle.lists.proofs.Rows.{entry-grid}
 use Rattle.outcome.specs.Outcome.{Outcome, answered, refused, andThen}
@@ -24,7 +24,7 @@ use Rattle.frames.specs.Frames.{isHeader, isSample, joins, isPair, pairC
 use Rattle.frames.specs.Fits.{Fits}
 use Rattle.frames.proofs.Taking.{length-map}
 use Rattle.frames.proofs.Reading.{final, from-pairs, from-samples}
-use Rattle.frames.proofs.Pairing.{both, joins-turn, joined}
+use Rattle.frames.proofs.Pairing.{both, joins-turn, joined, pair-tests}
 
 -- ---- what was answered, step by step
 
@@ -47,7 +47,7 @@ by-step (refused r) f e = let z : _≡_ {A = ℕ} 0 1 = cc in absurd (omega arit
 
 -- ---- the frames that were taken
 
-several-length : (may : List Frame → Frame → Bool) (m : ℕ) (before fs : List Frame) (t : Taken) → several may m before fs ≡ answered t → length (t .taken) ≡ length before + m
+pub several-length : (may : List Frame → Frame → Bool) (m : ℕ) (before fs : List Frame) (t : Taken) → several may m before fs ≡ answered t → length (t .taken) ≡ length before + m
 unfolding several
 several-length may zero before fs t e =
     let same : t .taken ≡ before = cc in ap length same ∙ omega arith
@@ -65,19 +65,20 @@ all-last (g ∷ fs) f h e =
     let s = both (up g) (all up fs) h in
     ap₂ (λ (a b : Bool). a && b) (s .0) (all-last fs f (s .1) e)
 
-several-up : (n m : ℕ) (before fs : List Frame) (t : Taken) → all up before ≡ true → several (isPair n) m before fs ≡ answered t → all up (t .taken) ≡ true
-unfolding several isPair up
-several-up n zero before fs t h e = let same : t .taken ≡ before = cc in ap (all up) same ∙ h
-several-up n (suc m) before fs t h e =
-    let s = by-test (isPair n before (head fs)) (several (isPair n) m (before ++ (head fs ∷ [])) (tail fs)) e in
-    several-up n m (before ++ (head fs ∷ [])) (tail fs) t
-    (all-last before (head fs) h (second (eqb (head fs .kind) 0xa3) (up (head fs)) (ltb (head fs .second) n) (not (any (joins (head fs .first) (head fs .second)) before)) (s .0)))
-    (s .1)
-  where
-    second : (a b c e : Bool) → (a && b && c && e) ≡ true → b ≡ true
-    second true true c e h = refl
-    second true false c e h = h
-    second false b c e h = absurd (false≢true h)
+-- what each frame keeps holds of all that are taken
+pub several-keeps : (may : List Frame → Frame → Bool) (P : List Frame → Type 0) →
+    ((before : List Frame) (f : Frame) → may before f ≡ true → P before → P (before ++ (f ∷ []))) →
+    (m : ℕ) (before fs : List Frame) (t : Taken) → P before → several may m before fs ≡ answered t → P (t .taken)
+unfolding several
+several-keeps may P keeps zero before fs t h e = let same : before ≡ t .taken = cc in subst P same h
+several-keeps may P keeps (suc m) before fs t h e =
+    let s = by-test (may before (head fs)) (several may m (before ++ (head fs ∷ [])) (tail fs)) e in
+    several-keeps may P keeps m (before ++ (head fs ∷ [])) (tail fs) t (keeps before (head fs) (s .0) h) (s .1)
+
+several-up : (n m : ℕ) (fs : List Frame) (t : Taken) → several (isPair n) m [] fs ≡ answered t → all up (t .taken) ≡ true
+unfolding up all
+several-up n m fs t e =
+    several-keeps (isPair n) (λ ps. all up ps ≡ true) (λ before f g h. all-last before f h (lt-ltb (f .first) (f .second) (pair-tests n before f g .0))) m [] fs t refl e
 
 -- ---- distances
 
@@ -129,7 +130,7 @@ in-fits fs lot e =
     subst Fits same
     (described-fits (head fs) (s .value .taken) (p .value .taken) (h .0)
     (several-length isSample n [] (tail fs) (s .value) (s .before) ∙ zero-add n)
-    (several-up n (pairCount n) [] (s .value .rest) (p .value) refl (p .before)))
+    (several-up n (pairCount n) (s .value .rest) (p .value) (p .before)))
 
 pub read-fits : (text : List ℕ) (lot : Lot) → readLot text ≡ answered lot → Fits lot
 unfolding readLot

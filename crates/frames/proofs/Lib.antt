@@ -5,3 +5,4 @@ pub mod Patterns
 pub mod Reading
 pub mod Fits
 pub mod Fronts
+pub mod Complete
