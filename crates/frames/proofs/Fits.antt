@@ -31,16 +31,16 @@ use Rattle.frames.proofs.Pairing.{both, joins-turn, joined, pair-tests}
 never : {A : Type 0} {B : Type 0} {o : Outcome A} {a : A} → o ≡ malformed → o ≡ answered a → B
 never e g = let z : _≡_ {A = ℕ} 0 1 = cc in absurd (omega arith)
 
-by-test : {A : Type 0} (b : Bool) (o : Outcome A) {a : A} → cond b o malformed ≡ answered a → (b ≡ true) × (o ≡ answered a)
+pub by-test : {A : Type 0} (b : Bool) (o : Outcome A) {a : A} → cond b o malformed ≡ answered a → (b ≡ true) × (o ≡ answered a)
 by-test true o e = (refl, e)
 by-test false o e = never refl e
 
-record Then {A B : Type 0} (o : Outcome A) (f : A → Outcome B) (b : B) : Type 0 where
-  value : A
-  before : o ≡ answered value
-  after : f value ≡ answered b
+pub record Then {A B : Type 0} (o : Outcome A) (f : A → Outcome B) (b : B) : Type 0 where
+  pub value : A
+  pub before : o ≡ answered value
+  pub after : f value ≡ answered b
 
-by-step : {A B : Type 0} (o : Outcome A) (f : A → Outcome B) {b : B} → andThen o f ≡ answered b → Then o f b
+pub by-step : {A B : Type 0} (o : Outcome A) (f : A → Outcome B) {b : B} → andThen o f ≡ answered b → Then o f b
 unfolding andThen
 by-step (answered a) f e = record { value = a; before = refl; after = e }
 by-step (refused r) f e = let z : _≡_ {A = ℕ} 0 1 = cc in absurd (omega arith)

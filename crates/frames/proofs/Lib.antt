@@ -6,3 +6,4 @@ pub mod Reading
 pub mod Fits
 pub mod Fronts
 pub mod Complete
+pub mod Longest

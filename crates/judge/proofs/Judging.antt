@@ -2,6 +2,7 @@
 use Prim.Native.Nat.{ℕ}
 use mathlib.Core.Path.{_≡_, sym, ap, _∙_}
 use mathlib.Core.List.{List}
+use lib.ListN.{take}
 use lib.Ieee.{Float}
 use Rattle.outcome.specs.declared.Refusal.{Refusal}
 use Rattle.outcome.specs.Outcome.{Outcome, refused, andThen}
@@ -10,6 +11,7 @@ use Rattle.frames.specs.Call.{readCall, called}
 use Rattle.frames.specs.declared.Header.{Header}
 use Rattle.frames.specs.declared.Answer.the-variants.{Read, Refused}
 use Rattle.frames.proofs.Fronts.{fronts, read-fronts, read-refused}
+use Rattle.frames.proofs.Longest.{front-tells}
 use Rattle.printing.specs.Printed.{printed, page, onto}
 use Rattle.printing.specs.declared.Verdict.{Verdict}
 use Rattle.judge.specs.Judge.{judgeText}
@@ -28,3 +30,8 @@ module _ (judgement : Lot → Outcome Verdict) (text : List ℕ) {l s : List ℕ
       page size new ≡ onto (printed (refused x)) out → page size new ≡ onto (judgeText judgement text) out
   unfolding judgeText andThen
   turned-away out e p = p ∙ ap (λ (o : Outcome Lot). onto (printed (andThen o judgement)) out) (sym (read-refused text e))
+
+-- the first 11,835 bytes of a text tell what is printed
+pub front-enough : (judgement : Lot → Outcome Verdict) (text : List ℕ) → judgeText judgement (take 11835 text) ≡ judgeText judgement text
+unfolding judgeText
+front-enough judgement text = ap (λ (o : Outcome Lot). printed (andThen o judgement)) (front-tells text)
