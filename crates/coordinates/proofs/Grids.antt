@@ -7,8 +7,7 @@ use lib.ListN.{length, getD, take, drop}
 use lib.Ieee.{Float, nan}
 use borrow.Rule.Slice.PartMut.{putMid}
 use Rattle.lists.specs.Ranges.{table, rows, grid}
-use Rattle.lists.specs.Rows.{entry, row}
-use Rattle.lists.specs.Writes.{over}
+use Rattle.lists.specs.Rows.{entry}
 use Rattle.lists.proofs.Ranges.{length-table, length-rows, table-ext}
 use Rattle.lists.proofs.Rows.{part-row, getD-row}
 use Rattle.lists.proofs.Writes.{Filling, filling-none, filling-next, filling-all, getD-behind}

@@ -1,7 +1,5 @@
 -- `hash_pca::hash_pca` meets its contract. The lengths and the components are judged first.
 -- Assumes nothing.
-use Rattle.gram.specs.declared.Answer.the-variants as answer
-use Rattle.gram.specs.Call as of-gram
 use mathlib.Core.Path.{sym, _∙_}
 use Prim.Native.Nat.{_-_}
 use native.Mathlib.Nat.{min-le-right}

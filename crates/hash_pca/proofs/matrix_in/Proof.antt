@@ -1,6 +1,5 @@
 -- `hash_pca::matrix_in` meets its contract. A refusal leaves everything as it was, and an answer the matrix and cleared words.
 -- Assumes nothing.
-use Rattle.gram.specs.declared.Answer.the-variants as answer
 use Rattle.gram.specs.Call as of-gram
 use mathlib.Core.Path.{sym, ap, _∙_, subst}
 use Prim.Native.Nat.{_-_}

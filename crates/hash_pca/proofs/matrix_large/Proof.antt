@@ -1,7 +1,5 @@
 -- `hash_pca::matrix_large` meets its contract. There is room for all hashes that the table allows.
 -- Assumes nothing.
-use Rattle.gram.specs.declared.Answer.the-variants as answer
-use Rattle.gram.specs.Call as of-gram
 use Prim.Native.Nat.{_-_}
 use native.Mathlib.Omega.{arith}
 use borrow.Author.Needs.{needs}

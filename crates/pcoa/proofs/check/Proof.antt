@@ -1,6 +1,5 @@
 -- `pcoa::check` meets its contract. The lines go by their numbers.
 -- Assumes nothing.
-use Rattle.ritz.specs.Given as pairs
 use mathlib.Core.Path.{sym, ap, _∙_}
 use Prim.Native.Nat.{ℕ, _-_}
 use native.Mathlib.Nat.{min-le-right}

@@ -1,6 +1,5 @@
 -- `pcoa::ordinate` meets its contract. The eigenpairs have room of their own.
 -- Assumes nothing.
-use Rattle.ritz.specs.Given as pairs
 use mathlib.Core.Path.{sym}
 use Prim.Native.Nat.{_+_, _*_, _-_, _≤_}
 use native.Mathlib.Nat.{mul-le-mul}

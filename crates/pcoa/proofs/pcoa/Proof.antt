@@ -1,6 +1,5 @@
 -- `pcoa::pcoa` meets its contract. By whether a line of the table holds.
 -- Assumes nothing.
-use Rattle.ritz.specs.Given as pairs
 use mathlib.Core.Path.{sym, _∙_}
 use Prim.Native.Nat.{_-_}
 use borrow.Author.Needs.{needs}

@@ -1,6 +1,5 @@
 -- `pcoa::solve` meets its contract. The centred matrix goes to the front of b.
 -- Assumes nothing.
-use Rattle.ritz.specs.Given as pairs
 use mathlib.Core.Path.{sym, _∙_}
 use Prim.Native.Nat.{_*_, _-_}
 use native.Mathlib.Omega.{arith}
