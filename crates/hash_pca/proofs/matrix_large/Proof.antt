@@ -22,13 +22,13 @@ matrix-in-requires : tie.Need-matrix-in-requires
 matrix-in-requires c κs = ((omega arith, omega arith), ((omega arith, omega arith), c .before .before .before .before .before .before .before .before .before .before .pre))
 
 same-length : tie.Need-same-length
-same-length c = search needs
+same-length c = c .before .before .before .before .before .before .before .before .matrix-in .kept .0
 
 same-length-2 : tie.Need-same-length-2
-same-length-2 c = search needs
+same-length-2 c = c .before .before .before .before .before .before .before .before .matrix-in .kept .1 .0
 
 returns : tie.Need-returns
-returns c = search needs
+returns c = c .before .before .before .before .before .before .before .before .matrix-in .ensures
 
 pub matrix-large-spec : {M : Type 1} → statement M
 matrix-large-spec =
