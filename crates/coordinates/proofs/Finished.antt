@@ -1,13 +1,18 @@
 -- The two parts of an output, values with shares and then coordinates, are what `finish` says. Assumes nothing.
-use mathlib.Core.Path.{_≡_, refl, sym, ap, ap₂, _∙_}
+use mathlib.Core.Path.{_≡_, sym, ap, ap₂, _∙_}
 use mathlib.Core.List.{List, _++_, append-assoc}
 use Prim.Native.Nat.{ℕ, _-_, _≤_}
-use native.Mathlib.Omega.{arith}
 use lib.ListN.{length, take, drop}
 use lib.Seq.{length-take-le}
 use lib.Ieee.{Float}
 use Rattle.lists.proofs.Rows.{part-rest}
 use Rattle.coordinates.specs.Finish.{signs, scales, shares, coords, finish, laid}
+
+-- coordinates from the signs and scales of k eigenpairs
+pub placed : (n k : ℕ) (values vectors : List Float) {j : ℕ} {sg sc out : List Float} → j ≡ k → sg ≡ signs n j vectors → sc ≡ scales values → out ≡ coords n k sg sc vectors
+    → out ≡ coords n k (signs n k vectors) (scales values) vectors
+placed n k values vectors e hg hc h =
+    h ∙ ap₂ (λ (x y : List Float). coords n k x y vectors) (hg ∙ ap (λ (i : ℕ). signs n i vectors) e) hc
 
 pub finished : (n k : ℕ) (total : Float) (pairs : List Float) {x y : List Float} → k ≤ length pairs → x ≡ take k pairs ++ shares total (take k pairs)
     → y ≡ coords n k (signs n k (take (length pairs - k) (drop k pairs))) (scales (take k pairs)) (take (length pairs - k) (drop k pairs))

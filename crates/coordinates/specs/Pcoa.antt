@@ -3,7 +3,7 @@ use Prim.Native.Nat.{ℕ}
 use mathlib.Core.List.{List}
 use lib.Ieee.{Float}
 use Rattle.outcome.specs.Outcome.{Outcome, answered, andThen}
-use Rattle.topeigs.specs.TopEigs.{Pairs, topEigs}
+use Rattle.topeigs.specs.TopEigs.{topEigs}
 use Rattle.gram.specs.Gram.{gram}
 use Rattle.coordinates.specs.Finish.{Coordinates, finish}
 use Rattle.coordinates.specs.Centred.{centred, trace}

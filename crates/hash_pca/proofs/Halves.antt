@@ -1,6 +1,6 @@
 -- The two halves of a call, the matrix and its coordinates, and what they leave. Assumes nothing.
 use mathlib.Core.Path.{_≡_, refl, sym, ap, ap₂, _∙_}
-use mathlib.Core.Bool.{Bool, true, false, _||_, cond}
+use mathlib.Core.Bool.{Bool, true, false, cond}
 use mathlib.Core.List.{List}
 use Prim.Native.Nat.{ℕ, _*_, _/_, _<_, _≤_, min}
 use native.Mathlib.Omega.{arith}
@@ -9,7 +9,6 @@ use lib.Dec.{ltb}
 use lib.ListN.{length, take, replicate}
 use lib.Ieee.{Float}
 use Rattle.float.specs.Floats.{zero⁺}
-use Rattle.lists.specs.Ranges.{grid}
 use Rattle.lists.specs.Writes.{over, cleared}
 use Rattle.lists.proofs.Ranges.{length-grid}
 use Rattle.lists.proofs.Writes.{take-over}
@@ -31,7 +30,7 @@ use Rattle.gram.proofs.Accepted.{Accepted, accepted, checked-gram}
 use Rattle.jacobi.proofs.Extra.{or-false}
 use Rattle.coordinates.specs.Finish.{Coordinates}
 use Rattle.coordinates.specs.Pcoa.{ordinate, hashPca}
-use Rattle.pcoa.specs.Given.{written, Room}
+use Rattle.pcoa.specs.Given.{written}
 use Rattle.pcoa.specs.Call as of-pcoa
 use Rattle.pcoa.specs.Call.{tooShort, badComponents, checkOf}
 use Rattle.pcoa.proofs.Late.{Late, late-work}

@@ -1,7 +1,7 @@
 -- From eigenpairs to coordinates: what is found, and an output of just the length. Assumes nothing.
-use mathlib.Core.Path.{_≡_, refl, sym, ap, ap₂, _∙_}
+use mathlib.Core.Path.{_≡_, sym, ap, ap₂, _∙_}
 use mathlib.Core.List.{List, _++_}
-use Prim.Native.Nat.{ℕ, _+_, _*_, _≤_, min}
+use Prim.Native.Nat.{ℕ, _+_, _*_}
 use native.Mathlib.Omega.{arith}
 use lib.ListN.{length, take, drop, length-append, length-map}
 use lib.Seq.{length-take-le, take-at, drop-at, drop-drop}
@@ -63,7 +63,7 @@ module _ (n k : ℕ) (total : Float) (values vectors : List Float) (many : lengt
 -- ---- of a matrix b
 
 module _ (n k : ℕ) (b out : List Float) (size : length out ≡ k + k + n * k) {found : List Float} where
-  pub ordinate-refused : {new : List Float} (old : List Float) (r : Refusal) → pairs.given k (Refused r) found ≡ pairs.gives k n (topEigs k n b) old → new ≡ cleared zero⁺ out
+  ordinate-refused : {new : List Float} (old : List Float) (r : Refusal) → pairs.given k (Refused r) found ≡ pairs.gives k n (topEigs k n b) old → new ≡ cleared zero⁺ out
       → given k (Refused r) new ≡ gives k n (ordinate k n b) out
   unfolding pairs.gives gives written ordinate andThen
   ordinate-refused {new} old r e h =
@@ -72,7 +72,7 @@ module _ (n k : ℕ) (b out : List Float) (size : length out ≡ k + k + n * k) 
       let late : Late (ordinate k n b) = late-then (topEigs k n b) (λ p. finish n (trace n b) (p .values) (p .vectors)) (late-top k n b) in
       ap₂ (λ (o : Outcome Coordinates) (l : List Float). record { found = o; out = l }) is (late-output laid (k + k + n * k) (ordinate k n b) out (sym is) late size h)
 
-  pub ordinate-answered : {new : List Float} (old : List Float) {total : Float} → pairs.given k Passed found ≡ pairs.gives k n (topEigs k n b) old → length found ≡ k + k * n
+  ordinate-answered : {new : List Float} (old : List Float) {total : Float} → pairs.given k Passed found ≡ pairs.gives k n (topEigs k n b) old → length found ≡ k + k * n
       → total ≡ trace n b → new ≡ laid (finish n total (take k found) (drop k found)) → given k Passed new ≡ gives k n (ordinate k n b) out
   unfolding pairs.gives gives written ordinate andThen output
   ordinate-answered {new} old {total} e len t h =
@@ -87,6 +87,17 @@ module _ (n k : ℕ) (b out : List Float) (size : length out ≡ k + k + n * k) 
       let whole = length-laid n k (trace n b) values vectors many in
       let over-it : new ≡ over (laid (finish n (trace n b) values vectors)) out = made ∙ sym (over-all (laid (finish n (trace n b) values vectors)) out (omega arith)) in
       ap₂ (λ (o : Outcome Coordinates) (l : List Float). record { found = o; out = l }) read (over-it ∙ ap (λ (o : Outcome Coordinates). written k n o out) is)
+
+  -- by what is returned
+  pub refused-by : {new : List Float} (old : List Float) (c : Check) (r : Refusal) → c ≡ Refused r → pairs.given k c found ≡ pairs.gives k n (topEigs k n b) old
+      → new ≡ cleared zero⁺ out → given k c new ≡ gives k n (ordinate k n b) out
+  refused-by {new} old c r q e h =
+      ap (λ (x : Check). given k x new) q ∙ ordinate-refused old r (ap (λ (x : Check). pairs.given k x found) (sym q) ∙ e) h
+
+  pub answered-by : {new : List Float} (old : List Float) (c : Check) {total : Float} → c ≡ Passed → pairs.given k c found ≡ pairs.gives k n (topEigs k n b) old
+      → length found ≡ k + k * n → total ≡ trace n b → new ≡ laid (finish n total (take k found) (drop k found)) → given k c new ≡ gives k n (ordinate k n b) out
+  answered-by {new} old c q e len t h =
+      ap (λ (x : Check). given k x new) q ∙ ordinate-answered old (ap (λ (x : Check). pairs.given k x found) (sym q) ∙ e) len t h
 
 -- ---- of distances d
 

@@ -186,23 +186,25 @@ pub fn too_short(n: usize, k: usize, out: usize, b: usize, w: usize, m: usize, v
     v < s
 }
 
-// The lines of the table, for slices of these lengths.
+// The lines of the table, for slices of these lengths and k leading components.
 fn check(
     d: &[f64],
     n: usize,
     components: usize,
+    k: usize,
     out: usize,
     b: usize,
     w: usize,
     m: usize,
     v: usize,
 ) -> Check
+    requires { ⌜ k ≡ min components n ⌝ }
     ensures { λ r. ⌜ r ≡ first (pcoaLines components n (now (d .entry)) out b w m v) ⌝ }
 {
     if !lot::lines::is_square(d.len(), n) {
         return Check::Refused(Refusal::Length);
     }
-    if too_short(n, leading(components, n), out, b, w, m, v) {
+    if too_short(n, k, out, b, w, m, v) {
         return Check::Refused(Refusal::Length);
     }
     if 256 < n {
@@ -235,10 +237,12 @@ pub fn pcoa(
     ensures { λ r. ⌜ called r (now (out .exit)) (now (b .exit)) (now (w .exit)) (now (m .exit)) (now (v .exit))
         ≡ pcoaCall components n (now (distances .entry)) (now (out .entry)) (now (b .entry)) (now (w .entry)) (now (m .entry)) (now (v .entry)) ⌝ }
 {
+    let k = leading(components, n);
     let c = check(
         distances,
         n,
         components,
+        k,
         out.len(),
         b.len(),
         w.len(),
@@ -247,6 +251,6 @@ pub fn pcoa(
     );
     match c {
         Check::Refused(r) => Check::Refused(r),
-        Check::Passed => solve(distances, n, leading(components, n), out, b, w, m, v),
+        Check::Passed => solve(distances, n, k, out, b, w, m, v),
     }
 }

@@ -1,12 +1,9 @@
 -- `coordinates::centre_in` meets its contract. Squares, their means, the mean of these, and each row centred in its place.
 -- Assumes nothing.
-use mathlib.Core.Path.{ap, ap₂, _∙_}
-use mathlib.Core.List.{List}
 use Prim.Native.Nat.{_-_}
 use borrow.Author.Needs.{needs}
-use lib.Ieee.{Float}
-use Rattle.lists.specs.Ranges.{grid}
-use Rattle.coordinates.specs.Centred.{squares, mean, rowMeans, centredAt, centred}
+use Rattle.coordinates.specs.Centred.{mean}
+use Rattle.coordinates.proofs.Grids.{centred-by}
 use Rattle.coordinates.proofs.centre_in.Statement.{statement}
 use Rattle.coordinates.proofs.centre_in.Tie as tie
 
@@ -29,16 +26,7 @@ same-length-2 : tie.Need-same-length-2
 same-length-2 c = search needs
 
 returns : tie.Need-returns
-unfolding centred
-returns c =
-    let n = c .before .before .before .before .before .before .before .before .before .before .before .before .before .before .before .before .before .before .before .args .n in
-    let d = c .before .before .before .before .before .before .before .before .before .before .before .before .before .before .before .before .before .before .before .args .d .now in
-    let s = c .before .before .before .before .before .before .before .before .before .before .before .before .before .before .fill-squares .ensures in
-    let means = c .before .before .before .before .before .before .before .before .before .fill-means .ensures ∙ ap (rowMeans n) s in
-    let all = c .before .before .before .before .before .mean .ensures ∙ ap (mean n) means in
-    c .before .before .centre-rows .ensures
-    ∙ ap₂ (λ (x y : List Float). grid n n (centredAt n x y (c .before .before .before .before .before .mean .result))) s means
-    ∙ ap (λ (a : Float). grid n n (centredAt n (squares d) (rowMeans n (squares d)) a)) all
+returns c = centred-by (c .before .before .before .before .before .before .before .before .before .before .before .before .before .before .before .before .before .before .before .args .n) (c .before .before .before .before .before .before .before .before .before .before .before .before .before .before .before .before .before .before .before .args .d .now) (c .before .before .before .before .before .before .before .before .before .before .before .before .before .before .fill-squares .ensures) (c .before .before .before .before .before .before .before .before .before .fill-means .ensures) (c .before .before .before .before .before .mean .ensures) (c .before .before .centre-rows .ensures)
 
 pub centre-in-spec : {M : Type 1} → statement M
 centre-in-spec =

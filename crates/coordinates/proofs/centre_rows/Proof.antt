@@ -1,20 +1,18 @@
 -- `coordinates::centre_rows` meets its contract. After i turns the first i rows are centred.
 -- Assumes nothing.
-use mathlib.Core.Path.{refl, sym, ap, _∙_}
-use Prim.Native.Nat.{ℕ, _+_, _*_, _-_}
+use mathlib.Core.Path.{refl, sym, _∙_}
+use Prim.Native.Nat.{_-_}
 use native.Mathlib.Omega.{arith}
-use lib.ListN.{getD, take, drop}
-use lib.Ieee.{nan}
 use Rattle.lists.specs.Ranges.{table}
 use Rattle.lists.proofs.Rows.{row-end, length-part}
 use Rattle.lists.proofs.Writes.{Filling}
-use Rattle.coordinates.specs.Centred.{centring, centredAt}
-use Rattle.coordinates.proofs.Grids.{grid-none, grid-next, grid-all, centred-row}
+use Rattle.coordinates.specs.Centred.{centredAt}
+use Rattle.coordinates.proofs.Grids.{grid-none, grid-next, grid-all, centred-lent}
 use Rattle.coordinates.proofs.centre_rows.Statement.{statement}
 use Rattle.coordinates.proofs.centre_rows.Tie as tie
 
 abbrev Inv-loop : tie.InvT-loop
-Inv-loop b₀ m all n i₀ b i = Filling n n (λ k. table n (centredAt n b₀ m all k)) b₀ b i
+Inv-loop b₀ m all n i₀ b i = Filling n n (λ j. table n (centredAt n b₀ m all j)) b₀ b i
 
 abbrev μ-loop : tie.MeasureT-loop
 μ-loop b₀ m all n i₀ b i = n - i
@@ -59,7 +57,7 @@ loop-less : tie.Need-loop-less Inv-loop μ-loop
 loop-less c = omega (arith, row-end (c .before .before .before .before .before .before .before .before .before .args .n) (c .before .before .before .before .before .before .loop .i) (c .before .before .before .before .before .before .before .before .before .args .n) (c .before .before .before .before .before .loop-test .taken), c .before .before .before .before .before .before .loop .inv .long)
 
 loop-again : tie.Need-loop-again Inv-loop μ-loop
-loop-again c = let long = length-part (c .before .before .before .before .before .before .before .before .before .args .n) (c .before .before .before .before .before .before .loop .i) (c .before .before .before .before .before .before .loop .b) (omega (arith, row-end (c .before .before .before .before .before .before .before .before .before .args .n) (c .before .before .before .before .before .before .loop .i) (c .before .before .before .before .before .before .before .before .before .args .n) (c .before .before .before .before .before .loop-test .taken), c .before .before .before .before .before .before .loop .inv .long)) in grid-next (c .before .before .before .before .before .before .before .before .before .args .n) (c .before .before .before .before .before .before .before .before .before .args .n) (centredAt (c .before .before .before .before .before .before .before .before .before .args .n) (c .before .before .before .before .before .before .before .before .before .args .b .now) (c .before .before .before .before .before .before .before .before .before .args .m .now) (c .before .before .before .before .before .before .before .before .before .args .all)) (c .before .before .before .before .before .before .before .before .before .args .b .now) (c .before .before .before .before .before .before .before .before .before .pre .0) (c .before .before .before .before .before .before .loop .inv) (c .before .before .before .before .before .loop-test .taken) refl (c .before .before .centre-row .ensures ∙ ap (λ (k : ℕ). table k (λ j. centring (getD (take (c .before .before .before .before .before .before .loop .i * c .before .before .before .before .before .before .before .before .before .args .n + c .before .before .before .before .before .before .before .before .before .args .n - c .before .before .before .before .before .before .loop .i * c .before .before .before .before .before .before .before .before .before .args .n) (drop (c .before .before .before .before .before .before .loop .i * c .before .before .before .before .before .before .before .before .before .args .n) (c .before .before .before .before .before .before .loop .b))) j nan) (getD (c .before .before .before .before .before .before .before .before .before .args .m .now) (c .before .before .before .before .before .before .loop .i) nan) (getD (c .before .before .before .before .before .before .before .before .before .args .m .now) j nan) (c .before .before .before .before .before .before .before .before .before .args .all))) long ∙ centred-row (c .before .before .before .before .before .before .before .before .before .args .n) (c .before .before .before .before .before .before .before .before .before .args .b .now) (c .before .before .before .before .before .before .before .before .before .args .m .now) (c .before .before .before .before .before .before .before .before .before .args .all) (c .before .before .before .before .before .before .loop .inv))
+loop-again c = let long = length-part (c .before .before .before .before .before .before .before .before .before .args .n) (c .before .before .before .before .before .before .loop .i) (c .before .before .before .before .before .before .loop .b) (omega (arith, row-end (c .before .before .before .before .before .before .before .before .before .args .n) (c .before .before .before .before .before .before .loop .i) (c .before .before .before .before .before .before .before .before .before .args .n) (c .before .before .before .before .before .loop-test .taken), c .before .before .before .before .before .before .loop .inv .long)) in grid-next (c .before .before .before .before .before .before .before .before .before .args .n) (c .before .before .before .before .before .before .before .before .before .args .n) (centredAt (c .before .before .before .before .before .before .before .before .before .args .n) (c .before .before .before .before .before .before .before .before .before .args .b .now) (c .before .before .before .before .before .before .before .before .before .args .m .now) (c .before .before .before .before .before .before .before .before .before .args .all)) (c .before .before .before .before .before .before .before .before .before .args .b .now) (c .before .before .before .before .before .before .before .before .before .pre .0) (c .before .before .before .before .before .before .loop .inv) (c .before .before .before .before .before .loop-test .taken) refl (centred-lent (c .before .before .before .before .before .before .before .before .before .args .n) (c .before .before .before .before .before .before .before .before .before .args .b .now) (c .before .before .before .before .before .before .before .before .before .args .m .now) (c .before .before .before .before .before .before .before .before .before .args .all) (c .before .before .before .before .before .before .loop .inv) long (c .before .before .centre-row .ensures))
 
 same-length : tie.Need-same-length Inv-loop μ-loop
 same-length c = c .before .loop .inv .long

@@ -5,7 +5,6 @@ use Prim.Native.Nat.{_-_}
 use native.Mathlib.Omega.{arith}
 use borrow.Author.Needs.{needs}
 use lib.Seq.{length-take-le}
-use Rattle.coordinates.specs.Finish.{finish}
 use Rattle.coordinates.proofs.finish.Statement.{statement}
 use Rattle.coordinates.proofs.finish.Tie as tie
 

@@ -1,11 +1,9 @@
 -- `coordinates::place` meets its contract. Signs and scales first.
 -- Assumes nothing.
-use mathlib.Core.Path.{sym, ap, ap₂, _∙_}
-use mathlib.Core.List.{List}
+use mathlib.Core.Path.{sym, ap, _∙_}
 use Prim.Native.Nat.{ℕ, _*_, _-_}
 use borrow.Author.Needs.{needs}
-use lib.Ieee.{Float}
-use Rattle.coordinates.specs.Finish.{signs, coords}
+use Rattle.coordinates.proofs.Finished.{placed}
 use Rattle.coordinates.proofs.place.Statement.{statement}
 use Rattle.coordinates.proofs.place.Tie as tie
 
@@ -28,12 +26,7 @@ same-length-3 : tie.Need-same-length-3
 same-length-3 c = search needs
 
 returns : tie.Need-returns
-returns c =
-    let n = c .before .before .before .before .before .before .before .before .before .before .before .before .before .before .before .before .before .before .before .args .n in
-    let k = c .before .before .before .before .before .before .before .before .before .before .before .before .before .before .before .before .before .before .before .args .k in
-    let vectors = c .before .before .before .before .before .before .before .before .before .before .before .before .before .before .before .before .before .before .before .args .vectors .now in
-    c .before .before .fill-coords .ensures
-    ∙ ap₂ (λ (x y : List Float). coords n k x y vectors) (c .before .before .before .before .before .before .before .before .before .before .before .before .fill-signs .ensures ∙ ap (λ (j : ℕ). signs n j vectors) (c .before .before .before .before .before .before .before .before .before .before .before .before .before .before .before .before .before .before .before .pre .1)) (c .before .before .before .before .before .before .before .before .fill-scales .ensures)
+returns c = placed (c .before .before .before .before .before .before .before .before .before .before .before .before .before .before .before .before .before .before .before .args .n) (c .before .before .before .before .before .before .before .before .before .before .before .before .before .before .before .before .before .before .before .args .k) (c .before .before .before .before .before .before .before .before .before .before .before .before .before .before .before .before .before .before .before .args .values .now) (c .before .before .before .before .before .before .before .before .before .before .before .before .before .before .before .before .before .before .before .args .vectors .now) (c .before .before .before .before .before .before .before .before .before .before .before .before .before .before .before .before .before .before .before .pre .1) (c .before .before .before .before .before .before .before .before .before .before .before .before .fill-signs .ensures) (c .before .before .before .before .before .before .before .before .fill-scales .ensures) (c .before .before .fill-coords .ensures)
 
 pub place-spec : {M : Type 1} → statement M
 place-spec =

@@ -1,7 +1,5 @@
 -- `hash_pca::is_lacking` meets its contract. Test by test.
 -- Assumes nothing.
-use Rattle.gram.specs.declared.Answer.the-variants as answer
-use Rattle.gram.specs.Call as of-gram
 use mathlib.Core.Path.{sym, _∙_}
 use Prim.Native.Nat.{_-_}
 use borrow.Author.Needs.{needs}

@@ -1,7 +1,5 @@
 -- `hash_pca::matrix_small` meets its contract. There is room for the hashes.
 -- Assumes nothing.
-use Rattle.gram.specs.declared.Answer.the-variants as answer
-use Rattle.gram.specs.Call as of-gram
 use Prim.Native.Nat.{_-_}
 use native.Mathlib.Omega.{arith}
 use borrow.Author.Needs.{needs}
@@ -24,13 +22,13 @@ matrix-in-requires : tie.Need-matrix-in-requires
 matrix-in-requires c κs = ((omega (arith, c .before .before .before .before .before .before .before .before .before .before .pre .0), omega (arith, c .before .before .before .before .before .before .before .before .before .before .pre .0)), ((omega arith, omega arith), c .before .before .before .before .before .before .before .before .before .before .pre .1))
 
 same-length : tie.Need-same-length
-same-length c = search needs
+same-length c = c .before .before .before .before .before .before .before .before .matrix-in .kept .0
 
 same-length-2 : tie.Need-same-length-2
-same-length-2 c = search needs
+same-length-2 c = c .before .before .before .before .before .before .before .before .matrix-in .kept .1 .0
 
 returns : tie.Need-returns
-returns c = search needs
+returns c = c .before .before .before .before .before .before .before .before .matrix-in .ensures
 
 pub matrix-small-spec : {M : Type 1} → statement M
 matrix-small-spec =

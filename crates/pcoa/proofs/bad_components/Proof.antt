@@ -1,6 +1,5 @@
 -- `pcoa::bad_components` meets its contract. Test by test.
 -- Assumes nothing.
-use Rattle.ritz.specs.Given as pairs
 use Prim.Native.Nat.{_-_}
 use borrow.Author.Tests.{eq-eqb, ne-eqb}
 use Rattle.pcoa.specs.Call.{badComponents}

@@ -1,6 +1,5 @@
 -- `pcoa::settle` meets its contract. The first parts are lent to `ordinate`, and come back to the longer slices.
 -- Assumes nothing.
-use Rattle.ritz.specs.Given as pairs
 use mathlib.Core.Path.{sym, ap, _∙_}
 use Prim.Native.Nat.{ℕ, _+_, _*_, _-_}
 use borrow.Author.Needs.{needs}
@@ -16,7 +15,7 @@ mul-s : tie.Need-mul-s
 mul-s c = search needs
 
 slice-reshare-prefix-ordinate : tie.Need-slice-reshare-prefix-ordinate
-slice-reshare-prefix-ordinate c = search needs
+slice-reshare-prefix-ordinate c = c .before .before .before .before .before .pre .1 .1
 
 slice-aggregate-ordinate : tie.Need-slice-aggregate-ordinate
 slice-aggregate-ordinate c = sym (length-take-le (c .before .before .before .before .before .before .args .n * c .before .before .before .before .before .before .args .n) (c .before .before .before .before .before .before .args .b .now) (c .before .before .before .before .before .before .pre .1 .1))
@@ -31,7 +30,7 @@ add-ordinate-2 : tie.Need-add-ordinate-2
 add-ordinate-2 c = search needs
 
 slice-relend-prefix-ordinate : tie.Need-slice-relend-prefix-ordinate
-slice-relend-prefix-ordinate c = search needs
+slice-relend-prefix-ordinate c = c .before .before .before .before .before .before .pre .1 .0
 
 slice-aggregate-ordinate-2 : tie.Need-slice-aggregate-ordinate-2
 slice-aggregate-ordinate-2 c = sym (length-take-le (c .before .before .before .before .before .before .before .args .k + c .before .before .before .before .before .before .before .args .k + c .before .before .before .before .before .before .before .args .n * c .before .before .before .before .before .before .before .args .k) (c .before .before .before .before .before .before .before .args .out .now) (c .before .before .before .before .before .before .before .pre .1 .0))
@@ -40,19 +39,19 @@ add-ordinate-3 : tie.Need-add-ordinate-3
 add-ordinate-3 c = search needs
 
 slice-relend-prefix-ordinate-2 : tie.Need-slice-relend-prefix-ordinate-2
-slice-relend-prefix-ordinate-2 c = search needs
+slice-relend-prefix-ordinate-2 c = c .before .before .before .before .before .before .before .pre .1 .2
 
 slice-aggregate-ordinate-3 : tie.Need-slice-aggregate-ordinate-3
 slice-aggregate-ordinate-3 c = sym (length-take-le (c .before .before .before .before .before .before .before .before .args .n + c .before .before .before .before .before .before .before .before .args .n * c .before .before .before .before .before .before .before .before .args .n) (c .before .before .before .before .before .before .before .before .args .w .now) (c .before .before .before .before .before .before .before .before .pre .1 .2))
 
 slice-relend-prefix-ordinate-3 : tie.Need-slice-relend-prefix-ordinate-3
-slice-relend-prefix-ordinate-3 c = search needs
+slice-relend-prefix-ordinate-3 c = c .before .before .before .before .before .before .before .before .pre .1 .3
 
 slice-aggregate-ordinate-4 : tie.Need-slice-aggregate-ordinate-4
 slice-aggregate-ordinate-4 c = sym (length-take-le (c .before .before .before .before .before .before .before .before .before .args .n * c .before .before .before .before .before .before .before .before .before .args .n) (c .before .before .before .before .before .before .before .before .before .args .m .now) (c .before .before .before .before .before .before .before .before .before .pre .1 .3))
 
 slice-relend-prefix-ordinate-4 : tie.Need-slice-relend-prefix-ordinate-4
-slice-relend-prefix-ordinate-4 c = search needs
+slice-relend-prefix-ordinate-4 c = c .before .before .before .before .before .before .before .before .before .pre .1 .4
 
 slice-aggregate-ordinate-5 : tie.Need-slice-aggregate-ordinate-5
 slice-aggregate-ordinate-5 c = sym (length-take-le (c .before .before .before .before .before .before .before .before .before .before .args .n * c .before .before .before .before .before .before .before .before .before .before .args .n) (c .before .before .before .before .before .before .before .before .before .before .args .v .now) (c .before .before .before .before .before .before .before .before .before .before .pre .1 .4))
@@ -64,19 +63,19 @@ clear-work-requires : tie.Need-clear-work-requires
 clear-work-requires c κs = search needs
 
 same-length : tie.Need-same-length
-same-length c = search needs
+same-length c = length-front (c .before .before .before .before .before .before .before .before .before .before .before .before .before .before .before .before .before .before .before .before .before .before .before .before .before .before .before .before .before .before .before .before .args .out .now) (c .before .before .before .before .before .before .before .before .before .before .before .before .before .before .before .before .before .before .before .before .before .ordinate .last .1 .1 .1 .0) (c .before .before .before .before .before .before .before .before .before .before .before .before .before .before .before .before .before .before .before .before .before .before .before .before .before .before .before .before .before .before .before .before .args .k + c .before .before .before .before .before .before .before .before .before .before .before .before .before .before .before .before .before .before .before .before .before .before .before .before .before .before .before .before .before .before .before .before .args .k + c .before .before .before .before .before .before .before .before .before .before .before .before .before .before .before .before .before .before .before .before .before .before .before .before .before .before .before .before .before .before .before .before .args .n * c .before .before .before .before .before .before .before .before .before .before .before .before .before .before .before .before .before .before .before .before .before .before .before .before .before .before .before .before .before .before .before .before .args .k) (c .before .before .before .before .before .before .before .before .before .before .before .before .before .before .before .before .before .before .before .before .before .ordinate .kept .1 .1 .1 .0)
 
 same-length-2 : tie.Need-same-length-2
-same-length-2 c = search needs
+same-length-2 c = c .before .before .before .before .before .before .before .before .clear-work .kept .0
 
 same-length-3 : tie.Need-same-length-3
-same-length-3 c = search needs
+same-length-3 c = c .before .before .before .before .before .before .before .before .clear-work .kept .1 .0 ∙ length-front (c .before .before .before .before .before .before .before .before .before .before .before .before .before .before .before .before .before .before .before .before .before .before .before .before .before .before .before .before .before .before .before .before .args .w .now) (c .before .before .before .before .before .before .before .before .before .before .before .before .before .before .before .before .before .before .before .before .before .ordinate .last .1 .1 .1 .1 .0) (c .before .before .before .before .before .before .before .before .before .before .before .before .before .before .before .before .before .before .before .before .before .before .before .before .before .before .before .before .before .before .before .before .args .n + c .before .before .before .before .before .before .before .before .before .before .before .before .before .before .before .before .before .before .before .before .before .before .before .before .before .before .before .before .before .before .before .before .args .n * c .before .before .before .before .before .before .before .before .before .before .before .before .before .before .before .before .before .before .before .before .before .before .before .before .before .before .before .before .before .before .before .before .args .n) (c .before .before .before .before .before .before .before .before .before .before .before .before .before .before .before .before .before .before .before .before .before .ordinate .kept .1 .1 .1 .1 .0)
 
 same-length-4 : tie.Need-same-length-4
-same-length-4 c = search needs
+same-length-4 c = c .before .before .before .before .before .before .before .before .clear-work .kept .1 .1 .0 ∙ length-front (c .before .before .before .before .before .before .before .before .before .before .before .before .before .before .before .before .before .before .before .before .before .before .before .before .before .before .before .before .before .before .before .before .args .m .now) (c .before .before .before .before .before .before .before .before .before .before .before .before .before .before .before .before .before .before .before .before .before .ordinate .last .1 .1 .1 .1 .1 .0) (c .before .before .before .before .before .before .before .before .before .before .before .before .before .before .before .before .before .before .before .before .before .before .before .before .before .before .before .before .before .before .before .before .args .n * c .before .before .before .before .before .before .before .before .before .before .before .before .before .before .before .before .before .before .before .before .before .before .before .before .before .before .before .before .before .before .before .before .args .n) (c .before .before .before .before .before .before .before .before .before .before .before .before .before .before .before .before .before .before .before .before .before .ordinate .kept .1 .1 .1 .1 .1 .0)
 
 same-length-5 : tie.Need-same-length-5
-same-length-5 c = search needs
+same-length-5 c = c .before .before .before .before .before .before .before .before .clear-work .kept .1 .1 .1 .0 ∙ length-front (c .before .before .before .before .before .before .before .before .before .before .before .before .before .before .before .before .before .before .before .before .before .before .before .before .before .before .before .before .before .before .before .before .args .v .now) (c .before .before .before .before .before .before .before .before .before .before .before .before .before .before .before .before .before .before .before .before .before .ordinate .last .1 .1 .1 .1 .1 .1 .0) (c .before .before .before .before .before .before .before .before .before .before .before .before .before .before .before .before .before .before .before .before .before .before .before .before .before .before .before .before .before .before .before .before .args .n * c .before .before .before .before .before .before .before .before .before .before .before .before .before .before .before .before .before .before .before .before .before .before .before .before .before .before .before .before .before .before .before .before .args .n) (c .before .before .before .before .before .before .before .before .before .before .before .before .before .before .before .before .before .before .before .before .before .ordinate .kept .1 .1 .1 .1 .1 .1 .0)
 
 returns : tie.Need-returns
 unfolding cleared

@@ -1,6 +1,5 @@
 -- `pcoa::too_short` meets its contract. Test by test; n * n fits where n is below 2 ^ 32.
 -- Assumes nothing.
-use Rattle.ritz.specs.Given as pairs
 use Prim.Native.Nat.{_-_}
 use native.Mathlib.Omega.{arith}
 use Rattle.pcoa.proofs.Lines.{fitting, short-far, short-out, short-b, short-w, short-m, short-v}
