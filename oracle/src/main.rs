@@ -1,9 +1,13 @@
 //! The oracle: the Rust's answers on drawn inputs, as replay files, and its times. README.md says how to use it.
 
+#[cfg(feature = "port")]
+mod compare;
 mod implementation;
 mod inputs;
 mod matrix;
 mod ops;
+#[cfg(feature = "port")]
+mod port;
 mod replay;
 mod splitmix;
 mod times;
@@ -18,6 +22,7 @@ const USAGE: &str = "usage:
   oracle check OP                read a replay file from standard input, ask the Rust again, compare
   oracle twice OP SEED COUNT     make a replay file twice and compare
   oracle time                    time the calls
+  oracle compare SEED COUNT      the port against the Rust, COUNT inputs of each of four functions (feature `port`)
 OP: test, pcoa, hash_pca, dapc, jacobi_eigen, top_eigs or gram_matrix";
 
 fn main() -> ExitCode {
@@ -30,6 +35,8 @@ fn main() -> ExitCode {
             times::print();
             Ok(())
         }
+        #[cfg(feature = "port")]
+        ["compare", seed, count] => compare(seed, count),
         [command, op, ref rest @ ..] => match op {
             "test" => run::<ops::test::Test>(command, rest),
             "pcoa" => run::<ops::pcoa::Pcoa>(command, rest),
@@ -83,6 +90,12 @@ fn check<O: Operation>(file: &[u64]) -> Result<(), String> {
         sum.minus_zeros
     );
     Ok(())
+}
+
+#[cfg(feature = "port")]
+fn compare(seed: &str, count: &str) -> Result<(), String> {
+    ops::expect_panics();
+    compare::print(number(seed)?, number(count)? as usize)
 }
 
 fn number(text: &str) -> Result<u64, String> {

@@ -7,12 +7,16 @@ use crate::words::{Reader, NAN};
 /// The first word of every file: the bytes `replay01`.
 const MAGIC: u64 = u64::from_le_bytes(*b"replay01");
 
+/// The seed of the record at this place.
+pub fn place<O: Operation>(seed: u64, at: usize) -> u64 {
+    SplitMix::new(seed.wrapping_add(O::NUMBER << 32).wrapping_add(at as u64)).word()
+}
+
 /// The words of a file. A record depends on seed, operation and place alone, so a larger count only adds records.
 pub fn words<O: Operation>(seed: u64, count: usize) -> Vec<u64> {
     let mut file = vec![MAGIC, O::NUMBER, count as u64, seed];
     for at in 0..count {
-        let place = SplitMix::new(seed.wrapping_add(O::NUMBER << 32).wrapping_add(at as u64)).word();
-        let (kind, input) = O::draw(at, &mut SplitMix::new(place));
+        let (kind, input) = O::draw(at, &mut SplitMix::new(place::<O>(seed, at)));
         let mut record = vec![kind as u64];
         O::write(&input, &mut record);
         record.extend(outcome::<O>(&input));

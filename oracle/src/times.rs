@@ -18,32 +18,36 @@ const FEWEST: usize = 5;
 const SAMPLE: Duration = Duration::from_millis(10);
 
 pub fn print() {
-    println!("{:<44} {:>14} {:>14} {:>8}  result", "call", "median ns", "least ns", "samples");
+    println!("{:<44} {:>14} {:>14} {:>8}  {:<16} {:>6}", "call", "median ns", "least ns", "samples", "result", "ratio");
     let lines = lines();
-    for made in all() {
-        for (name, line) in &lines {
-            let mut call = line(&made);
+    for (name, line) in &lines {
+        let mut reference = 0;
+        for made in all() {
+            let Some(mut call) = line(&made) else { continue };
             let result = call();
             let (median, least, samples) = measure(call);
-            println!("{:<44} {median:>14} {least:>14} {samples:>8}  {result:016x}", format!("{} {name}", made.name));
+            let ratio = if reference == 0 { String::new() } else { format!("{:.2}", least as f64 / reference as f64) };
+            reference = least;
+            let call = format!("{} {name}", made.name);
+            println!("{call:<44} {median:>14} {least:>14} {samples:>8}  {result:016x} {ratio:>6}");
         }
     }
 }
 
-type Line = (&'static str, Box<dyn Fn(&Implementation) -> Call>);
+type Line = (&'static str, Box<dyn Fn(&Implementation) -> Option<Call>>);
 
 fn lines() -> Vec<Line> {
     vec![
-        ("test n=256 groups=4 shuffles=999", Box::new(|i| (i.test)(&lot(256)))),
-        ("test n=64 groups=4 shuffles=999", Box::new(|i| (i.test)(&lot(64)))),
-        ("test n=16 groups=4 shuffles=999", Box::new(|i| (i.test)(&lot(16)))),
-        ("pcoa n=64 components=8", Box::new(|i| (i.pcoa)(&spread(64)))),
-        ("pcoa n=256 components=8", Box::new(|i| (i.pcoa)(&spread(256)))),
-        ("hash_pca n=64 hashes=900 components=8", Box::new(|i| (i.hash_pca)(&hashed(64, 900)))),
-        ("dapc n=256 columns=8 groups=4", Box::new(|i| (i.dapc)(&scored(256, 8)))),
-        ("jacobi_eigen n=64", Box::new(|i| (i.jacobi_eigen)(&square(64)))),
-        ("top_eigs n=256 components=8", Box::new(|i| (i.top_eigs)(&leading(256)))),
-        ("gram_matrix n=64 hashes=900", Box::new(|i| (i.gram_matrix)(&caught(64, 900)))),
+        ("test n=256 groups=4 shuffles=999", Box::new(|i| i.test.map(|f| f(&lot(256))))),
+        ("test n=64 groups=4 shuffles=999", Box::new(|i| i.test.map(|f| f(&lot(64))))),
+        ("test n=16 groups=4 shuffles=999", Box::new(|i| i.test.map(|f| f(&lot(16))))),
+        ("pcoa n=64 components=8", Box::new(|i| i.pcoa.map(|f| f(&spread(64))))),
+        ("pcoa n=256 components=8", Box::new(|i| i.pcoa.map(|f| f(&spread(256))))),
+        ("hash_pca n=64 hashes=900 components=8", Box::new(|i| i.hash_pca.map(|f| f(&hashed(64, 900))))),
+        ("dapc n=256 columns=8 groups=4", Box::new(|i| i.dapc.map(|f| f(&scored(256, 8))))),
+        ("jacobi_eigen n=64", Box::new(|i| i.jacobi_eigen.map(|f| f(&square(64))))),
+        ("top_eigs n=256 components=8", Box::new(|i| i.top_eigs.map(|f| f(&leading(256))))),
+        ("gram_matrix n=64 hashes=900", Box::new(|i| i.gram_matrix.map(|f| f(&caught(64, 900))))),
     ]
 }
 

@@ -27,7 +27,7 @@ use Rattle.reader.specs.declared.Frame.{Frame}
 
 -- ---- tests joined by "and" and "or"
 
-both : (a b : Bool) → (a && b) ≡ true → (a ≡ true) × (b ≡ true)
+pub both : (a b : Bool) → (a && b) ≡ true → (a ≡ true) × (b ≡ true)
 both true b e = (refl, e)
 both false b e = absurd (false≢true e)
 
@@ -83,7 +83,7 @@ joins-self : (f : Frame) → joins (f .first) (f .second) f ≡ true
 unfolding joins
 joins-self f = rw (eq-eqb (f .first) (f .first) refl, eq-eqb (f .second) (f .second) refl)
 
-joins-turn : (i j : ℕ) (f : Frame) → joins i j f ≡ joins j i f
+pub joins-turn : (i j : ℕ) (f : Frame) → joins i j f ≡ joins j i f
 unfolding joins
 joins-turn i j f = or-comm (eqb (f .first) i && eqb (f .second) j) (eqb (f .first) j && eqb (f .second) i)
 
@@ -92,12 +92,26 @@ unfolding any
 any-turn i j [] = refl
 any-turn i j (f ∷ fs) = ap₂ (λ (a b : Bool). a || b) (joins-turn i j f) (any-turn i j fs)
 
-joined : (i j : ℕ) (f : Frame) → joins i j f ≡ true → ((f .first ≡ i) × (f .second ≡ j)) ⊎ ((f .first ≡ j) × (f .second ≡ i))
+pub joined : (i j : ℕ) (f : Frame) → joins i j f ≡ true → ((f .first ≡ i) × (f .second ≡ j)) ⊎ ((f .first ≡ j) × (f .second ≡ i))
 unfolding joins
 joined i j f e = ⊎-elim (λ t. inl (is i j t)) (λ t. inr (is j i t)) (either (eqb (f .first) i && eqb (f .second) j) (eqb (f .first) j && eqb (f .second) i) e)
   where
     is : (a b : ℕ) → (eqb (f .first) a && eqb (f .second) b) ≡ true → (f .first ≡ a) × (f .second ≡ b)
     is a b t = let u = both (eqb (f .first) a) (eqb (f .second) b) t in (eqb-true (f .first) a (u .0), eqb-true (f .second) b (u .1))
+
+-- what a pair's frame has passed
+pub pair-tests : (n : ℕ) (before : List Frame) (f : Frame) → isPair n before f ≡ true →
+    (f .first < f .second) × (f .second < n) × (any (joins (f .first) (f .second)) before ≡ false)
+unfolding isPair
+pair-tests n before f e =
+    let t = go (eqb (f .kind) 0xa3) (ltb (f .first) (f .second)) (ltb (f .second) n) (not (any (joins (f .first) (f .second)) before)) e in
+    (ltb-true (f .first) (f .second) (t .0), ltb-true (f .second) n (t .1), denied (any (joins (f .first) (f .second)) before) (t .2))
+  where
+    go : (a b c e : Bool) → (a && b && c && e) ≡ true → (b ≡ true) × (c ≡ true) × (e ≡ true)
+    go true true true e h = (refl, refl, h)
+    go true true false e h = absurd (false≢true h)
+    go true false c e h = absurd (false≢true h)
+    go false b c e h = absurd (false≢true h)
 
 -- ---- one distance more
 
@@ -156,24 +170,14 @@ module _ (n : ℕ) {d₀ d : List Float} {seen : List ℕ} {pairs : List Frame} 
       go false b c h = refl
 
   module _ (new : isPair n pairs f ≡ true) where
-    is-pair : (ltb (f .first) (f .second) ≡ true) × (ltb (f .second) n ≡ true) × (not (any (joins (f .first) (f .second)) pairs) ≡ true)
-    unfolding isPair
-    is-pair = go (eqb (f .kind) 0xa3) (ltb (f .first) (f .second)) (ltb (f .second) n) (not (any (joins (f .first) (f .second)) pairs)) new
-      where
-        go : (a b c e : Bool) → (a && b && c && e) ≡ true → (b ≡ true) × (c ≡ true) × (e ≡ true)
-        go true true true e h = (refl, refl, h)
-        go true true false e h = absurd (false≢true h)
-        go true false c e h = absurd (false≢true h)
-        go false b c e h = absurd (false≢true h)
-
     upper : f .first < f .second
-    upper = ltb-true (f .first) (f .second) (is-pair .0)
+    upper = pair-tests n pairs f new .0
 
     inside : f .second < n
-    inside = ltb-true (f .second) n (is-pair .1)
+    inside = pair-tests n pairs f new .1
 
     absent : any (joins (f .first) (f .second)) pairs ≡ false
-    absent = denied (any (joins (f .first) (f .second)) pairs) (is-pair .2)
+    absent = pair-tests n pairs f new .2
 
     -- in either order
     absent-at : (i j : ℕ) → joins i j f ≡ true → any (joins i j) pairs ≡ false

@@ -46,13 +46,13 @@ unreached text o P t e = subst (ReachedBy text o P) e t
 
 -- ---- the stages of `readLot`
 
-final : Frame → List Frame → List Frame → List Frame → Outcome Lot
+unfoldable pub final : Frame → List Frame → List Frame → List Frame → Outcome Lot
 final h samples pairs fs = cond (isEnd fs) (answered (described h samples pairs)) malformed
 
-from-pairs : Frame → ℕ → List Frame → List Frame → Outcome Lot
+unfoldable pub from-pairs : Frame → ℕ → List Frame → List Frame → Outcome Lot
 from-pairs h n samples fs = andThen (several (isPair n) (pairCount n) [] fs) (λ pairs. final h samples (pairs .taken) (pairs .rest))
 
-from-samples : Frame → ℕ → List Frame → Outcome Lot
+unfoldable pub from-samples : Frame → ℕ → List Frame → Outcome Lot
 from-samples h n fs = andThen (several isSample n [] fs) (λ samples. from-pairs h n (samples .taken) (samples .rest))
 
 module _ (text : List ℕ) where

@@ -126,7 +126,7 @@ sampled-none e g = record {
   stratified = g ∙ sym (over-none noNumbers);
 }
 
-length-map : (g : Frame → ℕ) (fs : List Frame) → length (map g fs) ≡ length fs
+pub length-map : (g : Frame → ℕ) (fs : List Frame) → length (map g fs) ≡ length fs
 length-map g [] = refl
 length-map g (f ∷ fs) = ap suc (length-map g fs)
 

@@ -3,3 +3,4 @@ pub mod Lines
 pub mod Frames
 pub mod Call
 pub mod Reached
+pub mod Fits

@@ -10,6 +10,9 @@ fn hold(op: u64, b: &[u8]) -> Held {
     if op == 2 {
         return replay_pcoa::hold(b);
     }
+    if op == 3 {
+        return replay_hash_pca::hold(b);
+    }
     if op == 4 {
         return replay_dapc::hold(b);
     }
@@ -47,6 +50,7 @@ fn file(path: &[u8], op: u64) {
 fn main() {
     file(b"test.bin", 1);
     file(b"pcoa.bin", 2);
+    file(b"hash_pca.bin", 3);
     file(b"dapc.bin", 4);
     file(b"jacobi_eigen.bin", 5);
     file(b"top_eigs.bin", 6);

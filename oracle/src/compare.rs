@@ -1,0 +1,71 @@
+//! The port against the Rust on drawn inputs, and against document 01's table on damaged ones.
+
+use crate::ops::{dapc, hash_pca, outcome, pcoa, test, Operation};
+use crate::port::{Asked, Ported};
+use crate::replay::place;
+use crate::splitmix::SplitMix;
+
+#[derive(Default)]
+struct Count {
+    answers: usize,
+    refusals: usize,
+    damaged: usize,
+    different: usize,
+}
+
+/// So many inputs of each of the four functions; every one is also handed in damaged.
+pub fn print(seed: u64, count: usize) -> Result<(), String> {
+    let different = [
+        ask::<test::Test>(seed, count),
+        ask::<pcoa::Pcoa>(seed, count),
+        ask::<hash_pca::HashPca>(seed, count),
+        ask::<dapc::Dapc>(seed, count),
+    ];
+    match different.iter().sum() {
+        0 => Ok(()),
+        some => Err(format!("{some} differences")),
+    }
+}
+
+fn ask<O: Ported>(seed: u64, count: usize) -> usize {
+    let mut sum = Count::default();
+    for at in 0..count {
+        let (kind, input) = O::draw(at, &mut SplitMix::new(place::<O>(seed, at)));
+        if !alike::<O>(&input, &mut sum) {
+            println!("{} record {at}, kind {kind}: another answer", O::NAME);
+            sum.different += 1;
+        }
+        if !refuses::<O>(&input, at, &mut sum) {
+            println!("{} record {at}, kind {kind}, damaged: another refusal", O::NAME);
+            sum.different += 1;
+        }
+    }
+    println!(
+        "{}: {} answers and {} refusals alike, {} damaged inputs refused, {} different",
+        O::NAME,
+        sum.answers,
+        sum.refusals,
+        sum.damaged,
+        sum.different
+    );
+    sum.different
+}
+
+fn alike<O: Ported>(input: &O::Input, sum: &mut Count) -> bool {
+    let rust = outcome::<O>(input);
+    let mut call = O::Call::new(input);
+    let refusal = call.ask();
+    if rust[0] != 0 {
+        sum.refusals += 1;
+        return refusal as u64 == rust[1] && (refusal >= 10 || call.untouched());
+    }
+    sum.answers += 1;
+    refusal == 0 && call.told() == O::Call::of_the_rust(&rust[1..])
+}
+
+fn refuses<O: Ported>(input: &O::Input, way: usize, sum: &mut Count) -> bool {
+    let mut call = O::Call::new(input);
+    let Some(due) = call.damage(way) else { return true };
+    sum.damaged += 1;
+    call.ask() == due && call.untouched()
+}
