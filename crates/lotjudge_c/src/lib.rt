@@ -51,7 +51,13 @@ fn test_numbers(t: TestResult) -> [u64; 5]
     let q = t.disp_p;
     let first = is_given(p);
     let second = is_given(q);
-    [t.n as u64, t.n_groups as u64, first, second, t.warnings as u64]
+    [
+        t.n as u64,
+        t.n_groups as u64,
+        first,
+        second,
+        t.warnings as u64,
+    ]
 }
 
 #[no_mangle]
