@@ -1,6 +1,6 @@
 //! The port against the Rust on drawn inputs, and against document 01's table on damaged ones.
 
-use crate::ops::{dapc, hash_pca, outcome, pcoa, test, Operation};
+use crate::ops::{dapc, hash_pca, outcome, pcoa, test};
 use crate::port::{Asked, Ported};
 use crate::replay::place;
 use crate::splitmix::SplitMix;

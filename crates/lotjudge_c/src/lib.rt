@@ -1,0 +1,187 @@
+// The library for other languages (include/lotjudge.h): each operation on numbers and slices, with a number for its outcome: 0, or the refusal's.
+use chances::Chance;
+use dapc::Separation;
+use outcome::Check;
+use outcome::number_of;
+use permanova::TestResult;
+ghost use mathlib.Core.Path.{_≡_};
+ghost use Rattle.lot.specs.Lot.{lotOf};
+ghost use Rattle.permanova.specs.Call.{slicesOf, testCall};
+ghost use Rattle.pcoa.specs.Call.{pcoaCall};
+ghost use Rattle.hash_pca.specs.Call.{hashPcaCall};
+ghost use Rattle.dapc.specs.Call.{dapcCall};
+ghost use Rattle.lotjudge_c.specs.Exported.{codeOf, pOf, given, testValues, testNumbers, exportTest, testExport, exportPcoa, pcoaExport, exportHashPca, hashPcaExport, dapcNumbers, exportDapc, dapcExport};
+
+// ---- `test`
+
+// A p, 0 where there is none.
+fn p_of(c: Chance) -> f64
+    ensures { λ r. ⌜ r ≡ pOf c ⌝ }
+{
+    match c {
+        Chance::P(p) => p,
+        Chance::NoP => 0.0,
+    }
+}
+
+// Whether there is a p.
+fn is_given(c: Chance) -> u64
+    ensures { λ r. ⌜ r ≡ given c ⌝ }
+{
+    match c {
+        Chance::P(_p) => 1,
+        Chance::NoP => 0,
+    }
+}
+
+fn test_values(t: TestResult) -> [f64; 6]
+    ensures { λ r. ⌜ r ≡ testValues t ⌝ }
+{
+    let p = t.p;
+    let q = t.disp_p;
+    let first = p_of(p);
+    let second = p_of(q);
+    [t.f, t.r2, first, t.disp_f, second, t.informative_fraction]
+}
+
+fn test_numbers(t: TestResult) -> [u64; 5]
+    ensures { λ r. ⌜ r ≡ testNumbers t ⌝ }
+{
+    let p = t.p;
+    let q = t.disp_p;
+    let first = is_given(p);
+    let second = is_given(q);
+    [
+        t.n as u64,
+        t.n_groups as u64,
+        first,
+        second,
+        t.warnings as u64,
+    ]
+}
+
+#[no_mangle]
+pub extern "C" fn lotjudge_test(
+    n: usize,
+    distances: &[f64],
+    labels: &[u16],
+    strata_given: bool,
+    strata: &[u16],
+    weights_given: bool,
+    weights: &[f64],
+    seed: u64,
+    n_perm: u64,
+    names: &mut [u16],
+    counts: &mut [u16],
+    means: &mut [f64],
+    terms: &mut [f64],
+    pulls: &mut [f64],
+    values: &mut [f64; 6],
+    numbers: &mut [u64; 5],
+) -> u8
+    ensures { λ r. ⌜ testExport r (now (values .exit)) (now (numbers .exit)) (slicesOf (now (names .exit)) (now (counts .exit)) (now (means .exit)) (now (terms .exit)) (now (pulls .exit)))
+        ≡ exportTest (testCall (lotOf n (now (distances .entry)) (now (labels .entry)) «strata_given» (now (strata .entry)) «weights_given» (now (weights .entry))) seed «n_perm» (slicesOf (now (names .entry)) (now (counts .entry)) (now (means .entry)) (now (terms .entry)) (now (pulls .entry)))) (now (values .entry)) (now (numbers .entry)) ⌝ }
+{
+    let r = permanova::test(
+        n,
+        distances,
+        labels,
+        strata_given,
+        strata,
+        weights_given,
+        weights,
+        seed,
+        n_perm,
+        names,
+        counts,
+        means,
+        terms,
+        pulls,
+    );
+    match r {
+        permanova::Answer::Refused(e) => number_of(e),
+        permanova::Answer::Tested(t) => {
+            *values = test_values(t);
+            *numbers = test_numbers(t);
+            0
+        }
+    }
+}
+
+// ---- `pcoa` and `hash_pca`
+
+#[no_mangle]
+pub extern "C" fn lotjudge_pcoa(
+    distances: &[f64],
+    n: usize,
+    components: usize,
+    out: &mut [f64],
+    b: &mut [f64],
+    w: &mut [f64],
+    m: &mut [f64],
+    v: &mut [f64],
+) -> u8
+    ensures { λ r. ⌜ pcoaExport r (now (out .exit)) (now (b .exit)) (now (w .exit)) (now (m .exit)) (now (v .exit))
+        ≡ exportPcoa (pcoaCall components n (now (distances .entry)) (now (out .entry)) (now (b .entry)) (now (w .entry)) (now (m .entry)) (now (v .entry))) ⌝ }
+{
+    match pcoa::pcoa(distances, n, components, out, b, w, m, v) {
+        Check::Refused(e) => number_of(e),
+        Check::Passed => 0,
+    }
+}
+
+#[no_mangle]
+pub extern "C" fn lotjudge_hash_pca(
+    hashes: &[u64],
+    offsets: &[usize],
+    n: usize,
+    components: usize,
+    out: &mut [f64],
+    b: &mut [f64],
+    w: &mut [f64],
+    m: &mut [f64],
+    v: &mut [f64],
+    words: &mut [u64],
+    selected: &mut usize,
+) -> u8
+    ensures { λ r. ⌜ hashPcaExport r (now (selected .exit)) (now (out .exit)) (now (b .exit)) (now (w .exit)) (now (m .exit)) (now (v .exit)) (now (words .exit))
+        ≡ exportHashPca (hashPcaCall components n (now (hashes .entry)) (now (offsets .entry)) (now (out .entry)) (now (b .entry)) (now (w .entry)) (now (m .entry)) (now (v .entry)) (now (words .entry))) (now (selected .entry)) ⌝ }
+{
+    match hash_pca::hash_pca(hashes, offsets, n, components, out, b, w, m, v, words) {
+        gram::Answer::Refused(e) => number_of(e),
+        gram::Answer::Features(k) => {
+            *selected = k;
+            0
+        }
+    }
+}
+
+// ---- `dapc`
+
+fn dapc_numbers(s: Separation) -> [usize; 3]
+    ensures { λ r. ⌜ r ≡ dapcNumbers s ⌝ }
+{
+    [s.columns, s.axes, s.right]
+}
+
+#[no_mangle]
+pub extern "C" fn lotjudge_dapc(
+    x: &[f64],
+    n: usize,
+    columns: usize,
+    labels: &[u16],
+    out: &mut [f64],
+    assigned: &mut [u16],
+    numbers: &mut [usize; 3],
+) -> u8
+    ensures { λ r. ⌜ dapcExport r (now (out .exit)) (now (assigned .exit)) (now (numbers .exit))
+        ≡ exportDapc (dapcCall n columns (now (x .entry)) (now (labels .entry)) (now (out .entry)) (now (assigned .entry))) (now (numbers .entry)) ⌝ }
+{
+    match dapc::dapc(x, n, columns, labels, out, assigned) {
+        dapc::Answer::Refused(e) => number_of(e),
+        dapc::Answer::Scored(s) => {
+            *numbers = dapc_numbers(s);
+            0
+        }
+    }
+}
