@@ -1,0 +1,2 @@
+-- The laws of a way's statistics.
+pub mod Cases
