@@ -1,14 +1,16 @@
 -- What the steps leave is the answer for the kept samples. Assumes nothing.
 use mathlib.Core.Path.{_≡_, ap, _∙_}
 use mathlib.Core.Bool.{Bool, _&&_}
-use mathlib.Core.List.{List, map}
+use mathlib.Core.List.{List, _++_, map}
 use Prim.Native.Nat.{ℕ, _≤_}
 use lib.Dec.{eqb}
-use lib.ListN.{length, getD, take}
+use native.Mathlib.Omega.{arith}
+use lib.ListN.{length, getD, take, drop, replicate, length-append, length-drop}
+use lib.Seq.{length-take-le}
 use lib.Ieee.{Float}
 use Rattle.lists.specs.Ranges.{table}
 use Rattle.lists.specs.Numbers.{members}
-use Rattle.lists.specs.Writes.{over}
+use Rattle.lists.specs.Writes.{over, cleared}
 use Rattle.lists.proofs.Ranges.{length-table}
 use Rattle.lists.proofs.Writes.{take-over}
 use Rattle.lot.specs.Kept.{sizes}
@@ -44,3 +46,10 @@ module _ (d : List Float) (n : ℕ) (labels ks gs ss : List ℕ) (stratified wei
   pub means-are : (old : List Float) {l : List Float} → l ≡ over (meanZ (zOf p t w gs m) gs m g) old → l ≡ over (meansFor d n ks gs weighted weights m g) old
   unfolding meansFor
   means-are old e = cc
+
+-- a slice whose front was lent, all of it cleared
+pub cleared-lent : {A : Type 0} (x : A) (k : ℕ) (l r : List A) {c : List A} → k ≤ length l → length r ≡ length (take k l) → c ≡ cleared x (r ++ drop k l) → c ≡ cleared x l
+unfolding cleared
+cleared-lent x k l r h e c =
+    let same : length (r ++ drop k l) ≡ length l = omega (arith, length-append r (drop k l), length-drop k l, length-take-le k l h) in
+    c ∙ ap (λ (n : ℕ). replicate n x) same

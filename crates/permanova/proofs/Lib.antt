@@ -1,5 +1,7 @@
 -- The laws that the proofs of `permanova` share.
-pub mod Shuffles
 pub mod Chances
 pub mod Alarms
 pub mod Answers
+pub mod Lots
+pub mod Whole
+pub mod Cases

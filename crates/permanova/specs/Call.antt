@@ -6,6 +6,7 @@ use lib.Dec.{ltb}
 use lib.ListN.{length}
 use lib.Ieee.{Float}
 use Rattle.float.specs.Floats.{zero⁺}
+use Rattle.outcome.specs.declared.Check.{Check}
 use Rattle.outcome.specs.Refusals.{first, short, _of_}
 use Rattle.outcome.specs.Outcome.{Outcome, answered, refused, judged}
 use Rattle.outcome.specs.Slices.{output, work}
@@ -53,29 +54,26 @@ pub record Slices : Type 0 where
 abbrev pub slicesOf : List ℕ → List ℕ → List Float → List Float → List Float → Slices
 slicesOf labels counts means terms pulls = record { labels = labels; counts = counts; means = means; terms = terms; pulls = pulls }
 
--- an output is asked n entries, a work slice n by n
-unfoldable pub tooShort : ℕ → Slices → Bool
-tooShort n s = short (
-    (length (s .labels) of n)
-    ∷ (length (s .counts) of n)
-    ∷ (length (s .means) of n)
-    ∷ (length (s .terms) of n * n)
-    ∷ (length (s .pulls) of n * n)
-    ∷ [])
+-- line 1, for slices of these lengths: an output is asked n entries, a work slice n by n
+unfoldable pub tooShort : ℕ → ℕ → ℕ → ℕ → ℕ → ℕ → Bool
+tooShort n labels counts means terms pulls = short ((labels of n) ∷ (counts of n) ∷ (means of n) ∷ (terms of n * n) ∷ (pulls of n * n) ∷ [])
+
+-- what the table says of a call
+unfoldable pub testCheck : Lot → ℕ → Slices → Check
+testCheck lot n before =
+    first
+    (testLines lot
+    (tooShort (lot .n) (length (before .labels)) (length (before .counts)) (length (before .means)) (length (before .terms)) (length (before .pulls)))
+    (ltb 999999 n))
 
 -- the answer, and the slices afterwards
 pub record Called : Type 0 where
   pub answer : Outcome TestResult
   pub after : Slices
 
--- the outcome for any arguments
-unfoldable pub outcomeOf : Lot → ℕ → ℕ → Slices → Outcome TestResult
-outcomeOf lot seed n before = judged (first (testLines lot (tooShort (lot .n) before) (ltb 999999 n))) (answered (tested lot seed n))
-
--- the meaning of a call
-unfoldable pub testCall : Lot → ℕ → ℕ → Slices → Called
-testCall lot seed n before =
-    let o = outcomeOf lot seed n before in
+-- what a call leaves, by its outcome
+unfoldable pub leaves : Lot → Outcome TestResult → Slices → Called
+leaves lot o before =
     let observed = groups (lot .labels) in
     let m = keptCount (lot .labels) in
     let g = groupCount (lot .labels) in
@@ -89,6 +87,14 @@ testCall lot seed n before =
         pulls = work zero⁺ o (before .pulls);
       };
     }
+
+-- what one leaves that no line turns away
+unfoldable pub accepted : Lot → ℕ → ℕ → Slices → Called
+accepted lot seed n before = leaves lot (answered (tested lot seed n)) before
+
+-- the meaning of a call of `test`, for any arguments
+unfoldable pub testCall : Lot → ℕ → ℕ → Slices → Called
+testCall lot seed n before = leaves lot (judged (testCheck lot n before) (answered (tested lot seed n))) before
 
 -- ---- how a contract says it: the enum that is returned, and what the slices hold
 

@@ -2,7 +2,6 @@
 pub mod Sampled
 pub mod Together
 pub mod Call
-pub mod Parted
 pub mod Room
 pub mod Measured
 pub mod Answered

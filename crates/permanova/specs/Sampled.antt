@@ -1,35 +1,20 @@
--- Section 8: n_perm shuffles within strata, their hits, and p. Definitions only.
+-- Section 8: p, from the hits of n_perm shuffles within strata. Definitions only.
 use Prim.Native.Nat.{ℕ, _+_}
 use mathlib.Core.Bool.{Bool, true, false, _||_, cond}
 use mathlib.Core.List.{List}
 use lib.Ieee.{Float}
 use Rattle.float.specs.Floats.{_⊘_, num}
-use Rattle.lists.specs.Ranges.{range, table}
-use Rattle.lists.specs.Filters.{countIf}
-use Rattle.lists.specs.Numbers.{members}
-use Rattle.splitmix.specs.Shuffle.{deal, seeded, shuffle}
 use Rattle.lot.specs.Lot.{Lot}
 use Rattle.lot.specs.Kept.{groups, keptCount}
 use Rattle.lot.specs.Strata.{strata, strataCount}
 use Rattle.statistics.specs.declared.Statistic.{Statistic}
 use Rattle.statistics.specs.declared.Statistic.the-variants.{Finite, Unbounded}
-use Rattle.statistics.specs.Hits.{statistic, shuffleHit}
+use Rattle.statistics.specs.Hits.{statistic}
 use Rattle.statistics.specs.Statistics.{locationF, zOf, dispersionOf}
 use Rattle.statistics.specs.Warnings.{uninformed}
+use Rattle.shuffles.specs.Shuffled.{parts, hitsOf}
 use Rattle.permanova.specs.declared.Chance.{Chance}
 use Rattle.permanova.specs.declared.Chance.the-variants.{P, NoP}
-
--- the strata as lists of kept samples, upward: s of them, ss the stratum of each of m samples
-unfoldable pub parts : List ℕ → ℕ → ℕ → List (List ℕ)
-parts ss m s = table s (members ss m)
-
--- the labels after shuffle t
-unfoldable pub shuffled : List (List ℕ) → List ℕ → ℕ → ℕ → List ℕ
-shuffled strata lab seed t = shuffle strata (deal (seeded seed t) lab) .labels
-
--- how many of n shuffles have an F that is a hit of the observed
-unfoldable pub hitsOf : (List ℕ → Float) → List (List ℕ) → List ℕ → ℕ → ℕ → ℕ
-hitsOf f strata lab seed n = let o = statistic (f lab) in countIf (λ t. shuffleHit o (f (shuffled strata lab seed t))) (range 0 n)
 
 -- p = (1 + hits)/(1 + n_perm). No p if strata are given and none informs, or if the observed F is not finite.
 unfoldable pub chance : Bool → Statistic → ℕ → ℕ → Chance

@@ -6,8 +6,9 @@ use Prim.Native.Nat.{_-_}
 use native.Mathlib.Omega.{arith}
 use borrow.Author.Needs.{needs}
 use Rattle.location.specs.Squares.{terms}
-use Rattle.permanova.specs.Measured.{drawn, measured}
-use Rattle.permanova.specs.declared.Hits.{Hits}
+use Rattle.shuffles.specs.declared.Hits.{Hits}
+use Rattle.shuffles.specs.Drawn.{drawn}
+use Rattle.permanova.specs.Measured.{measured}
 use Rattle.permanova.proofs.Chances.{hits-few}
 use Rattle.permanova.proofs.measure.Statement.{statement}
 use Rattle.permanova.proofs.measure.Tie as tie

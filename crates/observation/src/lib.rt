@@ -1,0 +1,195 @@
+// What is observed of labels: location, dispersion, and each group's count and mean z (document 01, sections 2 and 3).
+ghost use mathlib.Core.Path.{_≡_};
+ghost use mathlib.Core.Bool.{true};
+ghost use mathlib.Core.List.{map};
+ghost use Prim.Native.Nat.{_*_, _<_, _≤_};
+ghost use lib.ListN.{length};
+ghost use Rattle.lists.specs.Numbers.{Below};
+ghost use Rattle.lists.specs.Writes.{over};
+ghost use Rattle.members.specs.Members.{Grouped};
+ghost use Rattle.lot.specs.Kept.{sizes};
+ghost use Rattle.location.specs.Squares.{weightAt, terms, pulls};
+ghost use Rattle.dispersion.specs.Dispersion.{zOf};
+ghost use Rattle.dispersion.specs.Anova.{meanZ};
+ghost use Rattle.observation.specs.Observed.{located, spread, observed};
+ghost use Rattle.observation.specs.Room.{Weighed};
+
+pub struct Located {
+    pub total: f64,
+    pub f: f64,
+    pub r2: f64,
+}
+
+// Location of the labels `gs`, whose groups' members are the parts of `mem`.
+fn locate(
+    t: &[f64],
+    w: &[f64],
+    gs: &[u16],
+    m: usize,
+    g: usize,
+    next: &[u16],
+    mem: &[u16],
+) -> Located
+    requires { ⌜ (length (now t) ≡ m * m) × (length (now w) ≡ m) × Grouped (now gs) m g (now next) (now mem) × (1 ≤ g) × (g ≤ m) × (m ≤ 256) ⌝ }
+    ensures { λ r. ⌜ r ≡ located (now (t .entry)) (now (w .entry)) (now (gs .entry)) m g ⌝ }
+{
+    let total = statistics::total(t, w, m);
+    let inside = statistics::within(t, w, gs, m, g, next, mem);
+    let f = location::pseudo_f(total, inside, m, g);
+    let r2 = location::r_squared(total, inside);
+    Located { total, f, r2 }
+}
+
+pub struct Spread {
+    pub f: f64,
+    pub negative: bool,
+}
+
+// Dispersion of the labels `gs`: z is filled. `gw` and `gi` lend room.
+fn disperse(
+    p: &[f64],
+    t: &[f64],
+    w: &[f64],
+    gs: &[u16],
+    m: usize,
+    g: usize,
+    next: &[u16],
+    mem: &[u16],
+    gw: &mut [f64],
+    gi: &mut [f64],
+    z: &mut [f64],
+) -> Spread
+    requires { ⌜ (length (now p) ≡ m * m) × (length (now t) ≡ m * m) × (length (now w) ≡ m) × (length (now gs) ≡ m) × Below g (now gs) ⌝ }
+    requires { ⌜ Grouped (now gs) m g (now next) (now mem) × (length (now mem) ≤ 256) × (g ≤ length (now gw)) × (g ≤ length (now gi)) × (length (now z) ≡ m) × (1 ≤ g) × (g ≤ m) × (m ≤ 256) ⌝ }
+    ensures { λ r. ⌜ (r ≡ spread (now (p .entry)) (now (t .entry)) (now (w .entry)) (now (gs .entry)) m g)
+        × (now (z .exit) ≡ zOf (now (p .entry)) (now (t .entry)) (now (w .entry)) (now (gs .entry)) m) ⌝ }
+{
+    let negative = dispersion::fill_z(p, t, w, gs, m, g, next, mem, gw, gi, z);
+    let f = dispersion::anova_f(z, gs, m, g, next, mem, gw);
+    Spread { f, negative }
+}
+
+// Each group's count and mean z go to the front of the outputs.
+fn list_groups(
+    z: &[f64],
+    gs: &[u16],
+    m: usize,
+    g: usize,
+    next: &[u16],
+    mem: &[u16],
+    counts: &mut [u16],
+    means: &mut [f64],
+)
+    requires { ⌜ (length (now z) ≡ m) × Grouped (now gs) m g (now next) (now mem) × (length (now mem) ≤ 256) × (g ≤ length (now counts)) × (g ≤ length (now means)) ⌝ }
+    ensures { λ _. ⌜ (now (counts .exit) ≡ over (sizes (now (gs .entry)) m g) (now (counts .entry)))
+        × (now (means .exit) ≡ over (meanZ (now (z .entry)) (now (gs .entry)) m g) (now (means .entry))) ⌝ }
+{
+    statistics::fill_sizes(next, mem, m, g, counts);
+    dispersion::fill_means(z, m, g, next, mem, means);
+}
+
+// The weights w, terms t and pulls p of the kept samples `ks`.
+pub fn weigh(
+    d: &[f64],
+    n: usize,
+    ks: &[u16],
+    m: usize,
+    weighted: bool,
+    weights: &[f64],
+    w: &mut [f64],
+    t: &mut [f64],
+    p: &mut [f64],
+)
+    requires { ⌜ (length (now d) ≡ n * n) × (length (now ks) ≡ m) × Below n (now ks) × (weighted ≡ true → length (now weights) ≡ n) ⌝ }
+    requires { ⌜ (length (now w) ≡ m) × (length (now t) ≡ m * m) × (length (now p) ≡ m * m) ⌝ }
+    ensures { λ _. ⌜ (now (w .exit) ≡ map (weightAt weighted (now (weights .entry))) (now (ks .entry)))
+        × (now (t .exit) ≡ terms (now (d .entry)) n (now (ks .entry)) (map (weightAt weighted (now (weights .entry))) (now (ks .entry))) m)
+        × (now (p .exit) ≡ pulls (now (d .entry)) n (now (ks .entry)) (map (weightAt weighted (now (weights .entry))) (now (ks .entry))) m) ⌝ }
+{
+    location::fill_weights(w, weighted, weights, ks);
+    location::fill_terms(t, d, n, ks, w, m);
+    location::fill_pulls(p, d, n, ks, w, m);
+}
+
+pub struct Observed {
+    pub total: f64,
+    pub f: f64,
+    pub r2: f64,
+    pub disp_f: f64,
+    pub negative: bool,
+}
+
+// Both statistics of the labels `gs`, each group's count and mean z, and z. The rest lends room.
+fn observe_with(
+    p: &[f64],
+    t: &[f64],
+    w: &[f64],
+    gs: &[u16],
+    m: usize,
+    g: usize,
+    z: &mut [f64],
+    counts: &mut [u16],
+    means: &mut [f64],
+    next: &mut [u16],
+    mem: &mut [u16],
+    gw: &mut [f64],
+    gi: &mut [f64],
+) -> Observed
+    requires { ⌜ Weighed m g (now p) (now t) (now w) (now gs) × (length (now z) ≡ m) × (g ≤ length (now counts)) × (g ≤ length (now means)) ⌝ }
+    requires { ⌜ (g < length (now next)) × (length (now mem) ≡ 256) × (g ≤ length (now gw)) × (g ≤ length (now gi)) ⌝ }
+    ensures { λ r. ⌜ (r ≡ observed (now (p .entry)) (now (t .entry)) (now (w .entry)) (now (gs .entry)) m g)
+        × (now (z .exit) ≡ zOf (now (p .entry)) (now (t .entry)) (now (w .entry)) (now (gs .entry)) m)
+        × (now (counts .exit) ≡ over (sizes (now (gs .entry)) m g) (now (counts .entry)))
+        × (now (means .exit) ≡ over (meanZ (zOf (now (p .entry)) (now (t .entry)) (now (w .entry)) (now (gs .entry)) m) (now (gs .entry)) m g) (now (means .entry))) ⌝ }
+{
+    members::group(gs, m, g, next, mem);
+    let l = locate(t, w, gs, m, g, next, mem);
+    let d = disperse(p, t, w, gs, m, g, next, mem, gw, gi, z);
+    list_groups(z, gs, m, g, next, mem, counts, means);
+    Observed {
+        total: l.total,
+        f: l.f,
+        r2: l.r2,
+        disp_f: d.f,
+        negative: d.negative,
+    }
+}
+
+// The same, with room of its own.
+pub fn observe(
+    p: &[f64],
+    t: &[f64],
+    w: &[f64],
+    gs: &[u16],
+    m: usize,
+    g: usize,
+    z: &mut [f64],
+    counts: &mut [u16],
+    means: &mut [f64],
+) -> Observed
+    requires { ⌜ Weighed m g (now p) (now t) (now w) (now gs) × (length (now z) ≡ m) × (g ≤ length (now counts)) × (g ≤ length (now means)) ⌝ }
+    ensures { λ r. ⌜ (r ≡ observed (now (p .entry)) (now (t .entry)) (now (w .entry)) (now (gs .entry)) m g)
+        × (now (z .exit) ≡ zOf (now (p .entry)) (now (t .entry)) (now (w .entry)) (now (gs .entry)) m)
+        × (now (counts .exit) ≡ over (sizes (now (gs .entry)) m g) (now (counts .entry)))
+        × (now (means .exit) ≡ over (meanZ (zOf (now (p .entry)) (now (t .entry)) (now (w .entry)) (now (gs .entry)) m) (now (gs .entry)) m g) (now (means .entry))) ⌝ }
+{
+    let mut next = [0u16; 257];
+    let mut mem = [0u16; 256];
+    let mut gw = [0.0f64; 256];
+    let mut gi = [0.0f64; 256];
+    observe_with(
+        p,
+        t,
+        w,
+        gs,
+        m,
+        g,
+        z,
+        counts,
+        means,
+        &mut next,
+        &mut mem,
+        &mut gw,
+        &mut gi,
+    )
+}

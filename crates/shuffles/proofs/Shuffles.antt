@@ -1,0 +1,112 @@
+-- A shuffle keeps the number of labels, and their groups are of the same g. Over parts it is the shuffle within strata. Assumes nothing.
+use mathlib.Core.Path.{_≡_, refl, sym, ap, ap₂, _∙_, subst}
+use mathlib.Core.Bool.{Bool, true, false, cond}
+use mathlib.Core.List.{List, [], _∷_, _++_, foldl}
+use Prim.Native.Nat.{ℕ, zero, suc, _+_, _*_, _-_, _%_, _<_, _≤_}
+use native.Mathlib.Numerals.{add-one}
+use native.Mathlib.Omega.{arith}
+use lib.Dec.{eqb, ltb}
+use borrow.Author.Tests.{eqb-true, eqb-false, ltb-true, ltb-false}
+use lib.ListN.{length, getD, set, length-set, List·getD-eq-default}
+use lib.Seq.{getD-set-same, getD-set-other, set-out}
+use lib.Ieee.{Float}
+use Rattle.lists.specs.Ranges.{range, table}
+use Rattle.lists.specs.Filters.{countIf}
+use Rattle.lists.specs.Loops.{inTurn, downTo}
+use Rattle.lists.specs.Numbers.{members, Below}
+use Rattle.lists.proofs.Ranges.{table-last}
+use Rattle.lists.proofs.Loops.{inTurn-keeps}
+use Rattle.members.specs.Members.{part, Grouped}
+use Rattle.splitmix.specs.SplitMix.{advance, mix}
+use Rattle.splitmix.specs.Shuffle.{Deal, deal, seeded, swapped, swapDrawn, shuffleStratum, shuffle}
+use Rattle.statistics.specs.declared.Statistic.{Statistic}
+use Rattle.statistics.specs.Hits.{shuffleHit}
+use Rattle.shuffles.specs.declared.Hits.{Hits}
+use Rattle.shuffles.specs.Shuffled.{parts, shuffled}
+use Rattle.shuffles.specs.Parted.{shuffledBy}
+
+-- m labels of g groups
+pub record Fine (m g : ℕ) (l : List ℕ) : Type 0 where
+  pub long : length l ≡ m
+  pub below : Below g l
+
+-- an entry of such a list, or what stands for none
+entry-below : (g : ℕ) (l : List ℕ) (i : ℕ) → 0 < g → Below g l → getD l i 0 < g
+entry-below g l i some b = go (ltb i (length l)) refl
+  where
+    go : (t : Bool) → ltb i (length l) ≡ t → getD l i 0 < g
+    go true e = b i (ltb-true i (length l) e)
+    go false e = subst (λ (x : ℕ). x < g) (sym (List·getD-eq-default l 0 (ltb-false i (length l) e))) some
+
+set-below : (g : ℕ) (l : List ℕ) (i x : ℕ) → Below g l → x < g → Below g (set l i x)
+set-below g l i x b h j k = go (eqb j i) refl (subst (λ (n : ℕ). j < n) (length-set l i x) k)
+  where
+    go : (t : Bool) → eqb j i ≡ t → j < length l → getD (set l i x) j 0 < g
+    go true e in-list = let same : j ≡ i = eqb-true j i e in
+        subst (λ (n : ℕ). getD (set l i x) n 0 < g) (sym same) (subst (λ (y : ℕ). y < g) (sym (getD-set-same l i x 0 (subst (λ (n : ℕ). n < length l) same in-list))) h)
+    go false e in-list = subst (λ (y : ℕ). y < g) (sym (getD-set-other l i j x 0 (eqb-false j i e))) (b j in-list)
+
+module _ (m g : ℕ) (some : 0 < g) where
+  swapped-fine : (l : List ℕ) (i j : ℕ) → Fine m g l → Fine m g (swapped l i j)
+  unfolding swapped
+  swapped-fine l i j f =
+      let x = getD l j 0 in
+      let y = getD l i 0 in
+      let first : Below g (set l i x) = set-below g l i x (f .below) (entry-below g l j some (f .below)) in
+      record {
+        long = length-set (set l i x) j y ∙ length-set l i x ∙ f .long;
+        below = set-below g (set l i x) j y first (entry-below g l i some (f .below));
+      }
+
+  stratum-fine : (stratum : List ℕ) (d : Deal) → Fine m g (d .labels) → Fine m g (shuffleStratum stratum d .labels)
+  unfolding shuffleStratum downTo swapDrawn
+  stratum-fine stratum d f =
+      inTurn-keeps (λ u. Fine m g (u .labels)) (λ j. swapDrawn stratum (length stratum - (j + 1)))
+      (λ k u p. swapped-fine (u .labels) (getD stratum (length stratum - (k + 1)) 0) (getD stratum (mix (advance (u .state)) % (length stratum - (k + 1) + 1)) 0) p)
+      (length stratum - 1) d f
+
+  pub shuffledBy-fine : (next mem : List ℕ) (s : ℕ) (lab : List ℕ) (seed t : ℕ) → Fine m g lab → Fine m g (shuffledBy next mem s lab seed t)
+  unfolding shuffledBy
+  shuffledBy-fine next mem s lab seed t f =
+      inTurn-keeps (λ u. Fine m g (u .labels)) (λ k. shuffleStratum (part next mem k)) (λ k u p. stratum-fine (part next mem k) u p) s (deal (seeded seed t) lab) f
+
+-- ---- parts that are the members of strata
+
+fold-append : {A B : Type 0} (f : B → A → B) (b : B) (xs : List A) (x : A) → foldl f b (xs ++ (x ∷ [])) ≡ f (foldl f b xs) x
+fold-append f b [] x = refl
+fold-append f b (y ∷ ys) x = fold-append f (f b y) ys x
+
+-- going through a table is a loop
+fold-table : {A B : Type 0} (f : B → A → B) (h : ℕ → A) (n : ℕ) (b : B) → foldl f b (table n h) ≡ inTurn (λ k u. f u (h k)) n b
+unfolding inTurn
+fold-table f h zero b = unfold table Rattle.lists.specs.Ranges.upFrom in refl
+fold-table f h (suc n) b =
+    ap (λ (k : ℕ). foldl f b (table k h)) (sym (add-one n)) ∙ ap (foldl f b) (table-last h n) ∙ fold-append f b (table n h) (h n) ∙ ap (λ u. f u (h n)) (fold-table f h n b)
+
+inTurn-ext : {A : Type 0} (f h : ℕ → A → A) (n : ℕ) (a : A) → ((k : ℕ) (u : A) → k < n → f k u ≡ h k u) → inTurn f n a ≡ inTurn h n a
+unfolding inTurn
+inTurn-ext f h zero a e = refl
+inTurn-ext f h (suc n) a e = ap (f n) (inTurn-ext f h n a (λ k u l. e k u (omega arith))) ∙ e n (inTurn h n a) (omega arith)
+
+pub shuffled-within : (ss : List ℕ) (m s : ℕ) (next mem lab : List ℕ) (seed t : ℕ) → Grouped ss m s next mem → shuffledBy next mem s lab seed t ≡ shuffled (parts ss m s) lab seed t
+unfolding shuffledBy shuffled parts shuffle
+shuffled-within ss m s next mem lab seed t g =
+    ap (λ (d : Deal). d .labels)
+    (inTurn-ext (λ k. shuffleStratum (part next mem k)) (λ k u. shuffleStratum (members ss m k) u) s (deal (seeded seed t) lab) (λ k u h. ap (λ (p : List ℕ). shuffleStratum p u) (g .are k h))
+    ∙ sym (fold-table (λ u stratum. shuffleStratum stratum u) (members ss m) s (deal (seeded seed t) lab)))
+
+-- ---- hits over parts are hits within strata
+
+countIf-ext : {A : Type 0} (p q : A → Bool) (xs : List A) → ((x : A) → p x ≡ q x) → countIf p xs ≡ countIf q xs
+unfolding countIf
+countIf-ext p q [] e = refl
+countIf-ext p q (x ∷ xs) e = ap₂ (λ (b : Bool) (n : ℕ). cond b 1 0 + n) (e x) (countIf-ext p q xs e)
+
+pub hits-within : (ss : List ℕ) (m s : ℕ) (next mem gs : List ℕ) (seed n : ℕ) → Grouped ss m s next mem → (o : Statistic) (f : List ℕ → Float)
+    → countIf (λ i. shuffleHit o (f (shuffledBy next mem s gs seed i))) (range 0 n) ≡ countIf (λ i. shuffleHit o (f (shuffled (parts ss m s) gs seed i))) (range 0 n)
+hits-within ss m s next mem gs seed n g o f =
+    countIf-ext (λ i. shuffleHit o (f (shuffledBy next mem s gs seed i))) (λ i. shuffleHit o (f (shuffled (parts ss m s) gs seed i))) (range 0 n)
+    (λ i. ap (λ (l : List ℕ). shuffleHit o (f l)) (shuffled-within ss m s next mem gs seed i g))
+
+pub hits-are : (r : Hits) {a b : ℕ} → r .location ≡ a → r .dispersion ≡ b → r ≡ record { location = a; dispersion = b }
+hits-are r p q = λ i. record { location = p i; dispersion = q i }
