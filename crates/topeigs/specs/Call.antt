@@ -22,11 +22,15 @@ use Rattle.topeigs.specs.TopEigs.{topEigs}
 unfoldable pub misfits : ℕ → ℕ → ℕ → ℕ → ℕ → ℕ → ℕ → Bool
 misfits k n a out w m v = not (eqb a (n * n)) || short ((out of k + k * n) ∷ (w of n + n * n) ∷ (m of n * n) ∷ (v of n * n) ∷ [])
 
+-- line 2: n above 256, components 0 or above 16
+unfoldable pub beyond : ℕ → ℕ → Bool
+beyond n components = ltb 256 n || eqb components 0 || ltb 16 components
+
 -- lines 1 to 3 of the table
 unfoldable pub topLines : ℕ → ℕ → List Float → ℕ → ℕ → ℕ → ℕ → List Line
 topLines components n a out w m v =
     (Length when misfits (min components n) n (length a) out w m v)
-    ∷ (Limit when ltb 256 n || eqb components 0 || ltb 16 components)
+    ∷ (Limit when beyond n components)
     ∷ (Value when any notFinite a)
     ∷ []
 

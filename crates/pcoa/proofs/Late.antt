@@ -1,0 +1,77 @@
+-- Past the table an operation is refused by 10 or 11 alone: outputs and work are zero then, and the work is zero either way. Assumes nothing.
+use mathlib.Core.Path.{_≡_, refl, sym, ap, _∙_}
+use mathlib.Core.Bool.{Bool, true, false, cond}
+use mathlib.Core.List.{List, _++_}
+use Prim.Native.Nat.{ℕ, _≤_, min}
+use native.Mathlib.Omega.{arith}
+use lib.ListN.{length, take, drop, replicate, length-append, length-replicate, take-append-drop}
+use lib.Ieee.{Float, isNan}
+use Rattle.float.specs.Floats.{zero⁺}
+use Rattle.lists.specs.Filters.{any}
+use Rattle.lists.specs.Writes.{over, cleared}
+use Rattle.lists.proofs.Writes.{over-all}
+use Rattle.outcome.specs.declared.Refusal.{Refusal}
+use Rattle.outcome.specs.Outcome.{Outcome, answered, refused, andThen}
+use Rattle.outcome.specs.Slices.{untouched, output, work}
+use Rattle.rotation.specs.Sweeps.{Swept, sweepsFrom}
+use Rattle.rotation.specs.Rotation.{turned}
+use Rattle.jacobi.specs.Eigen.{identity, diagonal, eigenpairs, jacobi}
+use Rattle.jacobi.proofs.Extra.{over-front}
+use Rattle.topeigs.specs.TopEigs.{topEigs}
+
+abbrev pub Late : {A : Type 0} → Outcome A → Type 0
+Late (answered a) = Unit
+Late (refused r) = untouched r ≡ false
+
+pub late-then : {A B : Type 0} (o : Outcome A) (f : A → B) → Late o → Late (andThen o (λ a. answered (f a)))
+unfolding andThen
+late-then (answered a) f h = tt
+late-then (refused r) f h = h
+
+late-jacobi : (n : ℕ) (a : List Float) → Late (jacobi n a)
+unfolding jacobi eigenpairs
+late-jacobi n a = by (sweepsFrom 100 n 0 (turned a (identity n))) _ refl
+  where
+    by : (w : Swept) (b : Bool) → any isNan (diagonal n (w .left .matrix)) ≡ b → Late (eigenpairs n w)
+    by w true t = rw (t, eigenpairs) refl
+    by w false t = rw (t, eigenpairs) tt
+
+pub late-top : (k n : ℕ) (a : List Float) → Late (topEigs k n a)
+unfolding topEigs
+late-top k n a = refl
+
+-- ---- what such an operation leaves
+
+pub late-work : {A : Type 0} (o : Outcome A) (l : List Float) → Late o → cleared zero⁺ l ≡ work zero⁺ o l
+unfolding work
+late-work (answered a) l h = refl
+late-work (refused r) l h = sym (ap (λ (b : Bool). cond b l (cleared zero⁺ l)) h)
+
+-- an output of just its length is all zero, or all that is answered
+pub zeroed : (k : ℕ) (out : List Float) {new : List Float} → length out ≡ k → new ≡ cleared zero⁺ out → new ≡ over (replicate k zero⁺) out
+unfolding cleared
+zeroed k out e h = let many = length-replicate k zero⁺ in h ∙ ap (λ (j : ℕ). replicate j zero⁺) e ∙ sym (over-all (replicate k zero⁺) out (omega arith))
+
+pub late-output : {A : Type 0} (part : A → List Float) (k : ℕ) (o : Outcome A) (out : List Float) {r : Refusal} {new : List Float} → o ≡ refused r → Late o → length out ≡ k
+    → new ≡ cleared zero⁺ out → new ≡ output zero⁺ part k o out
+unfolding output
+late-output part k (answered a) out e h many f = cc
+late-output part k (refused r) out e h many f = zeroed k out many f ∙ sym (ap (λ (b : Bool). cond b out (over (replicate k zero⁺) out)) h)
+
+-- the first part of a longer output was lent, and comes back
+pub output-front : {A : Type 0} (part : A → List Float) (k : ℕ) (o : Outcome A) (out : List Float) {new : List Float} → length new ≡ k
+    → new ≡ output zero⁺ part k o (take k out) → new ++ drop k out ≡ output zero⁺ part k o out
+unfolding output over
+output-front part k (answered a) out many f =
+    let whole = ap length f ∙ length-append (part a) (drop (length (part a)) (take k out)) in
+    ap (λ (t : List Float). t ++ drop k out) f ∙ over-front (part a) out k (omega arith)
+output-front part k (refused r) out {new} many f = by (untouched r) f
+  where
+    by : (t : Bool) → new ≡ cond t (take k out) (over (replicate k zero⁺) (take k out)) → new ++ drop k out ≡ cond t out (over (replicate k zero⁺) out)
+    by true f = ap (λ (t : List Float). t ++ drop k out) f ∙ take-append-drop k out
+    by false f = let zeros = length-replicate k zero⁺ in ap (λ (t : List Float). t ++ drop k out) f ∙ over-front (replicate k zero⁺) out k (omega arith)
+
+-- components above n mean n
+pub top-min : (components n : ℕ) (a : List Float) → topEigs (min components n) n a ≡ topEigs components n a
+unfolding topEigs
+top-min components n a = refl

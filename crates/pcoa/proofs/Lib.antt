@@ -1,0 +1,5 @@
+-- What the proofs of the functions share.
+pub mod Late
+pub mod Found
+pub mod Call
+pub mod Lines

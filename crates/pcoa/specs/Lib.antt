@@ -1,0 +1,3 @@
+-- Section 4 of document 01: `pcoa`.
+pub mod Given
+pub mod Call

@@ -1,0 +1,80 @@
+-- Which pairs are found, by what Jacobi answers. Assumes nothing.
+use mathlib.Core.Path.{_≡_, refl, sym, ap, ap₂, _∙_}
+use mathlib.Core.Bool.{Bool, true, false}
+use mathlib.Core.List.{List, _++_}
+use Prim.Native.Nat.{ℕ, _+_, _*_, _≤_}
+use native.Mathlib.Omega.{arith}
+use lib.ListN.{length, take, drop, replicate, length-append, length-replicate}
+use lib.Seq.{take-at, drop-at}
+use lib.Ieee.{Float, isNan}
+use Rattle.float.specs.Floats.{zero⁺}
+use Rattle.lists.specs.Filters.{any}
+use Rattle.lists.specs.Writes.{over, cleared}
+use Rattle.lists.proofs.Ranges.{length-grid}
+use Rattle.lists.proofs.Writes.{over-all}
+use Rattle.outcome.specs.declared.Refusal.{Refusal}
+use Rattle.outcome.specs.declared.Refusal.the-variants.{Unordered}
+use Rattle.outcome.specs.declared.Check.the-variants.{Passed, Refused}
+use Rattle.outcome.specs.Outcome.{Outcome, answered, refused, andThen}
+use Rattle.outcome.specs.Slices.{output}
+use Rattle.rotation.specs.Rotation.{turned}
+use Rattle.rotation.specs.Sweeps.{sweepsFrom}
+use Rattle.jacobi.specs.declared.Answer.{Answer}
+use Rattle.jacobi.specs.declared.Answer.the-variants as jacobi-answers
+use Rattle.jacobi.specs.Eigen.{Eigen, identity, diagonal, eigenpairs, jacobi}
+use Rattle.jacobi.specs.Call.{eigenOf}
+use Rattle.ritz.specs.Ritz.{combinedAt, combined, Pairs}
+use Rattle.ritz.specs.Given.{written, Given, given, gives}
+
+pub length-combined : (n b k : ℕ) (v q : List Float) → length (combined n b k v q) ≡ k * n
+unfolding combined
+length-combined n b k v q = length-grid k n (combinedAt n b v q)
+
+-- the eigenpairs are refused for a NaN alone
+pub only-unordered : (n : ℕ) (a : List Float) (r : Refusal) → refused r ≡ jacobi n a → r ≡ Unordered
+unfolding jacobi eigenpairs
+only-unordered n a r e = by (any isNan (diagonal n (sweepsFrom 100 n 0 (turned a (identity n)) .left .matrix))) _ e
+  where
+    by : (b : Bool) (found : Eigen) → _≡_ {A = Outcome Eigen} (refused r) (elim b as (λ b. Outcome Eigen) [ true ↦ refused Unordered | false ↦ answered found ]) → r ≡ Unordered
+    by true found e = cc
+    by false found e = cc
+
+-- An output of just the length, by what is found: zeros on 11, else the values and the vectors.
+module _ (k n : ℕ) (out : List Float) (len : length out ≡ k + k * n) {out′ : List Float} where
+  gives-unordered : out′ ≡ cleared zero⁺ out → given k (Refused Unordered) out′ ≡ gives k n (refused Unordered) out
+  unfolding gives written output cleared
+  gives-unordered h =
+      let many = length-replicate (k + k * n) zero⁺ in
+      let all : out′ ≡ over (replicate (k + k * n) zero⁺) out =
+      h ∙ ap (λ (j : ℕ). replicate j zero⁺) len ∙ sym (over-all (replicate (k + k * n) zero⁺) out (omega arith)) in
+      ap (λ (l : List Float). record { found = refused Unordered; out = l }) all
+
+  gives-pairs : (values vectors : List Float) → length values ≡ k → length vectors ≡ k * n → out′ ≡ values ++ vectors
+      → given k Passed out′ ≡ gives k n (answered (record { values = values; vectors = vectors })) out
+  unfolding gives written output
+  gives-pairs values vectors many more h =
+      let both = length-append values vectors in
+      let front : take k out′ ≡ values = ap (take k) h ∙ take-at values vectors k many in
+      let back : drop k out′ ≡ vectors = ap (drop k) h ∙ drop-at values vectors k many in
+      let all : out′ ≡ over (values ++ vectors) out = h ∙ sym (over-all (values ++ vectors) out (omega arith)) in
+      λ i. record { found = answered (record { values = front i; vectors = back i }); out = all i }
+
+  -- what follows from the answer of Jacobi for b by b entries t: `pairs` holds b values, and then b rows of b
+  module _ (b : ℕ) (t : List Float) (found : Eigen → Pairs) (pairs : List Float) {r : Answer} (e : eigenOf b r pairs ≡ jacobi b t) where
+    pub found-refused : {why : Refusal} → r ≡ jacobi-answers.Refused why → out′ ≡ cleared zero⁺ out
+        → given k (Refused Unordered) out′ ≡ gives k n (andThen (jacobi b t) (λ p. answered (found p))) out
+    unfolding andThen
+    found-refused {why} is h =
+        let here : refused why ≡ jacobi b t = ap (λ (s : Answer). eigenOf b s pairs) (sym is) ∙ e in
+        let only : refused Unordered ≡ jacobi b t = ap (λ (s : Refusal). refused s) (sym (only-unordered b t why here)) ∙ here in
+        gives-unordered h ∙ ap (λ (o : Outcome Eigen). gives k n (andThen o (λ p. answered (found p))) out) only
+
+    pub found-answered : {s : ℕ} (values vectors : List Float) → r ≡ jacobi-answers.Sweeps s → length values ≡ k → length vectors ≡ k * n → out′ ≡ values ++ vectors
+        → found (record { values = take b pairs; vectors = drop b pairs; sweeps = s }) ≡ record { values = values; vectors = vectors }
+        → given k Passed out′ ≡ gives k n (andThen (jacobi b t) (λ p. answered (found p))) out
+    unfolding andThen
+    found-answered {s} values vectors is many more h is-found =
+        let here : answered (record { values = take b pairs; vectors = drop b pairs; sweeps = s }) ≡ jacobi b t = ap (λ (s : Answer). eigenOf b s pairs) (sym is) ∙ e in
+        gives-pairs values vectors many more h
+        ∙ ap (λ (p : Pairs). gives k n (answered p) out) (sym is-found)
+        ∙ ap (λ (o : Outcome Eigen). gives k n (andThen o (λ p. answered (found p))) out) here

@@ -1,0 +1,79 @@
+-- `topeigs::top_eigs` meets its contract. By whether a line of the table holds. Assumes nothing.
+use mathlib.Core.Path.{sym, _∙_}
+use native.Mathlib.Nat.{min-le-right}
+use borrow.Author.Needs.{needs}
+use lib.ListN.{length}
+use Rattle.topeigs.proofs.Call.{call-refused, call-passed, passed-fits}
+use Rattle.topeigs.proofs.top_eigs.Statement.{statement}
+use Rattle.topeigs.proofs.top_eigs.Tie as tie
+
+check-requires : tie.Need-check-requires
+check-requires c κs = search needs
+
+enum-known-c : tie.Need-enum-known-c
+enum-known-c c = search needs
+
+enum-told : tie.Need-enum-told
+enum-told c = search needs
+
+lesser-requires : tie.Need-lesser-requires
+lesser-requires c κs = search needs
+
+solve-requires : tie.Need-solve-requires
+solve-requires c κs =
+    let at-enum-told = c .before .before .before .before .before in
+    let at-check = at-enum-told .before .before in
+    let at-start = at-check .before .before .before .before .before .before in
+    let a = at-start .args in
+    let passed = sym (at-enum-told .enum-told .given .1) ∙ at-check .check .ensures in
+    let fits = passed-fits (a .components) (a .n) (a .a .now) (length (a .out .now)) (length (a .w .now)) (length (a .m .now)) (length (a .v .now)) passed in
+    let k-is = c .lesser .ensures in (
+      (rw k-is (fits .out-fits), fits .w-fits, fits .m-fits, fits .v-fits),
+      (fits .a-fits, fits .n-fits, rw k-is (min-le-right (a .components) (a .n)), rw k-is (fits .k-fits)),
+    )
+
+returns : tie.Need-returns
+returns c =
+    let at-c = c .before in
+    let at-check = at-c .before .before in
+    let at-start = at-check .before .before .before .before .before .before in
+    let a = at-start .args in
+    call-refused (a .components) (a .n) (a .a .now) (a .out .now) (a .w .now) (a .m .now) (a .v .now) (sym (at-c .c .given .1) ∙ at-check .check .ensures)
+
+same-length : tie.Need-same-length
+same-length c = search needs
+
+same-length-2 : tie.Need-same-length-2
+same-length-2 c = search needs
+
+same-length-3 : tie.Need-same-length-3
+same-length-3 c = search needs
+
+same-length-4 : tie.Need-same-length-4
+same-length-4 c = search needs
+
+returns-2 : tie.Need-returns-2
+returns-2 c =
+    let at-solve = c .before .before .before .before .before .before .before .before in
+    let at-lesser = at-solve .before in
+    let at-enum-told = at-lesser .before .before .before .before .before in
+    let at-check = at-enum-told .before .before in
+    let at-start = at-check .before .before .before .before .before .before in
+    let a = at-start .args in
+    call-passed (a .components) (a .n) (a .a .now) (a .out .now) (a .w .now) (a .m .now) (a .v .now) (sym (at-enum-told .enum-told .given .1) ∙ at-check .check .ensures) (at-lesser .lesser .ensures) (at-solve .solve .ensures)
+
+pub top-eigs-spec : {M : Type 1} → statement M
+top-eigs-spec =
+    tie.close
+    (tie.spec
+    check-requires
+    enum-known-c
+    enum-told
+    lesser-requires
+    solve-requires
+    returns
+    same-length
+    same-length-2
+    same-length-3
+    same-length-4
+    returns-2)
