@@ -1,13 +1,14 @@
 -- A way's assignment by cases, as the code takes it apart. Assumes nothing.
 use mathlib.Core.Path.{_≡_, refl, sym, ap, ap₂, subst, _∙_}
-use mathlib.Core.Bool.{Bool, true, false, cond}
+use mathlib.Core.Bool.{Bool, true, false, _||_, cond}
 use mathlib.Core.List.{List}
 use Prim.Native.Nat.{ℕ, _+_, _*_, _≤_}
 use native.Mathlib.Omega.{arith}
-use lib.Dec.{leb}
+use lib.Dec.{leb, ltb}
 use lib.ListN.{length, getD, set, replicate}
 use lib.Ieee.{Float}
 use Rattle.lists.specs.Loops.{inTurn}
+use Rattle.lists.specs.Filters.{any}
 use Rattle.lot.specs.Lot.{none}
 use Rattle.outcome.specs.declared.Refusal.{Refusal}
 use Rattle.outcome.specs.Outcome.{Outcome, answered, refused, andThen}
@@ -16,7 +17,7 @@ use Rattle.dapc.specs.declared.Answer.{Answer}
 use Rattle.dapc.specs.declared.Answer.the-variants.{Scored, Refused}
 use Rattle.moments.specs.Moments.{Numbered, grouped}
 use Rattle.dapc.specs.Dapc.{Scores, axesOf, discriminate}
-use Rattle.dapc.specs.Call.{Called, leaves, called, outcomeOf, Ready}
+use Rattle.dapc.specs.Call.{badCoordinate, Called, leaves, called, outcomeOf, Ready}
 use Rattle.judging.specs.declared.Assignment.{Assignment}
 use Rattle.judging.specs.declared.Assignment.the-variants.{Right, Withheld}
 use Rattle.statistics.specs.declared.Statistic.{Statistic}
@@ -24,7 +25,7 @@ use Rattle.statistics.specs.Hits.{hit}
 use Rattle.judging.specs.declared.Seen.{Seen}
 use Rattle.judging.specs.declared.Hits.{Hits}
 use Rattle.judging.specs.Assignments.{rightCount, asRight}
-use Rattle.judging.specs.Judging.{placed, found, assignmentBy, Prepared, Judged, Placing, hitsOf}
+use Rattle.judging.specs.Judging.{placed, found, barredBy, assignmentBy, Prepared, Judged, Placing, hitsOf}
 
 -- ---- what `dapc` answers
 
@@ -36,7 +37,7 @@ pub right-refused : {r : Answer} {x : Refusal} → r ≡ Refused x → Withheld 
 unfolding rightCount
 right-refused e = rw e
 
-answer-found : (n p axes : ℕ) (o : Outcome Scores) (out : List Float) (assigned : List ℕ) → rightCount (leaves n p axes o out assigned .answer) ≡ found o
+pub answer-found : (n p axes : ℕ) (o : Outcome Scores) (out : List Float) (assigned : List ℕ) → rightCount (leaves n p axes o out assigned .answer) ≡ found o
 unfolding rightCount found leaves andThen
 answer-found n p axes (answered s) out assigned = refl
 answer-found n p axes (refused r) out assigned = refl
@@ -89,6 +90,14 @@ prepared-placing a j = record {
 }
 
 -- ---- where the coordinates are barred, and where not
+
+pub barred-beyond : (x : List Float) (lead : ℕ) {b : Bool} → b ≡ any badCoordinate x → b ≡ true → true ≡ barredBy x lead
+unfolding barredBy
+barred-beyond x lead e h = ap (λ (t : Bool). t || ltb lead 2) (sym h ∙ e)
+
+pub barred-few : (x : List Float) (lead : ℕ) {b : Bool} → b ≡ any badCoordinate x → b ≡ false → ltb lead 2 ≡ barredBy x lead
+unfolding barredBy
+barred-few x lead e h = ap (λ (t : Bool). t || ltb lead 2) (sym h ∙ e)
 
 module _ (n columns lead : ℕ) (x : List Float) (ks : List ℕ) (g : ℕ) (way : List ℕ) {barred : Bool} where
   pub assignment-barred : barred ≡ true → Withheld ≡ assignmentBy barred n columns lead x ks g way

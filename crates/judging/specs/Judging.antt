@@ -2,12 +2,14 @@
 -- t are the terms, p the pulls and w the weights of m kept samples ks, of n; x are the coordinates of all n, rows of `columns`, of which `lead` lead; the way
 -- gives the kept samples g groups.
 use mathlib.Core.Path.{_≡_}
-use mathlib.Core.Bool.{Bool, cond}
+use mathlib.Core.Bool.{Bool, _||_, cond}
 use mathlib.Core.List.{List}
 use Prim.Native.Nat.{ℕ, _+_, _*_, _≤_}
+use lib.Dec.{ltb}
 use lib.ListN.{length, getD, set, replicate}
 use lib.Ieee.{Float}
 use Rattle.lists.specs.Loops.{inTurn}
+use Rattle.lists.specs.Filters.{any}
 use Rattle.lists.specs.Numbers.{Below}
 use Rattle.outcome.specs.Outcome.{Outcome, answered, refused}
 use Rattle.lot.specs.Lot.{none}
@@ -18,6 +20,7 @@ use Rattle.statistics.specs.declared.Statistic.{Statistic}
 use Rattle.statistics.specs.Hits.{statistic, hit}
 use Rattle.moments.specs.Moments.{Numbered, grouped}
 use Rattle.dapc.specs.Dapc.{Scores, axesOf, discriminate}
+use Rattle.dapc.specs.Call.{badCoordinate}
 use Rattle.judging.specs.declared.Assignment.{Assignment}
 use Rattle.judging.specs.declared.Assignment.the-variants.{Right, Withheld}
 use Rattle.judging.specs.declared.Seen.{Seen}
@@ -40,6 +43,10 @@ placed n ks way = inTurn (λ k l. set l (getD ks k 0) (getD way k 0)) (length ks
 unfoldable pub found : Outcome Scores → Assignment
 found (answered s) = Right (s .right)
 found (refused r) = Withheld
+
+-- whatever the way, `dapc` refuses these coordinates: by 3, or by 9
+unfoldable pub barredBy : List Float → ℕ → Bool
+barredBy x lead = any badCoordinate x || ltb lead 2
 
 -- where `barred`, `dapc` refuses these coordinates, whatever the way
 unfoldable pub assignmentBy : Bool → ℕ → ℕ → ℕ → List Float → List ℕ → ℕ → List ℕ → Assignment

@@ -13,7 +13,7 @@ ghost use Rattle.statistics.specs.Hits.{hit};
 ghost use Rattle.dapc.specs.Dapc.{discriminate};
 ghost use Rattle.dapc.specs.Call.{outcomeOf};
 ghost use Rattle.judging.specs.Assignments.{rightCount, asRight};
-ghost use Rattle.judging.specs.Judging.{locationBy, dispersionBy, placed, found, assignmentBy, Prepared, Judged, Placing, locationHit, dispersionHit, assignmentHit, hitsOf};
+ghost use Rattle.judging.specs.Judging.{locationBy, dispersionBy, placed, found, barredBy, assignmentBy, Prepared, Judged, Placing, locationHit, dispersionHit, assignmentHit, hitsOf};
 
 // How many kept samples were found to be in their own group, or none where `dapc` refuses.
 pub enum Assignment {
@@ -183,8 +183,18 @@ fn assign_with(
     right_of(r)
 }
 
+// Whether `dapc` refuses these coordinates whatever the way.
+pub fn is_barred(x: &[f64], lead: usize) -> bool
+    ensures { λ r. ⌜ r ≡ barredBy (now (x .entry)) lead ⌝ }
+{
+    if dapc::beyond(x) {
+        return true;
+    }
+    lead < 2
+}
+
 // The same with room of its own; none where `dapc` refuses these coordinates whatever the way.
-fn assignment_of(
+pub fn assignment_of(
     scores: &mut [f64],
     x: &[f64],
     ks: &[u16],
@@ -241,7 +251,7 @@ fn one_if(yes: bool) -> usize
 }
 
 // The three statistics of a way.
-pub fn see(
+fn see(
     scores: &mut [f64],
     t: &[f64],
     p: &[f64],
