@@ -22,7 +22,7 @@ use Rattle.permanova.specs.declared.TestResult.{TestResult}
 use Rattle.permanova.specs.declared.Measured.{Measured}
 use Rattle.permanova.specs.Measured.{measured, concluded}
 use Rattle.permanova.specs.Answered.{answerFor, meansFor}
-use Rattle.permanova.proofs.Chances.{hits-few}
+use Rattle.chances.proofs.Chances.{hits-few}
 
 -- the samples that inform are at most all
 pub informing-few : (ss gs : List ℕ) (m : ℕ) {a : ℕ} → a ≡ informative ss gs m → a ≤ m

@@ -27,8 +27,9 @@ use Rattle.dispersion.specs.Anova.{grandMean, groupMean, groupMeans, squared, s
 use Rattle.statistics.specs.declared.Statistic.the-variants.{Unbounded}
 use Rattle.statistics.specs.Statistics.{totalOf, withinOf, locationF, zOf, dispersionOf}
 use Rattle.statistics.specs.Hits.{statistic}
-use Rattle.permanova.specs.declared.Chance.the-variants.{NoP}
-use Rattle.permanova.specs.Sampled.{chance, chanceOf, locationChance, dispersionChance}
+use Rattle.chances.specs.declared.Chance.the-variants.{NoP}
+use Rattle.chances.specs.Chances.{chance}
+use Rattle.permanova.specs.Sampled.{chanceOf, locationChance, dispersionChance}
 use Rattle.permanova.specs.Call.{Slices, tooShort, testCheck, tested}
 
 -- ---- the example of section 7, with these labels

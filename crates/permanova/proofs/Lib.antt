@@ -1,6 +1,4 @@
 -- The laws that the proofs of `permanova` share.
-pub mod Chances
-pub mod Alarms
 pub mod Answers
 pub mod Lots
 pub mod Whole

@@ -21,7 +21,7 @@ use Rattle.permanova.specs.declared.TestResult.{TestResult}
 use Rattle.permanova.specs.declared.Answer.{Answer}
 use Rattle.permanova.specs.declared.Answer.the-variants.{Tested, Refused}
 use Rattle.permanova.specs.Sampled.{locationChance, dispersionChance}
-use Rattle.permanova.specs.Together.{together}
+use Rattle.chances.specs.Together.{together}
 
 -- what an accepted lot is answered
 unfoldable pub tested : Lot → ℕ → ℕ → TestResult

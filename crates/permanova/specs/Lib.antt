@@ -1,6 +1,5 @@
 -- Section 8 of document 01: the sampled test.
 pub mod Sampled
-pub mod Together
 pub mod Call
 pub mod Room
 pub mod Measured

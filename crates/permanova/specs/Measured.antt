@@ -14,8 +14,8 @@ use Rattle.observation.specs.Observed.{observed}
 use Rattle.shuffles.specs.Drawn.{drawn}
 use Rattle.permanova.specs.declared.Measured.{Measured}
 use Rattle.permanova.specs.declared.TestResult.{TestResult}
-use Rattle.permanova.specs.Sampled.{chance}
-use Rattle.permanova.specs.Together.{together}
+use Rattle.chances.specs.Chances.{chance}
+use Rattle.chances.specs.Together.{together}
 
 -- both statistics and their p
 unfoldable pub measured : List Float → List Float → List Float → List ℕ → List ℕ → ℕ → ℕ → ℕ → ℕ → ℕ → Bool → Measured

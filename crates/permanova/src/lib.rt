@@ -1,8 +1,8 @@
 // The sampled test (document 01, section 8): PERMANOVA and PERMDISP with shuffles within strata.
+use chances::Chance;
 use outcome::Check;
 use outcome::Refusal;
 use shuffles::Seen;
-use statistics::Statistic;
 ghost use mathlib.Core.Path.{_≡_};
 ghost use Prim.Native.Nat.{_*_, _<_, _≤_};
 ghost use lib.ListN.{length, take};
@@ -11,26 +11,12 @@ ghost use Rattle.lot.specs.Kept.{sizes};
 ghost use Rattle.dispersion.specs.Dispersion.{zOf};
 ghost use Rattle.dispersion.specs.Anova.{meanZ};
 ghost use Rattle.permanova.specs.Measured.{measured, concluded};
-ghost use Prim.Native.Nat.{max, min};
-ghost use mathlib.Core.Bool.{not, _&&_};
-ghost use lib.Dec.{eqb};
-ghost use lib.Ieee.{lt};
-ghost use Rattle.float.specs.Floats.{0·5, zero⁺};
-ghost use Rattle.lists.specs.Numbers.{howMany};
-ghost use Rattle.lot.specs.Lot.{none, lotOf};
-ghost use Rattle.statistics.specs.Warnings.{leftOut};
-ghost use Rattle.permanova.specs.Sampled.{chance};
-ghost use Rattle.permanova.specs.Together.{largest, smallest, alarmed, together};
+ghost use Rattle.float.specs.Floats.{zero⁺};
+ghost use Rattle.lot.specs.Lot.{lotOf};
 ghost use Rattle.observation.specs.Room.{Weighed};
 ghost use Rattle.permanova.specs.Room.{Kept};
 ghost use Rattle.permanova.specs.Answered.{answerFor, meansFor};
 ghost use Rattle.permanova.specs.Call.{slicesOf, tooShort, testCheck, accepted, testCall, called};
-
-// A p, or none.
-pub enum Chance {
-    P(f64),
-    NoP,
-}
 
 // What the test answers.
 pub struct TestResult {
@@ -68,20 +54,6 @@ pub struct Measured {
     pub dispersion: Chance,
 }
 
-// p = (1 + hits)/(1 + n). None where the strata tell nothing, or the observed statistic is unbounded.
-fn chance_of(none: bool, seen: Statistic, hits: usize, n: u64) -> Chance
-    requires { ⌜ (hits ≤ 999999) × (n ≤ 999999) ⌝ }
-    ensures { λ r. ⌜ r ≡ chance none seen hits n ⌝ }
-{
-    let Statistic::Finite(_f) = seen else {
-        return Chance::NoP;
-    };
-    if none {
-        return Chance::NoP;
-    }
-    Chance::P((1 + hits) as f64 / (1 + n) as f64)
-}
-
 // All that is measured of the groups `gs` within the s strata `ss`. `z` lends room.
 fn measure(
     p: &[f64],
@@ -112,8 +84,8 @@ fn measure(
         dispersion: second,
     };
     let h = shuffles::draw(t, w, z, o.total, gs, ss, m, g, s, seed, n, seen);
-    let location = chance_of(none, first, h.location, n);
-    let dispersion = chance_of(none, second, h.dispersion, n);
+    let location = chances::chance_of(none, first, h.location, n);
+    let dispersion = chances::chance_of(none, second, h.dispersion, n);
     Measured {
         f: o.f,
         r2: o.r2,
@@ -124,125 +96,7 @@ fn measure(
     }
 }
 
-// ---- warnings
-
-// Whether l is a label that one sample holds.
-fn single(labels: &[u16], l: u16) -> bool
-    requires { ⌜ length (now labels) < 65536 ⌝ }
-    ensures { λ r. ⌜ r ≡ (not (eqb l none) && eqb (howMany l (now (labels .entry))) 1) ⌝ }
-{
-    if l == lot::NONE {
-        return false;
-    }
-    lot::how_many(labels, l) == 1
-}
-
-// Whether some label is held by one sample.
-fn left_out(labels: &[u16]) -> bool
-    requires { ⌜ length (now labels) < 65536 ⌝ }
-    ensures { λ r. ⌜ r ≡ leftOut (now (labels .entry)) ⌝ }
-{
-    let mut i: usize = 0;
-    while i < labels.len() {
-        if single(labels, labels[i]) {
-            return true;
-        }
-        i += 1;
-    }
-    false
-}
-
-// The size of the largest group.
-fn largest(sizes: &[u16]) -> u16
-    ensures { λ r. ⌜ r ≡ largest (now (sizes .entry)) ⌝ }
-{
-    let mut most: u16 = 0;
-    let mut k = sizes.len();
-    while k > 0 {
-        k -= 1;
-        most = larger_of(sizes[k], most);
-    }
-    most
-}
-
-fn larger_of(a: u16, b: u16) -> u16
-    ensures { λ r. ⌜ r ≡ max a b ⌝ }
-{
-    if a < b { b } else { a }
-}
-
-fn smaller_of(a: u16, b: u16) -> u16
-    ensures { λ r. ⌜ r ≡ min a b ⌝ }
-{
-    if a < b { a } else { b }
-}
-
-// The size of the smallest group.
-fn smallest(sizes: &[u16]) -> u16
-    ensures { λ r. ⌜ r ≡ smallest (now (sizes .entry)) ⌝ }
-{
-    let mut least = largest(sizes);
-    let mut k = sizes.len();
-    while k > 0 {
-        k -= 1;
-        least = smaller_of(sizes[k], least);
-    }
-    least
-}
-
-// Bits 5 and 6, of both p.
-fn together_of(sizes: &[u16], location: Chance, dispersion: Chance) -> u8
-    ensures { λ r. ⌜ r ≡ together (now (sizes .entry)) location dispersion ⌝ }
-{
-    let Chance::P(p) = location else {
-        return 0;
-    };
-    let Chance::P(q) = dispersion else {
-        return 0;
-    };
-    let most = largest(sizes);
-    let least = smallest(sizes);
-    alarm(p, q, most, least)
-}
-
-// Bits 5 and 6, of both p and the sizes of the largest and the smallest group.
-fn alarm(p: f64, q: f64, most: u16, least: u16) -> u8
-    ensures { λ r. ⌜ r ≡ alarmed p q most least ⌝ }
-{
-    if p < 0.05 {
-        if q < 0.05 {
-            return 32;
-        }
-        if most as f64 >= 3.0 * least as f64 {
-            if q < 0.2 {
-                return 64;
-            }
-        }
-    }
-    0
-}
-
 // ---- the whole
-
-// Whether strata are given and none informs.
-fn uninformed(stratified: bool, informing: usize) -> bool
-    ensures { λ r. ⌜ r ≡ (stratified && eqb informing 0) ⌝ }
-{
-    if stratified {
-        return informing == 0;
-    }
-    false
-}
-
-// Whether the informative fraction is below 0.5, and some inform.
-fn few_inform(fraction: f64, informing: usize) -> bool
-    ensures { λ r. ⌜ r ≡ (lt fraction 0·5 && not (eqb informing 0)) ⌝ }
-{
-    if fraction < 0.5 {
-        return informing != 0;
-    }
-    false
-}
 
 // The answer, from what was measured of a lot with these labels, m samples kept in g groups and `informing` in strata that inform.
 // `counts` are the groups' sizes.
@@ -260,14 +114,14 @@ fn conclude(
     ensures { λ r. ⌜ r ≡ concluded (now (labels .entry)) stratified weighted m g informing (now (counts .entry)) x ⌝ }
 {
     let fraction = lot::strata::fraction(informing, m);
-    let left = left_out(labels);
-    let none = uninformed(stratified, informing);
-    let few = few_inform(fraction, informing);
+    let left = chances::left_out(labels);
+    let none = chances::uninformed(stratified, informing);
+    let few = chances::few_inform(fraction, informing);
     let small = statistics::some_small(counts);
     let bits = statistics::warning(left, none, few, small, x.negative);
     let p = x.location;
     let q = x.dispersion;
-    let more = together_of(counts, p, q);
+    let more = chances::together_of(counts, p, q);
     TestResult {
         n: m,
         n_groups: g,
@@ -314,7 +168,7 @@ fn run_with(
 {
     observation::weigh(d, n, ks, m, weighted, weights, w, t, p);
     let informing = lot::strata::informative(ss, gs);
-    let none = uninformed(stratified, informing);
+    let none = chances::uninformed(stratified, informing);
     let x = measure(
         p,
         t,

@@ -4,7 +4,7 @@
 use Prim.Native.Nat.{_-_}
 use borrow.Author.Needs.{needs}
 use Rattle.permanova.specs.Measured.{concluded}
-use Rattle.permanova.proofs.Alarms.{warnings-fit}
+use Rattle.chances.proofs.Alarms.{warnings-fit}
 use Rattle.permanova.proofs.conclude.Statement.{statement}
 use Rattle.permanova.proofs.conclude.Tie as tie
 

@@ -9,7 +9,7 @@ use Rattle.location.specs.Squares.{terms}
 use Rattle.shuffles.specs.declared.Hits.{Hits}
 use Rattle.shuffles.specs.Drawn.{drawn}
 use Rattle.permanova.specs.Measured.{measured}
-use Rattle.permanova.proofs.Chances.{hits-few}
+use Rattle.chances.proofs.Chances.{hits-few}
 use Rattle.permanova.proofs.measure.Statement.{statement}
 use Rattle.permanova.proofs.measure.Tie as tie
 

@@ -1,0 +1,3 @@
+-- The laws that the proofs of `chances` share.
+pub mod Chances
+pub mod Alarms

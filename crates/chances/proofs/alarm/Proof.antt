@@ -1,0 +1,34 @@
+-- `chances::alarm` meets its contract. By the tests in order.
+-- Assumes nothing.
+
+use Prim.Native.Nat.{_-_}
+use borrow.Author.Needs.{needs}
+use Rattle.chances.proofs.Alarms.{alarm-both, alarm-sizes, alarm-spread, alarm-equal, alarm-none}
+use Rattle.chances.proofs.alarm.Statement.{statement}
+use Rattle.chances.proofs.alarm.Tie as tie
+
+returns : tie.Need-returns
+returns c = alarm-both (c .before .before .args .p) (c .before .before .args .q) (c .before .before .args .most) (c .before .before .args .least) (c .before .if1 .taken) (c .if2 .taken)
+
+int-to-float-if3 : tie.Need-int-to-float-if3
+int-to-float-if3 c = search needs
+
+int-to-float-if3-2 : tie.Need-int-to-float-if3-2
+int-to-float-if3-2 c = search needs
+
+returns-2 : tie.Need-returns-2
+returns-2 c = alarm-sizes (c .before .before .before .before .before .before .args .p) (c .before .before .before .before .before .before .args .q) (c .before .before .before .before .before .before .args .most) (c .before .before .before .before .before .before .args .least) (c .before .before .before .before .before .if1 .taken) (c .before .before .before .before .if2 .left) (c .before .if3 .taken) (c .if4 .taken)
+
+returns-3 : tie.Need-returns-3
+returns-3 c = alarm-spread (c .before .before .before .before .before .before .args .p) (c .before .before .before .before .before .before .args .q) (c .before .before .before .before .before .before .args .most) (c .before .before .before .before .before .before .args .least) (c .before .before .before .before .before .if1 .taken) (c .before .before .before .before .if2 .left) (c .before .if3 .taken) (c .if4 .left)
+
+returns-4 : tie.Need-returns-4
+returns-4 c = alarm-equal (c .before .before .before .before .before .args .p) (c .before .before .before .before .before .args .q) (c .before .before .before .before .before .args .most) (c .before .before .before .before .before .args .least) (c .before .before .before .before .if1 .taken) (c .before .before .before .if2 .left) (c .if3 .left)
+
+returns-5 : tie.Need-returns-5
+returns-5 c = alarm-none (c .before .args .p) (c .before .args .q) (c .before .args .most) (c .before .args .least) (c .if1 .left)
+
+pub alarm-spec : {M : Type 1} → statement M
+alarm-spec =
+    tie.close
+    (tie.spec returns int-to-float-if3 int-to-float-if3-2 returns-2 returns-3 returns-4 returns-5)

@@ -1,0 +1,13 @@
+-- Section 8: p, from the hits of n_perm shuffles. Definitions only.
+use Prim.Native.Nat.{ℕ, _+_}
+use mathlib.Core.Bool.{Bool, cond}
+use Rattle.float.specs.Floats.{_⊘_, num}
+use Rattle.statistics.specs.declared.Statistic.{Statistic}
+use Rattle.statistics.specs.declared.Statistic.the-variants.{Finite, Unbounded}
+use Rattle.chances.specs.declared.Chance.{Chance}
+use Rattle.chances.specs.declared.Chance.the-variants.{P, NoP}
+
+-- p = (1 + hits)/(1 + n_perm). No p if strata are given and none informs, or if the observed F is not finite.
+unfoldable pub chance : Bool → Statistic → ℕ → ℕ → Chance
+chance none Unbounded hits n = NoP
+chance none (Finite f) hits n = cond none NoP (P (num (1 + hits) ⊘ num (1 + n)))

@@ -1,0 +1,419 @@
+// Calls of `test` at the edges of each refusal: for each its answer, then the outputs and what both work slices hold. Every slice holds 7 at first.
+use chances::Chance;
+use libc::STDOUT_FILENO;
+use permanova::Answer;
+use permanova::TestResult;
+ghost use Prim.Native.Nat.{_≤_};
+
+// ---- what is printed
+
+fn show_count(n: u64) {
+    io::write_all(STDOUT_FILENO, b" ");
+    io::print_decimal(STDOUT_FILENO, n);
+}
+
+// The bits of x, or `nan`.
+fn show_number(x: f64) {
+    io::write_all(STDOUT_FILENO, b" ");
+    if x != x {
+        io::write_all(STDOUT_FILENO, b"nan");
+        return;
+    }
+    io::print_hex(STDOUT_FILENO, f64::to_bits(x), 16);
+}
+
+fn show_chance(p: Chance) {
+    match p {
+        Chance::P(x) => {
+            show_number(x);
+        }
+        Chance::NoP => {
+            io::write_all(STDOUT_FILENO, b" none");
+        }
+    }
+}
+
+// Kept samples and groups, F, r2 and p, F and p of dispersion, the informative fraction, the warnings.
+fn show_result(r: TestResult) {
+    io::write_all(STDOUT_FILENO, b"tested");
+    show_count(r.n as u64);
+    show_count(r.n_groups as u64);
+    show_number(r.f);
+    show_number(r.r2);
+    let p = r.p;
+    show_chance(p);
+    show_number(r.disp_f);
+    let q = r.disp_p;
+    show_chance(q);
+    show_number(r.informative_fraction);
+    show_count(r.warnings as u64);
+}
+
+fn show_answer(a: Answer) {
+    match a {
+        Answer::Tested(r) => {
+            show_result(r);
+        }
+        Answer::Refused(e) => {
+            io::write_all(STDOUT_FILENO, b"refused");
+            show_count(outcome::number_of(e) as u64);
+        }
+    }
+    io::write_all(STDOUT_FILENO, b"\n");
+}
+
+fn show_counts(s: &[u16]) {
+    for i in 0..s.len() {
+        show_count(s[i] as u64);
+    }
+    io::write_all(STDOUT_FILENO, b" |");
+}
+
+fn show_numbers(s: &[f64]) {
+    for i in 0..s.len() {
+        show_number(s[i]);
+    }
+    io::write_all(STDOUT_FILENO, b" |");
+}
+
+fn all_are(s: &[f64], v: f64) -> bool {
+    for i in 0..s.len() {
+        if s[i] != v {
+            return false;
+        }
+    }
+    true
+}
+
+// Whether a work slice is zero, or as it was.
+fn show_work(s: &[f64]) {
+    if all_are(s, 0.0) {
+        io::write_all(STDOUT_FILENO, b" zero");
+    } else {
+        if all_are(s, 7.0) {
+            io::write_all(STDOUT_FILENO, b" untouched");
+        } else {
+            io::write_all(STDOUT_FILENO, b" mixed");
+        }
+    }
+}
+
+// ---- calls
+
+fn call(
+    n: usize,
+    distances: &[f64],
+    labels: &[u16],
+    stratified: bool,
+    strata: &[u16],
+    weighted: bool,
+    weights: &[f64],
+    n_perm: u64,
+    names: &mut [u16],
+    counts: &mut [u16],
+    means: &mut [f64],
+    terms: &mut [f64],
+    pulls: &mut [f64],
+) {
+    let a = permanova::test(
+        n,
+        distances,
+        labels,
+        stratified,
+        strata,
+        weighted,
+        weights,
+        42,
+        n_perm,
+        names,
+        counts,
+        means,
+        terms,
+        pulls,
+    );
+    show_answer(a);
+    show_counts(names);
+    show_counts(counts);
+    show_numbers(means);
+    show_work(terms);
+    show_work(pulls);
+    io::write_all(STDOUT_FILENO, b"\n");
+}
+
+// With outputs and work slices for 4 samples.
+fn call_four(
+    n: usize,
+    distances: &[f64],
+    labels: &[u16],
+    stratified: bool,
+    strata: &[u16],
+    weighted: bool,
+    weights: &[f64],
+    n_perm: u64,
+) {
+    let mut names = [7u16; 4];
+    let mut counts = [7u16; 4];
+    let mut means = [7.0; 4];
+    let mut terms = [7.0; 16];
+    let mut pulls = [7.0; 16];
+    call(
+        n,
+        distances,
+        labels,
+        stratified,
+        strata,
+        weighted,
+        weights,
+        n_perm,
+        &mut names,
+        &mut counts,
+        &mut means,
+        &mut terms,
+        &mut pulls,
+    );
+}
+
+// The distances of document 01's example.
+fn example() -> [f64; 16] {
+    [
+        0.0,
+        2.0,
+        8.0,
+        10.0,
+        2.0,
+        0.0,
+        6.0,
+        8.0,
+        8.0,
+        6.0,
+        0.0,
+        2.0,
+        10.0,
+        8.0,
+        2.0,
+        0.0,
+    ]
+}
+
+// Labels, with neither strata nor weights.
+fn with_labels(labels: &[u16], n_perm: u64) {
+    let d = example();
+    call_four(4, &d, labels, false, &[], false, &[], n_perm);
+}
+
+// Slices of these lengths.
+fn with_lengths(a: usize, b: usize, c: usize, t: usize, p: usize)
+    requires { ⌜ (a ≤ 6) × (b ≤ 6) × (c ≤ 6) × (t ≤ 20) × (p ≤ 20) ⌝ }
+{
+    let d = example();
+    let mut names = [7u16; 6];
+    let mut counts = [7u16; 6];
+    let mut means = [7.0; 6];
+    let mut terms = [7.0; 20];
+    let mut pulls = [7.0; 20];
+    call(
+        4,
+        &d,
+        &[0, 0, 1, 1],
+        false,
+        &[],
+        false,
+        &[],
+        9,
+        &mut names[..a],
+        &mut counts[..b],
+        &mut means[..c],
+        &mut terms[..t],
+        &mut pulls[..p],
+    );
+}
+
+// The first two samples are x apart.
+fn with_distance(x: f64) {
+    let mut d = example();
+    d[1] = x;
+    d[4] = x;
+    call_four(4, &d, &[0, 0, 1, 1], false, &[], false, &[], 9);
+}
+
+// The second sample weighs x.
+fn with_weight(x: f64) {
+    let d = example();
+    call_four(
+        4,
+        &d,
+        &[0, 0, 1, 1],
+        false,
+        &[],
+        true,
+        &[1.0, x, 1.0, 1.0],
+        9,
+    );
+}
+
+fn with_strata(strata: &[u16]) {
+    let d = example();
+    call_four(4, &d, &[0, 0, 1, 1], true, strata, false, &[], 99);
+}
+
+// n samples that are not there.
+fn with_none(n: usize) {
+    call_four(n, &[], &[], false, &[], false, &[], 9);
+}
+
+// ---- the edges
+
+fn lengths() {
+    with_lengths(4, 4, 4, 16, 16);
+    with_lengths(6, 5, 6, 20, 17);
+    with_lengths(3, 4, 4, 16, 16);
+    with_lengths(4, 3, 4, 16, 16);
+    with_lengths(4, 4, 3, 16, 16);
+    with_lengths(4, 4, 4, 15, 16);
+    with_lengths(4, 4, 4, 16, 15);
+}
+
+// Labels, strata or weights of another length; weights that are not given are not looked at.
+fn misfits() {
+    let d = example();
+    call_four(4, &d, &[0, 0, 1], false, &[], false, &[], 9);
+    call_four(4, &[1.0; 15], &[0, 0, 1, 1], false, &[], false, &[], 9);
+    with_strata(&[0, 0, 1]);
+    call_four(4, &d, &[0, 0, 1, 1], false, &[], true, &[1.0, 1.0, 1.0], 9);
+    call_four(4, &d, &[0, 0, 1, 1], false, &[9], false, &[-1.0], 9);
+}
+
+// Distances: NaN, below 0, -0.0, 2^20 and the next f64.
+fn distances() {
+    with_distance(0.0 / 0.0);
+    with_distance(-5e-324);
+    with_distance(-0.0);
+    with_distance(1048576.0);
+    with_distance(1048576.0000000002);
+}
+
+// Weights: 2^-20 and 2^20, and their neighbours outside.
+fn weights() {
+    with_weight(0.00000095367431640625);
+    with_weight(0.0000009536743164062499);
+    with_weight(1048576.0);
+    with_weight(1048576.0000000002);
+    with_weight(0.0 / 0.0);
+}
+
+// Labels of document 01's cases, too few of them, and one left out.
+fn labels() {
+    with_labels(&[0, 1, 0, 1], 99);
+    with_labels(&[0, 1, 1, 0], 99);
+    with_labels(&[5, 5, 65535, 65535], 9);
+    with_labels(&[9, 3, 3, 9], 0);
+    with_labels(&[0, 0, 1, 65535], 9);
+    call_four(4, &[0.0; 16], &[0, 0, 1, 1], false, &[], false, &[], 99);
+}
+
+// Strata of which none, both and some inform; a sample with none stands alone.
+fn strata() {
+    with_strata(&[0, 0, 1, 1]);
+    with_strata(&[8, 3, 3, 8]);
+    with_strata(&[65535, 3, 3, 65535]);
+}
+
+// Shuffles up to their limit.
+fn shuffles() {
+    with_labels(&[0, 0, 1, 1], 999999);
+    with_labels(&[0, 0, 1, 1], 1000000);
+}
+
+// n of 0, 1 and 2, and lengths that would wrap.
+fn sizes() {
+    with_none(0);
+    call_four(1, &[0.0], &[0], false, &[], false, &[], 9);
+    call_four(2, &[0.0, 1.0, 1.0, 0.0], &[0, 0], false, &[], false, &[], 9);
+    with_none(0x1_0000_0000);
+    with_none(0x8000_0000_0000_0000);
+}
+
+// The lower number wins: 1 before 2, 2 before 3, 3 before 4, 4 before 5.
+fn order() {
+    let mut d = example();
+    call_four(
+        4,
+        &[1.0; 15],
+        &[0, 0, 1, 1],
+        false,
+        &[],
+        false,
+        &[],
+        1000000,
+    );
+    d[3] = -1.0;
+    call_four(4, &d, &[0, 0, 1, 1], false, &[], false, &[], 1000000);
+    call_four(4, &d, &[0, 0, 1, 1], false, &[], true, &[0.0; 4], 9);
+    d[3] = 10.0;
+    call_four(4, &d, &[0, 0, 1, 2], false, &[], true, &[0.0; 4], 9);
+}
+
+// 257 samples, with slices that fit them: the answer, and whether anything was touched.
+fn call_many(
+    d: &[f64],
+    labels: &[u16],
+    numbers: &mut [u16],
+    counts: &mut [u16],
+    means: &mut [f64],
+    terms: &mut [f64],
+    pulls: &mut [f64],
+) {
+    let a = permanova::test(
+        257,
+        d,
+        labels,
+        false,
+        &[],
+        false,
+        &[],
+        42,
+        9,
+        numbers,
+        counts,
+        means,
+        terms,
+        pulls,
+    );
+    show_answer(a);
+    show_work(means);
+    show_work(terms);
+    show_work(pulls);
+    io::write_all(STDOUT_FILENO, b"\n");
+}
+
+fn many() {
+    let d = [1.0f64; 66049];
+    let labels = [3u16; 257];
+    let mut numbers = [7u16; 257];
+    let mut counts = [7u16; 257];
+    let mut means = [7.0f64; 257];
+    let mut terms = [7.0f64; 66049];
+    let mut pulls = [7.0f64; 66049];
+    call_many(
+        &d,
+        &labels,
+        &mut numbers,
+        &mut counts,
+        &mut means,
+        &mut terms,
+        &mut pulls,
+    );
+}
+
+fn main() {
+    lengths();
+    misfits();
+    distances();
+    weights();
+    labels();
+    strata();
+    shuffles();
+    sizes();
+    order();
+    many();
+}
