@@ -18,12 +18,13 @@ use Rattle.outcome.specs.Outcome.{Outcome, answered, refused, judged, andThen}
 use Rattle.outcome.specs.Slices.{untouched, output, work}
 use Rattle.jacobi.proofs.Extra.{first-untouched}
 use Rattle.topeigs.specs.TopEigs.{topEigs}
+use Rattle.topeigs.proofs.Whole.{top-min}
 use Rattle.coordinates.specs.Finish.{Coordinates, finish, laid}
 use Rattle.coordinates.specs.Centred.{trace, centred}
 use Rattle.coordinates.specs.Pcoa.{ordinate, pcoa}
 use Rattle.pcoa.specs.Given.{written, coordinatesOf, Given, given, gives}
 use Rattle.pcoa.specs.Call.{pcoaLines, checkOf, Called, called, leaves, pcoaCall}
-use Rattle.pcoa.proofs.Late.{Late, late-then, late-top, late-work, output-front, top-min}
+use Rattle.pcoa.proofs.Late.{Late, late-then, late-top, late-work, output-front}
 
 check-read : (k : ℕ) (r : Check) (out : List Float) → r ≡ checkOf (coordinatesOf k r out)
 check-read k Passed out = refl

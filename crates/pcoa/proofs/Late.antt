@@ -2,8 +2,9 @@
 use mathlib.Core.Path.{_≡_, refl, sym, ap, _∙_}
 use mathlib.Core.Bool.{Bool, true, false, cond}
 use mathlib.Core.List.{List, _++_}
-use Prim.Native.Nat.{ℕ, _≤_, min}
+use Prim.Native.Nat.{ℕ, _+_, min}
 use native.Mathlib.Omega.{arith}
+use lib.Dec.{leb}
 use lib.ListN.{length, take, drop, replicate, length-append, length-replicate, take-append-drop}
 use lib.Ieee.{Float, isNan}
 use Rattle.float.specs.Floats.{zero⁺}
@@ -17,7 +18,8 @@ use Rattle.rotation.specs.Sweeps.{Swept, sweepsFrom}
 use Rattle.rotation.specs.Rotation.{turned}
 use Rattle.jacobi.specs.Eigen.{identity, diagonal, eigenpairs, jacobi}
 use Rattle.jacobi.proofs.Extra.{over-front}
-use Rattle.topeigs.specs.TopEigs.{topEigs}
+use Rattle.ritz.specs.Ritz.{Pairs, rayleighRitz}
+use Rattle.topeigs.specs.TopEigs.{leading, byBlock, topEigs}
 
 abbrev pub Late : {A : Type 0} → Outcome A → Type 0
 Late (answered a) = Unit
@@ -37,8 +39,12 @@ late-jacobi n a = by (sweepsFrom 100 n 0 (turned a (identity n))) _ refl
     by w false t = rw (t, eigenpairs) tt
 
 pub late-top : (k n : ℕ) (a : List Float) → Late (topEigs k n a)
-unfolding topEigs
-late-top k n a = refl
+unfolding topEigs leading byBlock rayleighRitz
+late-top k n a = by (min k n) (leb n 64)
+  where
+    by : (k : ℕ) (b : Bool) → Late {A = Pairs} (elim b as (λ b. Outcome Pairs) [ true ↦ leading k n a | false ↦ byBlock k (min (k + 8) n) n a ])
+    by k true = late-then (jacobi n a) _ (late-jacobi n a)
+    by k false = late-then (jacobi (min (k + 8) n) _) _ (late-jacobi (min (k + 8) n) _)
 
 -- ---- what such an operation leaves
 
@@ -70,8 +76,3 @@ output-front part k (refused r) out {new} many f = by (untouched r) f
     by : (t : Bool) → new ≡ cond t (take k out) (over (replicate k zero⁺) (take k out)) → new ++ drop k out ≡ cond t out (over (replicate k zero⁺) out)
     by true f = ap (λ (t : List Float). t ++ drop k out) f ∙ take-append-drop k out
     by false f = let zeros = length-replicate k zero⁺ in ap (λ (t : List Float). t ++ drop k out) f ∙ over-front (replicate k zero⁺) out k (omega arith)
-
--- components above n mean n
-pub top-min : (components n : ℕ) (a : List Float) → topEigs (min components n) n a ≡ topEigs components n a
-unfolding topEigs
-top-min components n a = refl

@@ -3,9 +3,9 @@ use mathlib.Core.Path.{_≡_, refl}
 use mathlib.Core.Bool.{Bool, true, false, _||_}
 use mathlib.Core.List.{List}
 use Prim.Native.Nat.{ℕ, _+_, _*_, _<_, _≤_, min}
-use native.Mathlib.Nat.{mul-le-mul, min-le-left, min-le-right, le-min}
+use native.Mathlib.Nat.{mul-le-mul, min-le-left, min-le-right}
 use native.Mathlib.Omega.{arith}
-use borrow.Author.Tests.{not-false, eqb-true, eqb-false, ltb-false, lt-ltb, le-ltb}
+use borrow.Author.Tests.{not-false, eqb-true, ltb-false, lt-ltb, le-ltb}
 use lib.Dec.{eqb, ltb}
 use lib.ListN.{length}
 use lib.Ieee.{Float}
@@ -98,19 +98,16 @@ long-enough k n out b w m v e =
       v-fits = ltb-false _ _ (v₁ .0);
     }
 
--- components within 1 to 16, of at least 3 samples
+-- no more components than samples, and at most 16
 pub record Asked (k n : ℕ) : Type 0 where
-  pub some : 1 ≤ k
   pub below : k ≤ n
   pub most : k ≤ 16
 
-pub asked : (components n : ℕ) {k : ℕ} → badComponents components ≡ false → 3 ≤ n → k ≡ min components n → Asked k n
+pub asked : (components n : ℕ) {k : ℕ} → badComponents components ≡ false → k ≡ min components n → Asked k n
 unfolding badComponents
-asked components n {k} h three e =
-    let a = or-false (eqb components 0) (ltb 16 components) h in
-    let some : components ≡ 0 → ⊥ = eqb-false _ _ (a .0) in
-    let most : components ≤ 16 = ltb-false _ _ (a .1) in
-    record { some = rw e (le-min (omega arith) (omega arith)); below = omega (arith, min-le-right components n); most = omega (arith, min-le-left components n) }
+asked components n {k} h e =
+    let most : components ≤ 16 = ltb-false _ _ (or-false (eqb components 0) (ltb 16 components) h .1) in
+    record { below = omega (arith, min-le-right components n); most = omega (arith, min-le-left components n) }
 
 -- ---- the lines of `pcoa`
 
@@ -167,13 +164,11 @@ passed-fits components n d out b w m v {k} e p =
     let k′ = min components n in
     let l₁ = first-passed Length _ (unfit d (n * n) || tooShort k′ n out b w m v) p in
     let l₂ = first-passed Limit _ (ltb 256 n || badComponents components) (l₁ .1) in
-    let l₃ = first-passed Value _ (any badDistance d) (l₂ .1) in
-    let l₄ = first-passed Ordination _ (ltb n 3) (l₃ .1) in
     let s = or-false (unfit d (n * n)) (tooShort k′ n out b w m v) (l₁ .0) in
     let a = or-false (ltb 256 n) (badComponents components) (l₂ .0) in
     record {
       distances = eqb-true _ _ (not-false _ (s .0));
       few = ltb-false _ _ (a .0);
-      asks = asked components n (a .1) (ltb-false _ _ (l₄ .0)) e;
+      asks = asked components n (a .1) e;
       room = rw e (long-enough k′ n out b w m v (s .1));
     }

@@ -26,16 +26,16 @@ fn ordinate_in(
     m: &mut [f64],
     v: &mut [f64],
 ) -> Check
-    requires { ⌜ (length (now b) ≡ n * n) × (n ≤ 256) × (1 ≤ k) × (k ≤ n) × (k ≤ 16) ⌝ }
+    requires { ⌜ (length (now b) ≡ n * n) × (n ≤ 256) × (k ≤ n) × (k ≤ 16) ⌝ }
     requires { ⌜ (length (now out) ≡ k + k + n * k) × (length (now pairs) ≡ k + k * n) × (length (now w) ≡ n + n * n) × (length (now m) ≡ n * n) × (length (now v) ≡ n * n) ⌝ }
     ensures { λ r. ⌜ given k r (now (out .exit)) ≡ gives k n (ordinate k n (now (b .entry))) (now (out .entry)) ⌝ }
 {
-    let total = coordinates::trace(b, n);
     let c = topeigs::top_pairs(b, n, k, pairs, w, m, v);
     let Check::Passed = c else {
         lists::clear(out);
         return c;
     };
+    let total = coordinates::trace(b, n);
     coordinates::finish(out, pairs, total, n, k);
     c
 }
@@ -50,7 +50,7 @@ pub fn ordinate(
     m: &mut [f64],
     v: &mut [f64],
 ) -> Check
-    requires { ⌜ (length (now b) ≡ n * n) × (n ≤ 256) × (1 ≤ k) × (k ≤ n) × (k ≤ 16) ⌝ }
+    requires { ⌜ (length (now b) ≡ n * n) × (n ≤ 256) × (k ≤ n) × (k ≤ 16) ⌝ }
     requires { ⌜ (length (now out) ≡ k + k + n * k) × (length (now w) ≡ n + n * n) × (length (now m) ≡ n * n) × (length (now v) ≡ n * n) ⌝ }
     ensures { λ r. ⌜ given k r (now (out .exit)) ≡ gives k n (ordinate k n (now (b .entry))) (now (out .entry)) ⌝ }
 {
@@ -72,7 +72,7 @@ pub fn coordinates_of(
     m: &mut [f64],
     v: &mut [f64],
 ) -> Check
-    requires { ⌜ (length (now d) ≡ n * n) × (n ≤ 256) × (1 ≤ k) × (k ≤ n) × (k ≤ 16) ⌝ }
+    requires { ⌜ (length (now d) ≡ n * n) × (n ≤ 256) × (k ≤ n) × (k ≤ 16) ⌝ }
     requires { ⌜ (length (now out) ≡ k + k + n * k) × (length (now b) ≡ n * n) × (length (now w) ≡ n + n * n) × (length (now m) ≡ n * n) × (length (now v) ≡ n * n) ⌝ }
     ensures { λ r. ⌜ given k r (now (out .exit)) ≡ gives k n (meaning.pcoa k n (now (d .entry))) (now (out .entry)) ⌝ }
 {
@@ -103,7 +103,7 @@ pub fn settle(
     m: &mut [f64],
     v: &mut [f64],
 ) -> Check
-    requires { ⌜ (n ≤ 256) × (1 ≤ k) × (k ≤ n) × (k ≤ 16) ⌝ }
+    requires { ⌜ (n ≤ 256) × (k ≤ n) × (k ≤ 16) ⌝ }
     requires { ⌜ (k + k + n * k ≤ length (now out)) × (n * n ≤ length (now b)) × (n + n * n ≤ length (now w)) × (n * n ≤ length (now m)) × (n * n ≤ length (now v)) ⌝ }
     ensures { λ r. ⌜ called r (now (out .exit)) (now (b .exit)) (now (w .exit)) (now (m .exit)) (now (v .exit))
         ≡ leaves k n (ordinate k n (take (n * n) (now (b .entry)))) (now (out .entry)) (now (b .entry)) (now (w .entry)) (now (m .entry)) (now (v .entry)) ⌝ }
@@ -133,7 +133,7 @@ fn solve(
     m: &mut [f64],
     v: &mut [f64],
 ) -> Check
-    requires { ⌜ (length (now d) ≡ n * n) × (n ≤ 256) × (1 ≤ k) × (k ≤ n) × (k ≤ 16) ⌝ }
+    requires { ⌜ (length (now d) ≡ n * n) × (n ≤ 256) × (k ≤ n) × (k ≤ 16) ⌝ }
     requires { ⌜ (k + k + n * k ≤ length (now out)) × (n * n ≤ length (now b)) × (n + n * n ≤ length (now w)) × (n * n ≤ length (now m)) × (n * n ≤ length (now v)) ⌝ }
     ensures { λ r. ⌜ called r (now (out .exit)) (now (b .exit)) (now (w .exit)) (now (m .exit)) (now (v .exit))
         ≡ leaves k n (meaning.pcoa k n (now (d .entry))) (now (out .entry)) (now (b .entry)) (now (w .entry)) (now (m .entry)) (now (v .entry)) ⌝ }

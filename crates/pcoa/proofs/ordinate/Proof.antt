@@ -11,24 +11,24 @@ use Rattle.pcoa.proofs.ordinate.Statement.{statement}
 use Rattle.pcoa.proofs.ordinate.Tie as tie
 
 mul-pairs : tie.Need-mul-pairs
-mul-pairs c = 
-    let most : c .before .before .before .before .before .before .args .k * c .before .before .before .before .before .before .args .n ≤ 16 * 256 = mul-le-mul (c .before .before .before .before .before .before .pre .0 .4) (c .before .before .before .before .before .before .pre .0 .1) in omega arith
+mul-pairs c =
+    let most : c .before .before .before .before .before .before .args .k * c .before .before .before .before .before .before .args .n ≤ 16 * 256 = mul-le-mul (c .before .before .before .before .before .before .pre .0 .3) (c .before .before .before .before .before .before .pre .0 .1) in omega arith
 
 add-pairs : tie.Need-add-pairs
-add-pairs c = 
-    let most : c .before .before .before .before .before .before .args .k * c .before .before .before .before .before .before .args .n ≤ 16 * 256 = mul-le-mul (c .before .before .before .before .before .before .pre .0 .4) (c .before .before .before .before .before .before .pre .0 .1) in omega arith
+add-pairs c =
+    let most : c .before .before .before .before .before .before .args .k * c .before .before .before .before .before .before .args .n ≤ 16 * 256 = mul-le-mul (c .before .before .before .before .before .before .pre .0 .3) (c .before .before .before .before .before .before .pre .0 .1) in omega arith
 
 array-borrow-prefix-pairs : tie.Need-array-borrow-prefix-pairs
-array-borrow-prefix-pairs c = 
-    let most : c .before .before .before .before .before .before .args .k * c .before .before .before .before .before .before .args .n ≤ 16 * 256 = mul-le-mul (c .before .before .before .before .before .before .pre .0 .4) (c .before .before .before .before .before .before .pre .0 .1) in omega arith
+array-borrow-prefix-pairs c =
+    let most : c .before .before .before .before .before .before .args .k * c .before .before .before .before .before .before .args .n ≤ 16 * 256 = mul-le-mul (c .before .before .before .before .before .before .pre .0 .3) (c .before .before .before .before .before .before .pre .0 .1) in omega arith
 
 slice-aggregate-ordinate-in : tie.Need-slice-aggregate-ordinate-in
-slice-aggregate-ordinate-in c = 
-    let most : c .before .before .before .before .before .before .before .args .k * c .before .before .before .before .before .before .before .args .n ≤ 16 * 256 = mul-le-mul (c .before .before .before .before .before .before .before .pre .0 .4) (c .before .before .before .before .before .before .before .pre .0 .1) in sym (length-take-le (c .before .before .before .before .before .before .before .args .k + c .before .before .before .before .before .before .before .args .k * c .before .before .before .before .before .before .before .args .n) _ (omega arith))
+slice-aggregate-ordinate-in c =
+    let most : c .before .before .before .before .before .before .before .args .k * c .before .before .before .before .before .before .before .args .n ≤ 16 * 256 = mul-le-mul (c .before .before .before .before .before .before .before .pre .0 .3) (c .before .before .before .before .before .before .before .pre .0 .1) in sym (length-take-le (c .before .before .before .before .before .before .before .args .k + c .before .before .before .before .before .before .before .args .k * c .before .before .before .before .before .before .before .args .n) _ (omega arith))
 
 ordinate-in-requires : tie.Need-ordinate-in-requires
-ordinate-in-requires c κs = 
-    let most : c .before .before .before .before .before .before .before .before .before .before .args .k * c .before .before .before .before .before .before .before .before .before .before .args .n ≤ 16 * 256 = mul-le-mul (c .before .before .before .before .before .before .before .before .before .before .pre .0 .4) (c .before .before .before .before .before .before .before .before .before .before .pre .0 .1) in (c .before .before .before .before .before .before .before .before .before .before .pre .0, (c .before .before .before .before .before .before .before .before .before .before .pre .1 .0, length-take-le (c .before .before .before .before .before .before .before .before .before .before .args .k + c .before .before .before .before .before .before .before .before .before .before .args .k * c .before .before .before .before .before .before .before .before .before .before .args .n) _ (omega arith), c .before .before .before .before .before .before .before .before .before .before .pre .1 .1, c .before .before .before .before .before .before .before .before .before .before .pre .1 .2, c .before .before .before .before .before .before .before .before .before .before .pre .1 .3))
+ordinate-in-requires c κs =
+    let most : c .before .before .before .before .before .before .before .before .before .before .args .k * c .before .before .before .before .before .before .before .before .before .before .args .n ≤ 16 * 256 = mul-le-mul (c .before .before .before .before .before .before .before .before .before .before .pre .0 .3) (c .before .before .before .before .before .before .before .before .before .before .pre .0 .1) in (c .before .before .before .before .before .before .before .before .before .before .pre .0, (c .before .before .before .before .before .before .before .before .before .before .pre .1 .0, length-take-le (c .before .before .before .before .before .before .before .before .before .before .args .k + c .before .before .before .before .before .before .before .before .before .before .args .k * c .before .before .before .before .before .before .before .before .before .before .args .n) _ (omega arith), c .before .before .before .before .before .before .before .before .before .before .pre .1 .1, c .before .before .before .before .before .before .before .before .before .before .pre .1 .2, c .before .before .before .before .before .before .before .before .before .before .pre .1 .3))
 
 same-length : tie.Need-same-length
 same-length c = search needs

@@ -10,9 +10,6 @@ use Rattle.pcoa.proofs.Found.{ordinate-refused, ordinate-answered}
 use Rattle.pcoa.proofs.ordinate_in.Statement.{statement}
 use Rattle.pcoa.proofs.ordinate_in.Tie as tie
 
-trace-requires : tie.Need-trace-requires
-trace-requires c κs = search needs
-
 top-pairs-requires : tie.Need-top-pairs-requires
 top-pairs-requires c κs = search needs
 
@@ -41,10 +38,13 @@ same-length-5 : tie.Need-same-length-5
 same-length-5 c = search needs
 
 returns : tie.Need-returns
-returns c = 
+returns c =
     let told = c .before .before .before .before .enum-told2 .given in
-    sym (ap (λ (r : Check). given (c .before .before .before .before .before .before .before .before .before .before .before .before .before .before .before .before .before .before .before .before .before .before .before .before .before .before .args .k) r (c .before .before .clear .last .0)) (sym (told .1)))
-    ∙ ordinate-refused (c .before .before .before .before .before .before .before .before .before .before .before .before .before .before .before .before .before .before .before .before .before .before .before .before .before .before .args .n) (c .before .before .before .before .before .before .before .before .before .before .before .before .before .before .before .before .before .before .before .before .before .before .before .before .before .before .args .k) (c .before .before .before .before .before .before .before .before .before .before .before .before .before .before .before .before .before .before .before .before .before .before .before .before .before .before .args .b .now) (c .before .before .before .before .before .before .before .before .before .before .before .before .before .before .before .before .before .before .before .before .before .before .before .before .before .before .args .out .now) (c .before .before .before .before .before .before .before .before .before .before .before .before .before .before .before .before .before .before .before .before .before .before .before .before .before .before .pre .1 .0) (c .before .before .before .before .before .before .before .before .before .before .before .before .before .before .before .before .before .before .before .before .before .before .before .before .before .before .args .pairs .now) (told .0 .0) (ap (λ (r : Check). pairs.given (c .before .before .before .before .before .before .before .before .before .before .before .before .before .before .before .before .before .before .before .before .before .before .before .before .before .before .args .k) r (c .before .before .before .before .before .before .before .before .before .before .before .before .before .before .top-pairs .last .1 .1 .1 .0)) (sym (told .1)) ∙ c .before .before .before .before .before .before .before .before .before .before .before .before .before .before .top-pairs .ensures) (c .before .before .clear .ensures)
+    sym (ap (λ (r : Check). given (c .before .before .before .before .before .before .before .before .before .before .before .before .before .before .before .before .before .before .before .before .before .before .before .before .before .args .k) r (c .before .before .clear .last .0)) (sym (told .1)))
+    ∙ ordinate-refused (c .before .before .before .before .before .before .before .before .before .before .before .before .before .before .before .before .before .before .before .before .before .before .before .before .before .args .n) (c .before .before .before .before .before .before .before .before .before .before .before .before .before .before .before .before .before .before .before .before .before .before .before .before .before .args .k) (c .before .before .before .before .before .before .before .before .before .before .before .before .before .before .before .before .before .before .before .before .before .before .before .before .before .args .b .now) (c .before .before .before .before .before .before .before .before .before .before .before .before .before .before .before .before .before .before .before .before .before .before .before .before .before .args .out .now) (c .before .before .before .before .before .before .before .before .before .before .before .before .before .before .before .before .before .before .before .before .before .before .before .before .before .pre .1 .0) (c .before .before .before .before .before .before .before .before .before .before .before .before .before .before .before .before .before .before .before .before .before .before .before .before .before .args .pairs .now) (told .0 .0) (ap (λ (r : Check). pairs.given (c .before .before .before .before .before .before .before .before .before .before .before .before .before .before .before .before .before .before .before .before .before .before .before .before .before .args .k) r (c .before .before .before .before .before .before .before .before .before .before .before .before .before .before .top-pairs .last .1 .1 .1 .0)) (sym (told .1)) ∙ c .before .before .before .before .before .before .before .before .before .before .before .before .before .before .top-pairs .ensures) (c .before .before .clear .ensures)
+
+trace-requires : tie.Need-trace-requires
+trace-requires c κs = search needs
 
 finish-requires : tie.Need-finish-requires
 finish-requires c κs = search needs
@@ -65,16 +65,15 @@ same-length-10 : tie.Need-same-length-10
 same-length-10 c = search needs
 
 returns-2 : tie.Need-returns-2
-returns-2 c = 
-    let told = c .before .before .before .before .before .enum-told .given in
+returns-2 c =
+    let told = c .before .before .before .before .before .before .enum-told .given in
     sym (ap (λ (r : Check). given (c .before .before .before .before .before .before .before .before .before .before .before .before .before .before .before .before .before .before .before .before .before .before .before .before .before .before .before .args .k) r (c .before .before .finish .last .0)) (sym (told .1)))
-    ∙ ordinate-answered (c .before .before .before .before .before .before .before .before .before .before .before .before .before .before .before .before .before .before .before .before .before .before .before .before .before .before .before .args .n) (c .before .before .before .before .before .before .before .before .before .before .before .before .before .before .before .before .before .before .before .before .before .before .before .before .before .before .before .args .k) (c .before .before .before .before .before .before .before .before .before .before .before .before .before .before .before .before .before .before .before .before .before .before .before .before .before .before .before .args .b .now) (c .before .before .before .before .before .before .before .before .before .before .before .before .before .before .before .before .before .before .before .before .before .before .before .before .before .before .before .args .out .now) (c .before .before .before .before .before .before .before .before .before .before .before .before .before .before .before .before .before .before .before .before .before .before .before .before .before .before .before .pre .1 .0) (c .before .before .before .before .before .before .before .before .before .before .before .before .before .before .before .before .before .before .before .before .before .before .before .before .before .before .before .args .pairs .now) (ap (λ (r : Check). pairs.given (c .before .before .before .before .before .before .before .before .before .before .before .before .before .before .before .before .before .before .before .before .before .before .before .before .before .before .before .args .k) r (c .before .before .before .before .before .before .before .before .before .before .before .before .before .before .before .top-pairs .last .1 .1 .1 .0)) (sym (told .1)) ∙ c .before .before .before .before .before .before .before .before .before .before .before .before .before .before .before .top-pairs .ensures) (c .before .before .before .before .before .before .before .before .before .before .before .before .before .before .before .top-pairs .kept .1 .1 .1 .0 ∙ c .before .before .before .before .before .before .before .before .before .before .before .before .before .before .before .before .before .before .before .before .before .before .before .before .before .before .before .pre .1 .1) (c .before .before .before .before .before .before .before .before .before .before .before .before .before .before .before .before .before .before .before .before .trace .ensures) (c .before .before .finish .ensures)
+    ∙ ordinate-answered (c .before .before .before .before .before .before .before .before .before .before .before .before .before .before .before .before .before .before .before .before .before .before .before .before .before .before .before .args .n) (c .before .before .before .before .before .before .before .before .before .before .before .before .before .before .before .before .before .before .before .before .before .before .before .before .before .before .before .args .k) (c .before .before .before .before .before .before .before .before .before .before .before .before .before .before .before .before .before .before .before .before .before .before .before .before .before .before .before .args .b .now) (c .before .before .before .before .before .before .before .before .before .before .before .before .before .before .before .before .before .before .before .before .before .before .before .before .before .before .before .args .out .now) (c .before .before .before .before .before .before .before .before .before .before .before .before .before .before .before .before .before .before .before .before .before .before .before .before .before .before .before .pre .1 .0) (c .before .before .before .before .before .before .before .before .before .before .before .before .before .before .before .before .before .before .before .before .before .before .before .before .before .before .before .args .pairs .now) (ap (λ (r : Check). pairs.given (c .before .before .before .before .before .before .before .before .before .before .before .before .before .before .before .before .before .before .before .before .before .before .before .before .before .before .before .args .k) r (c .before .before .before .before .before .before .before .before .before .before .before .before .before .before .before .before .top-pairs .last .1 .1 .1 .0)) (sym (told .1)) ∙ c .before .before .before .before .before .before .before .before .before .before .before .before .before .before .before .before .top-pairs .ensures) (c .before .before .before .before .before .before .before .before .before .before .before .before .before .before .before .before .top-pairs .kept .1 .1 .1 .0 ∙ c .before .before .before .before .before .before .before .before .before .before .before .before .before .before .before .before .before .before .before .before .before .before .before .before .before .before .before .pre .1 .1) (c .before .before .before .before .before .trace .ensures) (c .before .before .finish .ensures)
 
 pub ordinate-in-spec : {M : Type 1} → statement M
 ordinate-in-spec =
     tie.close
     (tie.spec
-    trace-requires
     top-pairs-requires
     enum-told
     enum-told-2
@@ -85,6 +84,7 @@ ordinate-in-spec =
     same-length-4
     same-length-5
     returns
+    trace-requires
     finish-requires
     same-length-6
     same-length-7

@@ -24,11 +24,11 @@ leading-requires : tie.Need-leading-requires
 leading-requires c κs = search needs
 
 solve-requires : tie.Need-solve-requires
-solve-requires c κs = 
+solve-requires c κs =
     let f = passed-fits (c .before .before .before .before .before .before .before .before .before .before .before .before .before .before .before .args .components) (c .before .before .before .before .before .before .before .before .before .before .before .before .before .before .before .args .n) (c .before .before .before .before .before .before .before .before .before .before .before .before .before .before .before .args .distances .now) (length (c .before .before .before .before .before .before .before .before .before .before .before .before .before .before .before .args .out .now)) (length (c .before .before .before .before .before .before .before .before .before .before .before .before .before .before .before .args .b .now)) (length (c .before .before .before .before .before .before .before .before .before .before .before .before .before .before .before .args .w .now)) (length (c .before .before .before .before .before .before .before .before .before .before .before .before .before .before .before .args .m .now)) (length (c .before .before .before .before .before .before .before .before .before .before .before .before .before .before .before .args .v .now)) (c .before .before .before .before .before .leading .ensures) (sym (c .before .before .before .before .before .before .enum-told .given .1) ∙ c .before .before .before .before .before .before .before .before .check .ensures) in
     let k = f .asks in
     let r = f .room in
-    ((f .distances, f .few, k .some, k .below, k .most), (r .out-fits, r .b-fits, r .w-fits, r .m-fits, r .v-fits))
+    ((f .distances, f .few, k .below, k .most), (r .out-fits, r .b-fits, r .w-fits, r .m-fits, r .v-fits))
 
 returns : tie.Need-returns
 returns c = call-refused (c .before .before .before .before .before .before .before .before .before .before .args .components) (c .before .before .before .before .before .before .before .before .before .before .args .n) (c .before .before .before .before .before .before .before .before .before .before .args .distances .now) (c .before .before .before .before .before .before .before .before .before .before .args .out .now) (c .before .before .before .before .before .before .before .before .before .before .args .b .now) (c .before .before .before .before .before .before .before .before .before .before .args .w .now) (c .before .before .before .before .before .before .before .before .before .before .args .m .now) (c .before .before .before .before .before .before .before .before .before .before .args .v .now) (sym (c .before .c .given .1) ∙ c .before .before .before .check .ensures)
