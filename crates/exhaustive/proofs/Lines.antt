@@ -77,7 +77,7 @@ longer-fits (s ∷ ss) (t ∷ ts) l e =
 
 pub no-shorter-fits : (n : ℕ) (s t : Slices) → NoShorter s t → tooShort n s ≡ false → tooShort n t ≡ false
 unfolding tooShort lentOf Longer
-no-shorter-fits n s t l e = longer-fits (lentOf n s) (lentOf n t) (l .labels, refl, (l .counts, refl, (l .means, refl, (l .terms, refl, (l .pulls, refl, (l .coords, refl, (l .room, refl, (l .rows, refl, tt)))))))) e
+no-shorter-fits n s t l e = longer-fits (lentOf n s) (lentOf n t) (l .labels, refl, (l .counts, refl, (l .means, refl, (l .terms, refl, (l .pulls, refl, (l .coords, refl, (l .room, refl, (l .vectors, refl, (l .rows, refl, tt))))))))) e
 
 -- ---- the lines of the exhaustive test
 

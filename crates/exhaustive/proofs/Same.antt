@@ -25,7 +25,8 @@ use Rattle.ways.specs.Ways.{ways, wayCount}
 use Rattle.ways.specs.Every.{Every}
 use Rattle.ways.proofs.Every as every
 use Rattle.judging.specs.Assignments.{assignment}
-use Rattle.exhaustive.specs.Exhaustive.{locationOf, dispersionOf, columnsOf, assignmentOf, coordinates, judgement, exhaustive}
+use Rattle.exhaustive.specs.Exhaustive.{locationOf, dispersionOf, assignmentOf, coordinates, judgement, exhaustive}
+use Rattle.verdict.specs.Answered.{columnsOf}
 use Rattle.exhaustive.proofs.Handed.{handed-again}
 
 -- ---- the ways of a lot

@@ -17,13 +17,13 @@ use Rattle.dispersion.specs.Anova.{meanZ}
 use Rattle.statistics.specs.Statistics.{zOf}
 use Rattle.statistics.specs.Warnings.{sizesOf}
 use Rattle.ways.specs.Ways.{mostWays, wayCount}
-use Rattle.exhaustive.specs.declared.Judgement.{Judgement}
+use Rattle.verdict.specs.declared.Judgement.{Judgement}
 use Rattle.exhaustive.specs.declared.Answer.{Answer}
 use Rattle.exhaustive.specs.declared.Answer.the-variants.{Judged, Refused}
 use Rattle.exhaustive.specs.Exhaustive.{exhaustive}
 
--- What is lent: outputs for g labels, counts and mean z; work for the terms, the pulls, the coordinates and the ordination, and for the label counts of
--- each stratum.
+-- What is lent: outputs for g labels, counts and mean z; work for the terms, the pulls, the coordinates, the ordination and its vectors, and for the label
+-- counts of each stratum.
 pub record Slices : Type 0 where
   pub labels : List ℕ
   pub counts : List ℕ
@@ -32,9 +32,10 @@ pub record Slices : Type 0 where
   pub pulls : List Float
   pub coords : List Float
   pub room : List Float
+  pub vectors : List Float
   pub rows : List ℕ
 
--- an output is asked n entries; work is asked n by n, and for coordinates and ordination what `pcoa` takes for 8 components
+-- an output is asked n entries, work n by n; coordinates are asked what `pcoa` takes for 8 components, and the ordination n more
 unfoldable pub lentOf : ℕ → Slices → List Lent
 lentOf n s =
     (length (s .labels) of n)
@@ -43,7 +44,8 @@ lentOf n s =
     ∷ (length (s .terms) of n * n)
     ∷ (length (s .pulls) of n * n)
     ∷ (length (s .coords) of 16 + 8 * n)
-    ∷ (length (s .room) of 4 * (n * n) + 32 * n)
+    ∷ (length (s .room) of n + n * n)
+    ∷ (length (s .vectors) of n * n)
     ∷ (length (s .rows) of n * n)
     ∷ []
 
@@ -73,21 +75,26 @@ leaves lot o before =
       pulls = work zero⁺ o (before .pulls);
       coords = work zero⁺ o (before .coords);
       room = work zero⁺ o (before .room);
+      vectors = work zero⁺ o (before .vectors);
       rows = work 0 o (before .rows);
     }
+
+-- a call by its outcome
+unfoldable pub callBy : Lot → Outcome Judgement → Slices → Called
+callBy lot o before = record { answer = o; after = leaves lot o before }
 
 -- the outcome for any arguments, and the meaning of a call
 unfoldable pub outcomeOf : Lot → Slices → Outcome Judgement
 outcomeOf lot before = judged (first (lines lot before)) (exhaustive lot)
 
 unfoldable pub exhaustiveCall : Lot → Slices → Called
-exhaustiveCall lot before = record { answer = outcomeOf lot before; after = leaves lot (outcomeOf lot before) before }
+exhaustiveCall lot before = callBy lot (outcomeOf lot before) before
 
 -- ---- how a contract says it: the enum that is returned, and what the slices hold
 
-abbrev pub slicesOf : List ℕ → List ℕ → List Float → List Float → List Float → List Float → List Float → List ℕ → Slices
-slicesOf labels counts means terms pulls coords room rows =
-    record { labels = labels; counts = counts; means = means; terms = terms; pulls = pulls; coords = coords; room = room; rows = rows }
+abbrev pub slicesOf : List ℕ → List ℕ → List Float → List Float → List Float → List Float → List Float → List Float → List ℕ → Slices
+slicesOf labels counts means terms pulls coords room vectors rows =
+    record { labels = labels; counts = counts; means = means; terms = terms; pulls = pulls; coords = coords; room = room; vectors = vectors; rows = rows }
 
 abbrev pub answerOf : Answer → Outcome Judgement
 answerOf (Judged j) = answered j
@@ -105,4 +112,5 @@ pub record NoShorter (s t : Slices) : Type 0 where
   pub pulls : length (s .pulls) ≤ length (t .pulls)
   pub coords : length (s .coords) ≤ length (t .coords)
   pub room : length (s .room) ≤ length (t .room)
+  pub vectors : length (s .vectors) ≤ length (t .vectors)
   pub rows : length (s .rows) ≤ length (t .rows)

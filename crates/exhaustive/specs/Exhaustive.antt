@@ -1,6 +1,6 @@
 -- Section 6: the exhaustive test of a lot. Definitions only.
 -- A way has a group for each kept sample; the observed one is `groups (lot .labels)`.
-use Prim.Native.Nat.{ℕ, min}
+use Prim.Native.Nat.{ℕ}
 use mathlib.Core.Bool.{Bool}
 use mathlib.Core.List.{List}
 use lib.Ieee.{Float}
@@ -19,7 +19,8 @@ use Rattle.coordinates.specs.Pcoa.{pcoa}
 use Rattle.ways.specs.Ways.{ways, wayCount}
 use Rattle.judging.specs.declared.Assignment.{Assignment}
 use Rattle.judging.specs.Assignments.{assignment, asRight}
-use Rattle.exhaustive.specs.declared.Judgement.{Judgement}
+use Rattle.verdict.specs.declared.Judgement.{Judgement}
+use Rattle.verdict.specs.Answered.{columnsOf}
 
 -- ---- for each way
 
@@ -31,10 +32,7 @@ locationOf lot way = statistic (locationF lot way)
 unfoldable pub dispersionOf : Lot → List ℕ → Statistic
 dispersionOf lot way = statistic (dispersionF lot way)
 
--- `dapc` with the way's labels, on coordinates of all n samples; `pcoa` has 8 components, or n where n is less
-abbrev pub columnsOf : ℕ → ℕ
-columnsOf n = min 8 n
-
+-- `dapc` with the way's labels, on coordinates of all n samples
 unfoldable pub assignmentOf : Lot → List Float → List ℕ → Assignment
 assignmentOf lot coords way = assignment (lot .n) (columnsOf (lot .n)) coords (relabelled lot way .labels)
 

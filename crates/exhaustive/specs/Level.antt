@@ -15,7 +15,7 @@ use Rattle.coordinates.specs.Finish.{Coordinates}
 use Rattle.ways.specs.Ways.{ways, wayCount, mostWays}
 use Rattle.ways.specs.Every.{Every}
 use Rattle.judging.specs.Assignments.{asRight, isGiven}
-use Rattle.exhaustive.specs.declared.Judgement.{Judgement}
+use Rattle.verdict.specs.declared.Judgement.{Judgement}
 use Rattle.exhaustive.specs.Exhaustive.{locationOf, dispersionOf, assignmentOf, hits, coordinates}
 use Rattle.exhaustive.specs.Call.{Slices, NoShorter, Called, exhaustiveCall}
 
