@@ -12,6 +12,7 @@
  *   5  fewer than two labels held by two samples
  *   6  ordination of fewer than 3 samples, or no hash with frequency 2 to n - 1
  *   7  over 4,096 such hashes
+ *   8  more than 20,000 ways
  *   9  too few columns that can be used
  *  10  a Cholesky pivot not above 0
  *  11  a NaN among values to be ordered
@@ -46,6 +47,22 @@ uint8_t lotjudge_test(size_t n, const double *distances, size_t distances_len, c
                       size_t weights_len, uint64_t seed, uint64_t n_perm, uint16_t *names, size_t names_len, uint16_t *counts,
                       size_t counts_len, double *means, size_t means_len, double *terms, size_t terms_len, double *pulls,
                       size_t pulls_len, double values[6], uint64_t numbers[5]);
+
+/* Every way to deal the labels out again within the strata: M of them, and how many are hits of each observed statistic.
+ *   distances, labels, strata, weights, names, counts, means, terms, pulls   as for lotjudge_test
+ *   coords         work, at least 16 + 8 * n
+ *   room           work, at least n + n * n
+ *   vectors, rows  work, at least n * n each
+ *   values         location F, r2, dispersion F, informative fraction; an F that is unbounded is 0
+ *   numbers        kept samples, groups, M, whether the location F is finite, its hits, whether the dispersion F is finite, its hits,
+ *                  whether there is an assignment, the samples assigned to their own group, its hits, warnings (bits 0 to 4)
+ */
+uint8_t lotjudge_exhaustive(size_t n, const double *distances, size_t distances_len, const uint16_t *labels, size_t labels_len,
+                            bool strata_given, const uint16_t *strata, size_t strata_len, bool weights_given, const double *weights,
+                            size_t weights_len, uint16_t *names, size_t names_len, uint16_t *counts, size_t counts_len, double *means,
+                            size_t means_len, double *terms, size_t terms_len, double *pulls, size_t pulls_len, double *coords,
+                            size_t coords_len, double *room, size_t room_len, double *vectors, size_t vectors_len, uint16_t *rows,
+                            size_t rows_len, double values[4], uint64_t numbers[11]);
 
 /* Principal coordinates. With k = components, or n if that is less:
  *   distances      n * n, row by row

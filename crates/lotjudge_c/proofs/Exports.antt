@@ -11,6 +11,10 @@ use Rattle.permanova.specs.declared.TestResult.{TestResult}
 use Rattle.permanova.specs.declared.Answer as test-answer
 use Rattle.permanova.specs.declared.Answer.the-variants as tested
 use Rattle.permanova.specs.Call as test
+use Rattle.verdict.specs.declared.Judgement.{Judgement}
+use Rattle.exhaustive.specs.declared.Answer as ways-answer
+use Rattle.exhaustive.specs.declared.Answer.the-variants as judged
+use Rattle.exhaustive.specs.Call as ways
 use Rattle.pcoa.specs.Call as pcoa
 use Rattle.gram.specs.declared.Answer as gram-answer
 use Rattle.gram.specs.declared.Answer.the-variants as features
@@ -19,7 +23,7 @@ use Rattle.dapc.specs.declared.Separation.{Separation}
 use Rattle.dapc.specs.declared.Answer as dapc-answer
 use Rattle.dapc.specs.declared.Answer.the-variants as scored
 use Rattle.dapc.specs.Call as dapc
-use Rattle.lotjudge_c.specs.Exported.{code, codeOf, laid, pOf, given, selectedOf, testValues, testNumbers, exportTest, testExport, exportPcoa, pcoaExport, exportHashPca, hashPcaExport, dapcNumbers, exportDapc, dapcExport}
+use Rattle.lotjudge_c.specs.Exported.{code, codeOf, laid, pOf, given, selectedOf, testValues, testNumbers, exportTest, testExport, fOf, isFinite, rightOf, isAssigned, wayValues, wayNumbers, exportWays, waysExport, exportPcoa, pcoaExport, exportHashPca, hashPcaExport, dapcNumbers, exportDapc, dapcExport}
 
 -- ---- `test`
 
@@ -40,6 +44,29 @@ pub test-refuses : {r : test-answer.Answer} {k : Refusal} {s : test.Slices} {c :
     → r ≡ tested.Refused k → test.called r s ≡ c → m ≡ number k → testExport m v₀ n₀ s ≡ exportTest c v₀ n₀
 unfolding exportTest code laid
 test-refuses {s = s} v₀ n₀ e f g = (λ i. testExport (g i) v₀ n₀ s) ∙ ap (λ c. exportTest c v₀ n₀) (ap (λ r. test.called r s) (sym e) ∙ f)
+
+-- ---- `exhaustive`
+
+pub way-values-are : (j : Judgement) {f d : Float} → f ≡ fOf (j .location .statistic) → d ≡ fOf (j .dispersion .statistic) → f ∷ j .r2 ∷ d ∷ j .«informative_fraction» ∷ [] ≡ wayValues j
+unfolding wayValues
+way-values-are j e h = λ i. e i ∷ j .r2 ∷ h i ∷ j .«informative_fraction» ∷ []
+
+pub way-numbers-are : (j : Judgement) {f d a k : ℕ} → f ≡ isFinite (j .location .statistic) → d ≡ isFinite (j .dispersion .statistic) → a ≡ isAssigned (j .assigned .assignment)
+    → k ≡ rightOf (j .assigned .assignment)
+    → j .n ∷ j .«n_groups» ∷ j .ways ∷ f ∷ j .location .hits ∷ d ∷ j .dispersion .hits ∷ a ∷ k ∷ j .assigned .hits ∷ j .warnings ∷ [] ≡ wayNumbers j
+unfolding wayNumbers
+way-numbers-are j e h a k =
+    λ i. j .n ∷ j .«n_groups» ∷ j .ways ∷ e i ∷ j .location .hits ∷ h i ∷ j .dispersion .hits ∷ a i ∷ k i ∷ j .assigned .hits ∷ j .warnings ∷ []
+
+pub ways-answer-laid : {r : ways-answer.Answer} {j : Judgement} {s : ways.Slices} {c : ways.Called} {v : List Float} {n : List ℕ} (v₀ : List Float) (n₀ : List ℕ)
+    → r ≡ judged.Judged j → ways.called r s ≡ c → v ≡ wayValues j → n ≡ wayNumbers j → waysExport 0 v n s ≡ exportWays c v₀ n₀
+unfolding exportWays code laid
+ways-answer-laid {s = s} v₀ n₀ e f g h = (λ i. waysExport 0 (g i) (h i) s) ∙ ap (λ c. exportWays c v₀ n₀) (ap (λ r. ways.called r s) (sym e) ∙ f)
+
+pub ways-refuse : {r : ways-answer.Answer} {k : Refusal} {s : ways.Slices} {c : ways.Called} {m : ℕ} (v₀ : List Float) (n₀ : List ℕ)
+    → r ≡ judged.Refused k → ways.called r s ≡ c → m ≡ number k → waysExport m v₀ n₀ s ≡ exportWays c v₀ n₀
+unfolding exportWays code laid
+ways-refuse {s = s} v₀ n₀ e f g = (λ i. waysExport (g i) v₀ n₀ s) ∙ ap (λ c. exportWays c v₀ n₀) (ap (λ r. ways.called r s) (sym e) ∙ f)
 
 -- ---- `pcoa`
 

@@ -12,6 +12,12 @@ use Rattle.chances.specs.declared.Chance.{Chance}
 use Rattle.chances.specs.declared.Chance.the-variants.{P, NoP}
 use Rattle.permanova.specs.declared.TestResult.{TestResult}
 use Rattle.permanova.specs.Call as test
+use Rattle.statistics.specs.declared.Statistic.{Statistic}
+use Rattle.statistics.specs.declared.Statistic.the-variants.{Finite, Unbounded}
+use Rattle.judging.specs.declared.Assignment.{Assignment}
+use Rattle.judging.specs.declared.Assignment.the-variants.{Right, Withheld}
+use Rattle.verdict.specs.declared.Judgement.{Judgement}
+use Rattle.exhaustive.specs.Call as ways
 use Rattle.pcoa.specs.Call as pcoa
 use Rattle.hash_pca.specs.Call as hashes
 use Rattle.dapc.specs.declared.Separation.{Separation}
@@ -62,6 +68,60 @@ exportTest c values numbers =
 
 abbrev pub testExport : ℕ → List Float → List ℕ → test.Slices → Test
 testExport code values numbers after = record { code = code; values = values; numbers = numbers; after = after }
+
+-- ---- `exhaustive`
+
+-- the F of a statistic, 0 where it is unbounded; and whether it is finite
+abbrev pub fOf : Statistic → Float
+fOf (Finite f) = f
+fOf Unbounded = zero⁺
+
+abbrev pub isFinite : Statistic → ℕ
+isFinite (Finite f) = 1
+isFinite Unbounded = 0
+
+-- the right count of an assignment, 0 where there is none; and whether there is one
+abbrev pub rightOf : Assignment → ℕ
+rightOf (Right k) = k
+rightOf Withheld = 0
+
+abbrev pub isAssigned : Assignment → ℕ
+isAssigned (Right k) = 1
+isAssigned Withheld = 0
+
+-- location F, r2, dispersion F, informative fraction
+unfoldable pub wayValues : Judgement → List Float
+wayValues j = fOf (j .location .statistic) ∷ j .r2 ∷ fOf (j .dispersion .statistic) ∷ j .«informative_fraction» ∷ []
+
+-- kept samples, groups, M; whether the location F is finite, and its hits; the same of dispersion; whether there is an assignment, its right count and
+-- its hits; warnings
+unfoldable pub wayNumbers : Judgement → List ℕ
+wayNumbers j =
+    j .n
+    ∷ j .«n_groups»
+    ∷ j .ways
+    ∷ isFinite (j .location .statistic)
+    ∷ j .location .hits
+    ∷ isFinite (j .dispersion .statistic)
+    ∷ j .dispersion .hits
+    ∷ isAssigned (j .assigned .assignment)
+    ∷ rightOf (j .assigned .assignment)
+    ∷ j .assigned .hits
+    ∷ j .warnings
+    ∷ []
+
+pub record EveryWay : Type 0 where
+  pub code : ℕ
+  pub values : List Float
+  pub numbers : List ℕ
+  pub after : ways.Slices
+
+unfoldable pub exportWays : ways.Called → List Float → List ℕ → EveryWay
+exportWays c values numbers =
+    record { code = code (c .answer); values = laid wayValues (c .answer) values; numbers = laid wayNumbers (c .answer) numbers; after = c .after }
+
+abbrev pub waysExport : ℕ → List Float → List ℕ → ways.Slices → EveryWay
+waysExport code values numbers after = record { code = code; values = values; numbers = numbers; after = after }
 
 -- ---- `pcoa`
 

@@ -1,16 +1,20 @@
 // The library for other languages (include/lotjudge.h): each operation on numbers and slices, with a number for its outcome: 0, or the refusal's.
 use chances::Chance;
 use dapc::Separation;
+use judging::Assignment;
 use outcome::Check;
 use outcome::number_of;
 use permanova::TestResult;
+use statistics::Statistic;
+use verdict::Judgement;
 ghost use mathlib.Core.Path.{_≡_};
 ghost use Rattle.lot.specs.Lot.{lotOf};
 ghost use Rattle.permanova.specs.Call.{slicesOf, testCall};
+ghost use Rattle.exhaustive.specs.Call as ways;
 ghost use Rattle.pcoa.specs.Call.{pcoaCall};
 ghost use Rattle.hash_pca.specs.Call.{hashPcaCall};
 ghost use Rattle.dapc.specs.Call.{dapcCall};
-ghost use Rattle.lotjudge_c.specs.Exported.{codeOf, pOf, given, testValues, testNumbers, exportTest, testExport, exportPcoa, pcoaExport, exportHashPca, hashPcaExport, dapcNumbers, exportDapc, dapcExport};
+ghost use Rattle.lotjudge_c.specs.Exported.{codeOf, pOf, given, testValues, testNumbers, exportTest, testExport, fOf, isFinite, rightOf, isAssigned, wayValues, wayNumbers, exportWays, waysExport, exportPcoa, pcoaExport, exportHashPca, hashPcaExport, dapcNumbers, exportDapc, dapcExport};
 
 // ---- `test`
 
@@ -103,6 +107,136 @@ pub extern "C" fn lotjudge_test(
         permanova::Answer::Tested(t) => {
             *values = test_values(t);
             *numbers = test_numbers(t);
+            0
+        }
+    }
+}
+
+// ---- `exhaustive`
+
+// The F of a statistic, 0 where it is unbounded.
+fn f_of(s: Statistic) -> f64
+    ensures { λ r. ⌜ r ≡ fOf s ⌝ }
+{
+    let Statistic::Finite(f) = s else {
+        return 0.0;
+    };
+    f
+}
+
+// Whether it is finite.
+fn is_bounded(s: Statistic) -> u64
+    ensures { λ r. ⌜ r ≡ isFinite s ⌝ }
+{
+    let Statistic::Finite(_f) = s else {
+        return 0;
+    };
+    1
+}
+
+// The right count of an assignment, 0 where there is none.
+fn right_of(a: Assignment) -> u64
+    ensures { λ r. ⌜ r ≡ rightOf a ⌝ }
+{
+    let Assignment::Right(k) = a else {
+        return 0;
+    };
+    k as u64
+}
+
+// Whether there is one.
+fn is_assigned(a: Assignment) -> u64
+    ensures { λ r. ⌜ r ≡ isAssigned a ⌝ }
+{
+    let Assignment::Right(_k) = a else {
+        return 0;
+    };
+    1
+}
+
+fn way_values(j: Judgement) -> [f64; 4]
+    ensures { λ r. ⌜ r ≡ wayValues j ⌝ }
+{
+    let l = j.location.statistic;
+    let d = j.dispersion.statistic;
+    let first = f_of(l);
+    let second = f_of(d);
+    [first, j.r2, second, j.informative_fraction]
+}
+
+fn way_numbers(j: Judgement) -> [u64; 11]
+    ensures { λ r. ⌜ r ≡ wayNumbers j ⌝ }
+{
+    let l = j.location.statistic;
+    let d = j.dispersion.statistic;
+    let a = j.assigned.assignment;
+    let first = is_bounded(l);
+    let second = is_bounded(d);
+    let third = is_assigned(a);
+    let right = right_of(a);
+    [
+        j.n as u64,
+        j.n_groups as u64,
+        j.ways as u64,
+        first,
+        j.location.hits as u64,
+        second,
+        j.dispersion.hits as u64,
+        third,
+        right,
+        j.assigned.hits as u64,
+        j.warnings as u64,
+    ]
+}
+
+#[no_mangle]
+pub extern "C" fn lotjudge_exhaustive(
+    n: usize,
+    distances: &[f64],
+    labels: &[u16],
+    strata_given: bool,
+    strata: &[u16],
+    weights_given: bool,
+    weights: &[f64],
+    names: &mut [u16],
+    counts: &mut [u16],
+    means: &mut [f64],
+    terms: &mut [f64],
+    pulls: &mut [f64],
+    coords: &mut [f64],
+    room: &mut [f64],
+    vectors: &mut [f64],
+    rows: &mut [u16],
+    values: &mut [f64; 4],
+    numbers: &mut [u64; 11],
+) -> u8
+    ensures { λ r. ⌜ waysExport r (now (values .exit)) (now (numbers .exit)) (ways.slicesOf (now (names .exit)) (now (counts .exit)) (now (means .exit)) (now (terms .exit)) (now (pulls .exit)) (now (coords .exit)) (now (room .exit)) (now (vectors .exit)) (now (rows .exit)))
+        ≡ exportWays (ways.exhaustiveCall (lotOf n (now (distances .entry)) (now (labels .entry)) «strata_given» (now (strata .entry)) «weights_given» (now (weights .entry)))
+        (ways.slicesOf (now (names .entry)) (now (counts .entry)) (now (means .entry)) (now (terms .entry)) (now (pulls .entry)) (now (coords .entry)) (now (room .entry)) (now (vectors .entry)) (now (rows .entry)))) (now (values .entry)) (now (numbers .entry)) ⌝ }
+{
+    let r = exhaustive::exhaustive(
+        n,
+        distances,
+        labels,
+        strata_given,
+        strata,
+        weights_given,
+        weights,
+        names,
+        counts,
+        means,
+        terms,
+        pulls,
+        coords,
+        room,
+        vectors,
+        rows,
+    );
+    match r {
+        exhaustive::Answer::Refused(e) => number_of(e),
+        exhaustive::Answer::Judged(j) => {
+            *values = way_values(j);
+            *numbers = way_numbers(j);
             0
         }
     }

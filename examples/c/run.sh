@@ -1,0 +1,8 @@
+#!/bin/sh
+# Builds the static library and the C example, and runs it.
+set -e
+cd "$(dirname "$0")/../.."
+rt staticlib lotjudge_c > /dev/null
+mkdir -p target/examples
+cc -O2 -Wall -Iinclude examples/c/example.c target/staticlib/liblotjudge_c.a -o target/examples/example_c
+target/examples/example_c

@@ -1,0 +1,40 @@
+//! Document 01's example lot by every way: four samples, labels 0, 0, 1, 1.
+
+#[rustfmt::skip]
+extern "C" {
+    fn lotjudge_exhaustive(
+        n: usize, distances: *const f64, distances_len: usize, labels: *const u16, labels_len: usize,
+        strata_given: bool, strata: *const u16, strata_len: usize, weights_given: bool, weights: *const f64, weights_len: usize,
+        names: *mut u16, names_len: usize, counts: *mut u16, counts_len: usize, means: *mut f64, means_len: usize,
+        terms: *mut f64, terms_len: usize, pulls: *mut f64, pulls_len: usize, coords: *mut f64, coords_len: usize,
+        room: *mut f64, room_len: usize, vectors: *mut f64, vectors_len: usize, rows: *mut u16, rows_len: usize,
+        values: *mut [f64; 4], numbers: *mut [u64; 11],
+    ) -> u8;
+}
+
+#[rustfmt::skip]
+fn main() {
+    let n = 4;
+    let distances: [f64; 16] = [0., 2., 8., 10., 2., 0., 6., 8., 8., 6., 0., 2., 10., 8., 2., 0.];
+    let labels: [u16; 4] = [0, 0, 1, 1];
+    let none: [u16; 0] = [];
+    let no_weights: [f64; 0] = [];
+    let (mut names, mut counts, mut means) = (vec![0u16; n], vec![0u16; n], vec![0f64; n]);
+    let (mut terms, mut pulls, mut vectors, mut rows) = (vec![0f64; n * n], vec![0f64; n * n], vec![0f64; n * n], vec![0u16; n * n]);
+    let (mut coords, mut room) = (vec![0f64; 16 + 8 * n], vec![0f64; n + n * n]);
+    let (mut values, mut numbers) = ([0.0; 4], [0; 11]);
+    let refused = unsafe {
+        lotjudge_exhaustive(
+            n, distances.as_ptr(), distances.len(), labels.as_ptr(), labels.len(),
+            false, none.as_ptr(), 0, false, no_weights.as_ptr(), 0,
+            names.as_mut_ptr(), names.len(), counts.as_mut_ptr(), counts.len(), means.as_mut_ptr(), means.len(),
+            terms.as_mut_ptr(), terms.len(), pulls.as_mut_ptr(), pulls.len(), coords.as_mut_ptr(), coords.len(),
+            room.as_mut_ptr(), room.len(), vectors.as_mut_ptr(), vectors.len(), rows.as_mut_ptr(), rows.len(),
+            &mut values, &mut numbers,
+        )
+    };
+    match refused {
+        0 => println!("exhaustive: F {}, {} of {} ways are as far apart", values[0], numbers[4], numbers[2]),
+        number => println!("refusal {number}"),
+    }
+}
