@@ -36,17 +36,40 @@ unfolding any le ofBits
 case-i = ap outcomeTold (every.case-i (replicate 324 zero⁺) lent refl refl long)
 
 pub judged : Hold cases
-judged =
-    (ap (λ x. bits x ∷ []) root-of-smallest)
-    , (ap (λ n. n ∷ []) root-of-two)
-    , (λ i. bits (test.case-c-total i) ∷ bits (test.case-c-within i) ∷ bits (test.case-c-F i) ∷ [])
-    , (λ i. bits (test.case-d i) ∷ every.case-d i ∷ [])
-    , (λ i. bits (test.case-e i) ∷ every.case-e i ∷ [])
-    , (λ i. given (test.case-f 1 9 .0 i) ∷ given (test.case-f 1 9 .1 i) ∷ getD (ways.cases (replicate 16 zero⁺) i) 1 0 ∷ every.case-f-location i ∷ every.case-f-dispersion i ∷ [])
-    , (λ i. getD (ways.cases (replicate 16 zero⁺) i) 0 0 ∷ [])
-    , (ap (λ c. told c ∷ []) lot.case-h-zero)
-    , (λ i. getD (ways.cases (replicate 324 zero⁺) i) 2 0 ∷ getD (ways.cases (replicate 324 zero⁺) i) 3 0 ∷ case-i i ∷ [])
-    , case-j
-    , (ap (λ c. map bits (take 2 (c .out))) diagonal-1-3)
-    , (λ i. told (case-l-nine 2 i) ∷ told (case-l-passes i) ∷ [])
-    , tt
+judged = (
+  (ap (λ x. bits x ∷ []) root-of-smallest),
+  (
+    (ap (λ n. n ∷ []) root-of-two),
+    (
+      (λ i. bits (test.case-c-total i) ∷ bits (test.case-c-within i) ∷ bits (test.case-c-F i) ∷ []),
+      (
+        (λ i. bits (test.case-d i) ∷ every.case-d i ∷ []),
+        (
+          (λ i. bits (test.case-e i) ∷ every.case-e i ∷ []),
+          (
+            (λ i. given (test.case-f 1 9 .0 i) ∷ given (test.case-f 1 9 .1 i) ∷ getD (ways.cases (replicate 16 zero⁺) i) 1 0 ∷ every.case-f-location i ∷ every.case-f-dispersion i ∷ []),
+            (
+              (λ i. getD (ways.cases (replicate 16 zero⁺) i) 0 0 ∷ []),
+              (
+                (ap (λ c. told c ∷ []) lot.case-h-zero),
+                (
+                  (λ i. getD (ways.cases (replicate 324 zero⁺) i) 2 0 ∷ getD (ways.cases (replicate 324 zero⁺) i) 3 0 ∷ case-i i ∷ []),
+                  (
+                    case-j,
+                    (
+                      (ap (λ c. map bits (take 2 (c .out))) diagonal-1-3),
+                      (
+                        (λ i. told (case-l-nine 2 i) ∷ told (case-l-passes i) ∷ []),
+                        tt,
+                      ),
+                    ),
+                  ),
+                ),
+              ),
+            ),
+          ),
+        ),
+      ),
+    ),
+  ),
+)

@@ -88,44 +88,39 @@ pub record Case : Type 0 where
   pub computed : List ℕ
   pub expected : List ℕ
 
-abbrev pub _computes_ : List ℕ → List ℕ → Case
-computed computes expected = record { computed = computed; expected = expected }
+abbrev pub sample : List ℕ → List ℕ → Case
+sample computed expected = record { computed = computed; expected = expected }
 
 abbrev pub cases : List Case
 cases =
     -- (a) root of 2^-1074 is 2^-537
-    ((bits (root (fin false 1 (negsuc 1073))) ∷ []) computes (bits (fin false 1 (negsuc 536)) ∷ []))
+    sample (bits (root (fin false 1 (negsuc 1073))) ∷ []) (bits (fin false 1 (negsuc 536)) ∷ [])
     -- (b) root of 2
-    ∷ ((bits (root 2·0) ∷ []) computes (0x3ff6_a09e_667f_3bcd ∷ []))
+    ∷ sample (bits (root 2·0) ∷ []) (0x3ff6_a09e_667f_3bcd ∷ [])
     -- (c) the example: total 68, within 4, F 32
-    ∷ ((bits (totalOf (example (0 ∷ 0 ∷ 1 ∷ 1 ∷ []))) ∷ bits (withinOf (example (0 ∷ 0 ∷ 1 ∷ 1 ∷ [])) (groups (0 ∷ 0 ∷ 1 ∷ 1 ∷ []))) ∷ bits (locationF (example (0 ∷ 0 ∷ 1 ∷ 1 ∷ [])) (groups (0 ∷ 0 ∷ 1 ∷ 1 ∷ []))) ∷ [])
-      computes (bits (num 68) ∷ bits (num 4) ∷ bits (num 32) ∷ []))
+    ∷ sample (bits (totalOf (example (0 ∷ 0 ∷ 1 ∷ 1 ∷ []))) ∷ bits (withinOf (example (0 ∷ 0 ∷ 1 ∷ 1 ∷ [])) (groups (0 ∷ 0 ∷ 1 ∷ 1 ∷ []))) ∷ bits (locationF (example (0 ∷ 0 ∷ 1 ∷ 1 ∷ [])) (groups (0 ∷ 0 ∷ 1 ∷ 1 ∷ []))) ∷ []) (bits (num 68) ∷ bits (num 4) ∷ bits (num 32) ∷ [])
     -- (d) labels 0, 1, 0, 1 there: F 0.125, 4 hits
-    ∷ ((bits (locationF (example (0 ∷ 1 ∷ 0 ∷ 1 ∷ [])) (groups (0 ∷ 1 ∷ 0 ∷ 1 ∷ []))) ∷ locationHits (example (0 ∷ 1 ∷ 0 ∷ 1 ∷ [])) ∷ [])
-      computes (bits (f64 0x3fc0_0000_0000_0000) ∷ 4 ∷ []))
+    ∷ sample (bits (locationF (example (0 ∷ 1 ∷ 0 ∷ 1 ∷ [])) (groups (0 ∷ 1 ∷ 0 ∷ 1 ∷ []))) ∷ locationHits (example (0 ∷ 1 ∷ 0 ∷ 1 ∷ [])) ∷ []) (bits (f64 0x3fc0_0000_0000_0000) ∷ 4 ∷ [])
     -- (e) 0, 1, 1, 0: F 0, 6 hits
-    ∷ ((bits (locationF (example (0 ∷ 1 ∷ 1 ∷ 0 ∷ [])) (groups (0 ∷ 1 ∷ 1 ∷ 0 ∷ []))) ∷ locationHits (example (0 ∷ 1 ∷ 1 ∷ 0 ∷ [])) ∷ [])
-      computes (bits zero⁺ ∷ 6 ∷ []))
+    ∷ sample (bits (locationF (example (0 ∷ 1 ∷ 1 ∷ 0 ∷ [])) (groups (0 ∷ 1 ∷ 1 ∷ 0 ∷ []))) ∷ locationHits (example (0 ∷ 1 ∷ 1 ∷ 0 ∷ [])) ∷ []) (bits zero⁺ ∷ 6 ∷ [])
     -- (f) all distances 0: sampled no p, every way hits in both F's
-    ∷ ((given (tested zeros 1 9 .p) ∷ given (tested zeros 1 9 .«disp_p») ∷ wayCount zeros ∷ locationHits zeros ∷ dispersionHits zeros ∷ [])
-      computes (0 ∷ 0 ∷ 6 ∷ 6 ∷ 6 ∷ []))
+    ∷ sample (given (tested zeros 1 9 .p) ∷ given (tested zeros 1 9 .«disp_p») ∷ wayCount zeros ∷ locationHits zeros ∷ dispersionHits zeros ∷ []) (0 ∷ 0 ∷ 6 ∷ 6 ∷ 6 ∷ [])
     -- (g) labels 0, 0, 1, 1 with strata 0, 0, 1, 1: M 1
-    ∷ ((wayCount apart ∷ []) computes (1 ∷ []))
+    ∷ sample (wayCount apart ∷ []) (1 ∷ [])
     -- (h) labels 0, 0, 1: 5
-    ∷ ((told (first (testLines three false false)) ∷ []) computes (5 ∷ []))
+    ∷ sample (told (first (testLines three false false)) ∷ []) (5 ∷ [])
     -- (i) 8 and 8 in one stratum: M 12,870; 9 and 9: 48,620, so 8
-    ∷ ((wayCount (halves 8) ∷ wayCount (halves 9) ∷ outcomeTold (outcomeOf (halves 9) lent) ∷ []) computes (12870 ∷ 48620 ∷ 8 ∷ []))
+    ∷ sample (wayCount (halves 8) ∷ wayCount (halves 9) ∷ outcomeTold (outcomeOf (halves 9) lent) ∷ []) (12870 ∷ 48620 ∷ 8 ∷ [])
     -- (j) sets {5}, {5}, {}, {}: Gram entries 0.25, but -0.25 between the first two and the last two
-    ∷ (map bits (gram 4 (5 ∷ 5 ∷ []) (0 ∷ 1 ∷ 2 ∷ 2 ∷ 2 ∷ []))
-      computes (let p : ℕ = 0x3fd0_0000_0000_0000 in let q : ℕ = 0xbfd0_0000_0000_0000 in
-        p ∷ p ∷ q ∷ q
-        ∷ p ∷ p ∷ q ∷ q
-        ∷ q ∷ q ∷ p ∷ p
-        ∷ q ∷ q ∷ p ∷ p ∷ []))
+    ∷ sample (map bits (gram 4 (5 ∷ 5 ∷ []) (0 ∷ 1 ∷ 2 ∷ 2 ∷ 2 ∷ []))) (let p : ℕ = 0x3fd0_0000_0000_0000 in let q : ℕ = 0xbfd0_0000_0000_0000 in
+    p ∷ p ∷ q ∷ q
+    ∷ p ∷ p ∷ q ∷ q
+    ∷ q ∷ q ∷ p ∷ p
+    ∷ q ∷ q ∷ p ∷ p ∷ [])
     -- (k) diagonal 1, 3: values 3, 1
-    ∷ (map bits (take 2 (jacobiCall 2 (1·0 ∷ zero⁺ ∷ zero⁺ ∷ 3·0 ∷ []) (replicate 7 2·0) (replicate 4 2·0) (replicate 5 2·0) .out)) computes (bits 3·0 ∷ bits 1·0 ∷ []))
+    ∷ sample (map bits (take 2 (jacobiCall 2 (1·0 ∷ zero⁺ ∷ zero⁺ ∷ 3·0 ∷ []) (replicate 7 2·0) (replicate 4 2·0) (replicate 5 2·0) .out))) (bits 3·0 ∷ bits 1·0 ∷ [])
     -- (l) m = 4, g = 2: 9; m = 5 with 2 columns passes
-    ∷ ((told (first (groupLines 2 4 2)) ∷ told (first (groupLines 2 5 2)) ∷ []) computes (9 ∷ 0 ∷ []))
+    ∷ sample (told (first (groupLines 2 4 2)) ∷ told (first (groupLines 2 5 2)) ∷ []) (9 ∷ 0 ∷ [])
     ∷ []
 
 -- every case of a list computes what is expected
