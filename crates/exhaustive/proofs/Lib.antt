@@ -1,0 +1,6 @@
+-- The laws of the exhaustive test.
+pub mod Handed
+pub mod Ranked
+pub mod Same
+pub mod Lines
+pub mod Demand

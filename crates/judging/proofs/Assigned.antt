@@ -1,0 +1,118 @@
+-- What `dapc` answers for labels whose lengths fit: it refuses the coordinates whatever the way, or goes by the scores of the groups. Assumes nothing.
+use mathlib.Core.Path.{_≡_, refl, sym, ap, ap₂, subst, _∙_}
+use mathlib.Core.Bool.{Bool, true, false, not, cond, _||_}
+use mathlib.Core.List.{List, [], _∷_, _++_}
+use Prim.Native.Nat.{ℕ, _+_, _*_, _<_, _≤_}
+use native.Mathlib.Omega.{arith}
+use borrow.Author.Tests.{eq-eqb, le-ltb}
+use lib.Dec.{eqb, ltb}
+use lib.ListN.{length, replicate, length-replicate}
+use lib.Ieee.{Float}
+use Rattle.float.specs.Floats.{zero⁺}
+use Rattle.lists.specs.Filters.{any}
+use Rattle.outcome.specs.declared.Check.{Check}
+use Rattle.outcome.specs.declared.Check.the-variants as check
+use Rattle.outcome.specs.declared.Refusal.the-variants.{Value, Columns}
+use Rattle.outcome.specs.Refusals.{first, short}
+use Rattle.outcome.specs.Outcome.{Outcome, answered, refused, judged, andThen}
+use Rattle.lot.specs.Lot.{Lot, none}
+use Rattle.lot.specs.Kept.{kept, names, groups, groupEach, keptCount, groupCount}
+use Rattle.lot.specs.Way.{IsWay, relabelled}
+use Rattle.lot.proofs.Relabelled.{same-lot, way-below}
+use Rattle.moments.specs.Moments.{Numbered, grouped}
+use Rattle.dapc.specs.Dapc.{Scores, leading, axesOf, discriminate, dapc}
+use Rattle.dapc.specs.Call.{misfits, badCoordinate, shapeLines, groupLines, dapcLines, leaves, callBy, dapcCall}
+use Rattle.dapc.proofs.Grouping.{grouped-kept, numbered-each}
+use Rattle.judging.specs.declared.Assignment.{Assignment}
+use Rattle.judging.specs.declared.Assignment.the-variants.{Right, Withheld}
+use Rattle.judging.specs.Assignments.{rightCount, assignment}
+use Rattle.judging.specs.Judging.{placed, found, barredBy, assignmentBy, Judged}
+use Rattle.judging.proofs.Cases.{answer-found}
+use Rattle.judging.proofs.Placed.{each-placed}
+
+-- by the two lines that coordinates can meet
+by-lines : (b c : Bool) (o : Outcome Scores) → found (judged (cond b (check.Refused Value) (cond c (check.Refused Columns) check.Passed)) o) ≡ cond (b || c) Withheld (found o)
+unfolding found
+by-lines true c o = refl
+by-lines false true o = refl
+by-lines false false o = refl
+
+module _ (n columns : ℕ) (x : List Float) (labels : List ℕ) (coordinates : length x ≡ n * columns) (labelled : length labels ≡ n) (few : n ≤ 256) (narrow : columns ≤ 16)
+    (two : 2 ≤ groupCount labels) where
+  abbrev m : ℕ
+  m = keptCount labels
+
+  abbrev g : ℕ
+  g = groupCount labels
+
+  abbrev out : List Float
+  out = replicate (columns + n * columns) zero⁺
+
+  abbrev assigned : List ℕ
+  assigned = replicate n 0
+
+  fits : misfits n columns (length x) (length labels) (length out) (length assigned) ≡ false
+  unfolding misfits short any
+  fits = rw (eq-eqb _ _ coordinates, eq-eqb _ _ labelled, le-ltb (length out) (columns + n * columns) (omega (arith, length-replicate (columns + n * columns) zero⁺)), le-ltb (length assigned) n (omega (arith, length-replicate {A = ℕ} n 0)))
+
+  lines-are : first (dapcLines n columns x labels (length out) (length assigned)) ≡ cond (any badCoordinate x) (check.Refused Value) (cond (ltb (leading columns m g) 2) (check.Refused Columns) check.Passed)
+  unfolding dapcLines shapeLines groupLines first
+  lines-are = rw (fits, le-ltb 256 n few, le-ltb 16 columns narrow, le-ltb g 2 two)
+
+  -- the groups that have samples are those of m kept ones
+  scored : dapc n columns x (groupEach labels) g ≡ discriminate n columns (leading columns m g) x (groupEach labels) g
+  unfolding dapc keptCount
+  scored = ap (λ (ks : List ℕ). discriminate n columns (leading columns (length ks) g) x (groupEach labels) g) (grouped-kept labels (omega arith))
+
+  assignment-is : assignment n columns x labels ≡ cond (barredBy x (leading columns m g)) Withheld (found (discriminate n columns (leading columns m g) x (groupEach labels) g))
+  unfolding assignment dapcCall callBy barredBy
+  assignment-is =
+      answer-found n (leading columns m g) (axesOf g (leading columns m g)) (judged (first (dapcLines n columns x labels (length out) (length assigned))) (dapc n columns x (groupEach labels) g)) out assigned
+      ∙ ap₂ (λ (c : Check) (o : Outcome Scores). found (judged c o)) lines-are scored
+      ∙ by-lines (any badCoordinate x) (ltb (leading columns m g) 2) (discriminate n columns (leading columns m g) x (groupEach labels) g)
+
+-- ---- a way of a lot
+
+module _ (lot : Lot) (labelled : length (lot .labels) ≡ lot .n) (few : lot .n ≤ 256) (way : List ℕ) (is-way : IsWay lot way) where
+  abbrev m₀ : ℕ
+  m₀ = keptCount (lot .labels)
+
+  abbrev g₀ : ℕ
+  g₀ = groupCount (lot .labels)
+
+  abbrev new : List ℕ
+  new = relabelled lot way .labels
+
+  labelled-new : length new ≡ lot .n
+  labelled-new = same-lot lot way is-way .sameLength ∙ labelled
+
+  same-m : keptCount new ≡ m₀
+  unfolding keptCount
+  same-m = ap length (same-lot lot way is-way .sameKept)
+
+  same-g : groupCount new ≡ g₀
+  unfolding groupCount
+  same-g = ap length (same-lot lot way is-way .sameNames)
+
+  each-way : groupEach new ≡ placed (lot .n) (kept (lot .labels)) way
+  each-way =
+      each-placed new (omega (arith, labelled-new))
+      ∙ (λ i. placed (labelled-new i) (same-lot lot way is-way .sameKept i) (same-lot lot way is-way .groupsAre i))
+
+  -- it can be judged
+  pub way-judged : Judged (lot .n) m₀ g₀ (kept (lot .labels)) way
+  unfolding groupCount keptCount
+  way-judged = record {
+    all = is-way .labelsAll;
+    below = way-below lot way is-way;
+    numbered = subst (λ (l : List ℕ). Numbered g₀ l) each-way (subst (λ (k : ℕ). Numbered k (groupEach new)) same-g (numbered-each new));
+    grouped = sym (ap (λ (l : List ℕ). length (grouped l)) (sym each-way) ∙ ap length (grouped-kept new (omega (arith, labelled-new))) ∙ same-m);
+  }
+
+  -- and its assignment is what `dapc` answers for its labels
+  pub assignment-way : (columns : ℕ) (x : List Float) → length x ≡ lot .n * columns → columns ≤ 16 → 2 ≤ g₀
+      → assignmentBy (barredBy x (leading columns m₀ g₀)) (lot .n) columns (leading columns m₀ g₀) x (kept (lot .labels)) g₀ way ≡ assignment (lot .n) columns x new
+  unfolding assignmentBy
+  assignment-way columns x coordinates narrow two = sym (
+      assignment-is (lot .n) columns x new coordinates labelled-new few narrow (omega (arith, same-g))
+      ∙ (λ i. cond (barredBy x (leading columns (same-m i) (same-g i))) Withheld (found (discriminate (lot .n) columns (leading columns (same-m i) (same-g i)) x (each-way i) (same-g i)))))

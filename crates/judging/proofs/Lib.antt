@@ -1,0 +1,4 @@
+-- The laws of a way's statistics.
+pub mod Cases
+pub mod Placed
+pub mod Assigned

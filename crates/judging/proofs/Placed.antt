@@ -1,0 +1,152 @@
+-- The group of each sample, put sample by sample on those that are kept. Assumes nothing.
+use mathlib.Core.Path.{_≡_, refl, sym, ap, ap₂, subst, _∙_}
+use mathlib.Core.Bool.{Bool, true, false, not, cond, _||_, true≢false}
+use mathlib.Core.List.{List, map, List·Memᴰ as Member}
+use Prim.Native.Nat.{ℕ, zero, suc, _<_, _≤_}
+use native.Mathlib.Omega.{arith}
+use native.Mathlib.Decide.{ℕ-discrete}
+use borrow.Author.Tests.{eq-eqb, ne-eqb, eqb-true, ltb-true}
+use lib.Dec.{eqb, ltb}
+use lib.ListN.{length, getD, set, replicate, length-set, length-map, length-replicate, List·getD-map, getD-replicate}
+use lib.Seq.{ext-getD, getD-set-same, getD-set-other}
+use Rattle.lists.specs.Ranges.{range}
+use Rattle.lists.specs.Loops.{inTurn}
+use Rattle.lists.specs.Filters.{keep, any, firstAt}
+use Rattle.lists.specs.Numbers.{stands, position, Below}
+use Rattle.lists.proofs.Loops.{length-inTurn}
+use Rattle.lot.specs.Lot.{none}
+use Rattle.lot.specs.Kept.{kept, gathered, keptLabels, names, groups, groupEach}
+use Rattle.lot.proofs.Extra.{getD-either, any-first, found-passes}
+use Rattle.lot.proofs.Membership.{member-range, range-member, member-getD, member-keep, keep-member, member-any}
+use Rattle.lot.proofs.Samples.{kept-below, length-groups}
+use Rattle.moments.specs.Moments.{grouped}
+use Rattle.dapc.proofs.Grouping.{length-each, grouped-kept}
+use Rattle.judging.specs.Judging.{placed}
+
+-- ---- what stands at a place after the first k writes
+
+-- one of the first k of ks is i
+among : List ℕ → ℕ → ℕ → Bool
+among ks zero i = false
+among ks (suc k) i = eqb i (getD ks k 0) || among ks k i
+
+module _ (n : ℕ) (ks way : List ℕ) (value : ℕ → ℕ) (below : Below n ks) (is : (k : ℕ) → k < length ks → getD way k 0 ≡ value (getD ks k 0)) where
+  after : ℕ → List ℕ
+  after k = inTurn (λ k l. set l (getD ks k 0) (getD way k 0)) k (replicate n none)
+
+  length-after : (k : ℕ) → length (after k) ≡ n
+  unfolding after
+  length-after k = length-inTurn _ (λ k l. length-set l (getD ks k 0) (getD way k 0)) k (replicate n none) ∙ length-replicate n none
+
+  written : (k i : ℕ) → k ≤ length ks → i < n → getD (after k) i 0 ≡ cond (among ks k i) (value i) none
+  unfolding after inTurn among
+  written zero i h b = getD-replicate n i none 0 b
+  written (suc k) i h b = elim (ℕ-discrete i (getD ks k 0)) [
+    | yes e ↦
+        ap (λ (j : ℕ). getD (set (after k) (getD ks k 0) (getD way k 0)) j 0) e
+        ∙ getD-set-same (after k) (getD ks k 0) (getD way k 0) 0 (omega (arith, length-after k, below k (omega arith)))
+        ∙ is k (omega arith)
+        ∙ ap value (sym e)
+        ∙ ap (λ (t : Bool). cond (t || among ks k i) (value i) none) (sym (eq-eqb i (getD ks k 0) e))
+    | no e ↦
+        getD-set-other (after k) (getD ks k 0) i (getD way k 0) 0 e
+        ∙ written k i (omega arith) b
+        ∙ ap (λ (t : Bool). cond (t || among ks k i) (value i) none) (sym (ne-eqb i (getD ks k 0) e))
+  ]
+
+  -- any list that has the values at the places of ks, and none elsewhere
+  placed-is : (each : List ℕ) → length each ≡ n → ((i : ℕ) → i < n → getD each i 0 ≡ cond (among ks (length ks) i) (value i) none) → each ≡ placed n ks way
+  unfolding placed after
+  placed-is each long at = ext-getD 0 each (after (length ks)) (long ∙ sym (length-after (length ks)))
+      (λ i h. let b : i < n = omega arith in at i b ∙ sym (written (length ks) i (omega arith) b))
+
+-- ---- the places that pass a test
+
+or-true : (a b : Bool) → a ≡ true → (a || b) ≡ true
+or-true a b e = rw e
+
+or-later : (a b : Bool) → b ≡ true → (a || b) ≡ true
+or-later true b e = refl
+or-later false b e = e
+
+or-either : (a b : Bool) → (a || b) ≡ true → (a ≡ false → b ≡ true)
+or-either true b e f = absurd (true≢false f)
+or-either false b e f = e
+
+among-at : (ks : List ℕ) (i j k : ℕ) → j < k → eqb i (getD ks j 0) ≡ true → among ks k i ≡ true
+unfolding among
+among-at ks i j zero h e = absurd (omega arith)
+among-at ks i j (suc k) h e = elim (ℕ-discrete j k) [
+  | yes s ↦ or-true (eqb i (getD ks k 0)) (among ks k i) (ap (λ (j : ℕ). eqb i (getD ks j 0)) (sym s) ∙ e)
+  | no s ↦ or-later (eqb i (getD ks k 0)) (among ks k i) (among-at ks i j k (omega arith) e)
+]
+
+among-member : (ks : List ℕ) (i k : ℕ) → k ≤ length ks → among ks k i ≡ true → Member i ks
+unfolding among
+among-member ks i zero h e = absurd (true≢false (sym e))
+among-member ks i (suc k) h e = elim (ℕ-discrete i (getD ks k 0)) [
+  | yes s ↦ subst (λ (j : ℕ). Member j ks) (sym s) (member-getD ks k 0 (omega arith))
+  | no s ↦ among-member ks i k (omega arith) (or-either (eqb i (getD ks k 0)) (among ks k i) e (ne-eqb i (getD ks k 0) s))
+]
+
+member-among : (ks : List ℕ) (i : ℕ) → Member i ks → among ks (length ks) i ≡ true
+member-among ks i m =
+    let some : any (eqb i) ks ≡ true = member-any (eqb i) ks i m (eq-eqb i i refl) in
+    let early : firstAt (eqb i) ks < length ks = ltb-true _ _ (sym (any-first (eqb i) ks) ∙ some) in
+    among-at ks i (firstAt (eqb i) ks) (length ks) early (found-passes (eqb i) ks 0 early)
+
+among-kept : (p : ℕ → Bool) (n i : ℕ) → i < n → among (keep p (range 0 n)) (length (keep p (range 0 n))) i ≡ p i
+among-kept p n i h = by (among (keep p (range 0 n)) (length (keep p (range 0 n))) i) (p i) refl refl
+  where
+    by : (a b : Bool) → among (keep p (range 0 n)) (length (keep p (range 0 n))) i ≡ a → p i ≡ b → a ≡ b
+    by true b e f = sym (keep-member p (range 0 n) i (among-member (keep p (range 0 n)) i (length (keep p (range 0 n))) (omega arith) e) .0) ∙ f
+    by false true e f = sym e ∙ member-among (keep p (range 0 n)) i (member-keep p (range 0 n) i (range-member n i h) f)
+    by false false e f = refl
+
+-- ---- the group of each sample
+
+module _ (labels : List ℕ) (few : length labels ≤ 256) where
+  abbrev each : List ℕ
+  each = groupEach labels
+
+  -- the group of a sample that has one is that of its label
+  abbrev value : ℕ → ℕ
+  value i = position (getD labels i none) (names labels)
+
+  each-at : (i : ℕ) → i < length labels → getD each i 0 ≡ cond (stands (getD labels i none) (names labels)) (value i) none
+  unfolding groupEach
+  each-at i h =
+      let f : ℕ → ℕ = λ l. cond (stands l (names labels)) (position l (names labels)) none in
+      getD-either (map f labels) i 0 (f none) (omega (arith, length-map labels f)) ∙ List·getD-map f labels i none
+
+  -- a sample has a group where it is kept
+  has-group : (i : ℕ) → i < length labels → among (kept labels) (length (kept labels)) i ≡ not (eqb (getD each i 0) none)
+  unfolding grouped
+  has-group i h =
+      ap (λ (ks : List ℕ). among ks (length ks) i) (sym (grouped-kept labels few))
+      ∙ among-kept (λ i. not (eqb (getD each i 0) none)) (length each) i (omega (arith, length-each labels))
+
+  each-value : (i : ℕ) → i < length labels → getD each i 0 ≡ cond (among (kept labels) (length (kept labels)) i) (value i) none
+  each-value i h = by (stands (getD labels i none) (names labels)) (among (kept labels) (length (kept labels)) i) (each-at i h) (has-group i h)
+    where
+      by : (s a : Bool) → getD each i 0 ≡ cond s (value i) none → a ≡ not (eqb (getD each i 0) none) → getD each i 0 ≡ cond a (value i) none
+      by s false e f = eqb-true _ _ (unnot _ (sym f))
+        where
+          unnot : (b : Bool) → not b ≡ false → b ≡ true
+          unnot true q = refl
+          unnot false q = absurd (true≢false q)
+      by true true e f = e
+      by false true e f = absurd (true≢false (f ∙ ap (λ (k : ℕ). not (eqb k none)) e))
+
+  -- the kept samples' groups in turn
+  groups-at : (k : ℕ) → k < length (kept labels) → getD (groups labels) k 0 ≡ value (getD (kept labels) k 0)
+  unfolding groups keptLabels gathered
+  groups-at k h =
+      let f : ℕ → ℕ = λ l. position l (names labels) in
+      let g : ℕ → ℕ = λ i. getD labels i none in
+      getD-either (map f (map g (kept labels))) k 0 (f (g 0)) (omega (arith, length-map (map g (kept labels)) f, length-map (kept labels) g))
+      ∙ List·getD-map f (map g (kept labels)) k (g 0)
+      ∙ ap f (List·getD-map g (kept labels) k 0)
+
+  pub each-placed : groupEach labels ≡ placed (length labels) (kept labels) (groups labels)
+  each-placed = placed-is (length labels) (kept labels) (groups labels) value (kept-below labels) groups-at each (length-each labels) each-value

@@ -1,0 +1,22 @@
+-- `judging::judge_way` meets its contract. The hits of what is found.
+-- Assumes nothing.
+use Prim.Native.Nat.{_-_}
+use borrow.Author.Needs.{needs}
+use Rattle.judging.proofs.Cases.{hits-by}
+use Rattle.judging.proofs.judge_way.Statement.{statement}
+use Rattle.judging.proofs.judge_way.Tie as tie
+
+see-requires : tie.Need-see-requires
+see-requires c κs = search needs
+
+hits-of-requires : tie.Need-hits-of-requires
+hits-of-requires c κs = search needs
+
+same-length : tie.Need-same-length
+same-length c = search needs
+
+returns : tie.Need-returns
+returns c = hits-by (c .before .before .before .before .before .before .before .before .before .before .before .before .args .observed) (c .before .before .before .see .result) (c .hits-of .ensures) (c .before .before .before .see .ensures .0) (c .before .before .before .see .ensures .1) (c .before .before .before .see .ensures .2)
+
+pub judge-way-spec : {M : Type 1} → statement M
+judge-way-spec = tie.close (tie.spec see-requires hits-of-requires same-length returns)

@@ -1,0 +1,2 @@
+-- The laws of what is answered.
+pub mod Answers

@@ -1,0 +1,36 @@
+-- `verdict::warn` meets its contract. Five bits.
+-- Assumes nothing.
+use Prim.Native.Nat.{_-_}
+use borrow.Author.Needs.{needs}
+use Rattle.verdict.proofs.Answers.{warned-is}
+use Rattle.verdict.proofs.warn.Statement.{statement}
+use Rattle.verdict.proofs.warn.Tie as tie
+
+left-out-requires : tie.Need-left-out-requires
+left-out-requires c κs = search needs
+
+uninformed-requires : tie.Need-uninformed-requires
+uninformed-requires c κs = search needs
+
+few-inform-requires : tie.Need-few-inform-requires
+few-inform-requires c κs = search needs
+
+some-small-requires : tie.Need-some-small-requires
+some-small-requires c κs = search needs
+
+warning-requires : tie.Need-warning-requires
+warning-requires c κs = search needs
+
+returns : tie.Need-returns
+returns c = warned-is (c .before .before .before .before .before .before .before .args .labels .now) (c .before .before .before .before .before .before .before .args .stratified) (c .before .before .before .before .before .before .before .args .informing) (c .before .before .before .before .before .before .before .args .fraction) (c .before .before .before .before .before .before .before .args .counts .now) (c .before .before .before .before .before .before .before .args .negative) (c .before .before .before .before .left-out .ensures) (c .before .before .before .uninformed .ensures) (c .before .before .few-inform .ensures) (c .before .some-small .ensures) (c .warning .ensures)
+
+pub warn-spec : {M : Type 1} → statement M
+warn-spec =
+    tie.close
+    (tie.spec
+    left-out-requires
+    uninformed-requires
+    few-inform-requires
+    some-small-requires
+    warning-requires
+    returns)

@@ -1,0 +1,130 @@
+-- What is answered for kept samples ks in groups gs and strata ss, with coordinates x of all n. Definitions and statements only.
+use mathlib.Core.Path.{_≡_}
+use mathlib.Core.Bool.{Bool, true, not, _&&_}
+use mathlib.Core.List.{List, [], _∷_, map}
+use Prim.Native.Nat.{ℕ, _+_, _*_, _≤_, min}
+use lib.Dec.{eqb, ltb}
+use lib.ListN.{length}
+use lib.Ieee.{Float, lt}
+use Rattle.float.specs.Floats.{_⊘_, num, 0·5}
+use Rattle.lists.specs.Filters.{any}
+use Rattle.lists.specs.Numbers.{addUp, Below}
+use Rattle.lot.specs.Kept.{sizes}
+use Rattle.lot.specs.Strata.{informative}
+use Rattle.location.specs.Squares.{weightAt, terms, pulls}
+use Rattle.dispersion.specs.Dispersion.{zOf}
+use Rattle.dispersion.specs.Anova.{meanZ}
+use Rattle.statistics.specs.Hits.{statistic}
+use Rattle.statistics.specs.Warnings.{bit, leftOut}
+use Rattle.observation.specs.declared.Observed.{Observed}
+use Rattle.observation.specs.Observed.{observed}
+use Rattle.dapc.specs.Dapc.{leading}
+use Rattle.judging.specs.declared.Assignment.{Assignment}
+use Rattle.judging.specs.declared.Seen.{Seen}
+use Rattle.judging.specs.declared.Hits.{Hits}
+use Rattle.judging.specs.Judging.{Judged, barredBy, assignmentBy, locationHit, dispersionHit, assignmentHit}
+use Rattle.walk.specs.Walked.{hitsAmong, Walkable}
+use Rattle.verdict.specs.declared.Judgement.{Judgement}
+use Rattle.verdict.specs.declared.Counted.{Counted}
+
+-- `pcoa` has 8 components, or n where n is less
+abbrev pub columnsOf : ℕ → ℕ
+columnsOf n = min 8 n
+
+-- the statistics of what is observed
+unfoldable pub seenBy : Observed → Assignment → Seen
+seenBy o a = record { location = statistic (o .f); dispersion = statistic (o .«disp_f»); assignment = a }
+
+-- they and their hits among all ways, over terms t, pulls p and weights w
+unfoldable pub countedBy : List Float → List Float → List Float → List Float → List ℕ → List ℕ → List ℕ → ℕ → ℕ → ℕ → ℕ → ℕ → Bool → Observed → Counted
+countedBy t p w x ks gs ss n m g columns lead barred o =
+    let seen = seenBy o (assignmentBy barred n columns lead x ks g gs) in
+    record {
+      seen = seen;
+      hits =
+        hitsAmong (locationHit seen t w (o .total) m g) (dispersionHit seen p t w m g) (assignmentHit seen barred n columns lead x ks g) g ss gs;
+    }
+
+-- warning bits 0 to 4
+unfoldable pub warnedBy : List ℕ → Bool → ℕ → Float → List ℕ → Bool → ℕ
+warnedBy labels stratified informing fraction counts negative = addUp (
+    bit 1 (leftOut labels)
+    ∷ bit 2 (stratified && eqb informing 0)
+    ∷ bit 4 (lt fraction 0·5 && not (eqb informing 0))
+    ∷ bit 8 (any (λ c. ltb c 5) counts)
+    ∷ bit 16 negative
+    ∷ [])
+
+-- the answer
+unfoldable pub concluded : List ℕ → Bool → ℕ → ℕ → ℕ → ℕ → List ℕ → Observed → Counted → Judgement
+concluded labels stratified m g ways informing counts o c =
+    let fraction = num informing ⊘ num m in
+    record {
+      n = m;
+      «n_groups» = g;
+      ways = ways;
+      location = record { statistic = c .seen .location; hits = c .hits .location };
+      r2 = o .r2;
+      dispersion = record { statistic = c .seen .dispersion; hits = c .hits .dispersion };
+      assigned = record { assignment = c .seen .assignment; hits = c .hits .assignment };
+      «informative_fraction» = fraction;
+      warnings = warnedBy labels stratified informing fraction counts (o .negative);
+    }
+
+unfoldable pub answerFor : List Float → ℕ → List ℕ → List ℕ → List ℕ → List ℕ → List Float → Bool → Bool → List Float → ℕ → ℕ → ℕ → Judgement
+answerFor d n labels ks gs ss x stratified weighted weights m g ways =
+    let w = map (weightAt weighted weights) ks in
+    let t = terms d n ks w m in
+    let p = pulls d n ks w m in
+    let o = observed p t w gs m g in
+    let columns = columnsOf n in
+    let lead = leading columns m g in
+    concluded labels stratified m g ways (informative ss gs m) (sizes gs m g) o (countedBy t p w x ks gs ss n m g columns lead (barredBy x lead) o)
+
+-- each group's mean z
+unfoldable pub meansFor : List Float → ℕ → List ℕ → List ℕ → Bool → List Float → ℕ → ℕ → List Float
+meansFor d n ks gs weighted weights m g =
+    let w = map (weightAt weighted weights) ks in
+    meanZ (zOf (pulls d n ks w m) (terms d n ks w m) w gs m) gs m g
+
+-- ---- what is asked
+
+-- terms t, pulls p and weights w of m kept samples of n in g groups, coordinates x of all n, few ways, and room for rows and scores
+pub record Ways (n m g : ℕ) (t p w x : List Float) (ks gs ss : List ℕ) (rows scores : ℕ) : Type 0 where
+  pub terms : length t ≡ m * m
+  pub pulls : length p ≡ m * m
+  pub weights : length w ≡ m
+  pub coordinates : length x ≡ n * columnsOf n
+  pub samples : length ks ≡ m
+  pub places : Below n ks
+  pub stratified : length ss ≡ m
+  pub strata : Below m ss
+  pub walkable : Walkable n g ks ss gs
+  pub observed : Judged n m g ks gs
+  pub two : 2 ≤ g
+  pub half : 2 * g ≤ m
+  pub kept : m ≤ n
+  pub few : n ≤ 256
+  pub rowed : m * g ≤ rows
+  pub room : n + n * n ≤ scores
+
+-- the same of a lot's own, with its distances, labels and weights
+pub record Kept (n m g : ℕ) (d : List Float) (labels ks gs ss : List ℕ) (x : List Float) (weighted : Bool) (ws : List Float) (rows scores : ℕ) : Type 0 where
+  pub distances : length d ≡ n * n
+  pub all : length labels ≡ n
+  pub given : weighted ≡ true → length ws ≡ n
+  pub coordinates : length x ≡ n * columnsOf n
+  pub samples : length ks ≡ m
+  pub places : Below n ks
+  pub grouped : length gs ≡ m
+  pub groups : Below g gs
+  pub stratified : length ss ≡ m
+  pub strata : Below m ss
+  pub walkable : Walkable n g ks ss gs
+  pub observed : Judged n m g ks gs
+  pub two : 2 ≤ g
+  pub half : 2 * g ≤ m
+  pub kept : m ≤ n
+  pub few : n ≤ 256
+  pub rowed : m * g ≤ rows
+  pub room : n + n * n ≤ scores

@@ -1,0 +1,3 @@
+-- The laws of the walk.
+pub mod Turned
+pub mod Started

@@ -1,0 +1,2 @@
+-- Section 6 of document 01: the walk with three hit counts.
+pub mod Walked
