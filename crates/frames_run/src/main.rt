@@ -4,15 +4,15 @@
 ghost use mathlib.Core.Path.{_≡_};
 ghost use Prim.Native.Nat.{_+_, _<_, _≤_, min};
 ghost use lib.ListN.{length};
+use exhaustive::Answer;
+use judging::Assignment;
 use libc::STDIN_FILENO;
 use libc::STDOUT_FILENO;
 use outcome::Refusal;
-use printing::Answer;
-use printing::Assigned;
-use printing::Assignment;
-use printing::Tested;
-use printing::Verdict;
 use statistics::Statistic;
+use verdict::Assigned;
+use verdict::Judgement;
+use verdict::Tested;
 
 fn space() {
     io::write_all(STDOUT_FILENO, b" ");
@@ -167,17 +167,19 @@ fn tested(s: Statistic, hits: usize) -> Tested {
     Tested { statistic: s, hits }
 }
 
-fn verdict(kept: usize, ways: usize, f: f64, hits: usize, assigned: Assigned) {
+fn show_verdict(n: usize, ways: usize, f: f64, hits: usize, assigned: Assigned) {
     let location = tested(statistics::statistic_of(f), hits);
     let dispersion = tested(Statistic::Unbounded, ways);
-    print(Answer::Judged(Verdict {
-        kept,
-        groups: 2,
+    print(Answer::Judged(Judgement {
+        n,
+        n_groups: 2,
         ways,
         location,
+        r2: 0.5,
         dispersion,
-        warnings: 8,
         assigned,
+        informative_fraction: 1.0,
+        warnings: 8,
     }));
 }
 
@@ -186,12 +188,12 @@ fn verdicts() {
         assignment: Assignment::Withheld,
         hits: 0,
     };
-    verdict(4, 6, 32.0, 2, none);
+    show_verdict(4, 6, 32.0, 2, none);
     let given = Assigned {
         assignment: Assignment::Right(31),
         hits: 19999,
     };
-    verdict(32, 20000, -0.0, 10, given);
+    show_verdict(32, 20000, -0.0, 10, given);
 }
 
 fn refusals() {
