@@ -26,7 +26,7 @@ use Rattle.judging.specs.declared.Assignment.{Assignment}
 use Rattle.judging.specs.Assignments.{asRight, isGiven}
 use Rattle.verdict.specs.declared.Judgement.{Judgement}
 use Rattle.exhaustive.specs.Exhaustive.{locationOf, dispersionOf, assignmentOf, hits, locationHits, dispersionHits, assignmentHits, coordinates, judgement, exhaustive}
-use Rattle.exhaustive.specs.Call.{Slices, NoShorter, Called, lines, outcomeOf, callBy, exhaustiveCall}
+use Rattle.exhaustive.specs.Call.{Slices, NoShorter, Called, lines, outcomeOf, callIn, callBy, exhaustiveCall}
 use Rattle.exhaustive.specs.Level.{Exact, Accepted, passes, calls, Level, Demand3}
 use Rattle.exhaustive.proofs.Handed.{observes}
 use Rattle.exhaustive.proofs.Ranked.{f-level, right-level}
@@ -80,7 +80,7 @@ module _ (lot : Lot) (s : Slices) (j : Judgement) (answers : exhaustiveCall lot 
     (lend : List ℕ → Slices) (longer : (way : List ℕ) → IsWay lot way → NoShorter s (lend way))
     (made : List ℕ → Called) (meets : (way : List ℕ) → IsWay lot way → made way ≡ exhaustiveCall (relabelled lot way) (lend way)) where
   clear : Clear (lines lot s) × (exhaustive lot ≡ answered j)
-  unfolding exhaustiveCall callBy outcomeOf
+  unfolding exhaustiveCall callBy callIn outcomeOf
   clear = let w = judged-answers (first (lines lot s)) (exhaustive lot) j answers in (passed-clear (lines lot s) (w .0), w .1)
 
   ordination : (c : Coordinates) × (coordinates lot ≡ answered c)
@@ -88,7 +88,7 @@ module _ (lot : Lot) (s : Slices) (j : Judgement) (answers : exhaustiveCall lot 
   ordination = andThen-answers (coordinates lot) _ j (clear .1)
 
   accepts : (way : List ℕ) → IsWay lot way → Accepted lot (ordination .0) way (made way)
-  unfolding exhaustiveCall callBy outcomeOf
+  unfolding exhaustiveCall callBy callIn outcomeOf
   accepts way w = record {
     j = judgement (relabelled lot way) (ordination .0 .coords);
     answers =

@@ -4,3 +4,5 @@ pub mod Ranked
 pub mod Same
 pub mod Lines
 pub mod Demand
+pub mod Settled
+pub mod Whole

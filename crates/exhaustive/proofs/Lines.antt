@@ -20,7 +20,7 @@ use Rattle.lot.specs.Lines.{misfits, testLines}
 use Rattle.lot.proofs.Extra.{or-neither}
 use Rattle.lot.proofs.Relabelled.{same-lot}
 use Rattle.ways.specs.Ways.{wayCount, mostWays}
-use Rattle.exhaustive.specs.Call.{Slices, NoShorter, lentOf, tooShort, lines}
+use Rattle.exhaustive.specs.Call.{Slices, NoShorter, lengthsOf, lentOf, tooShort, lines}
 use Rattle.exhaustive.proofs.Same.{same-count}
 
 -- ---- the table
@@ -76,7 +76,7 @@ longer-fits (s ∷ ss) (t ∷ ts) l e =
     neither (le-ltb (t .has) (t .asked) (omega (arith, ltb-false (s .has) (s .asked) (w .0), l .0, l .1))) (longer-fits ss ts (l .2) (w .1))
 
 pub no-shorter-fits : (n : ℕ) (s t : Slices) → NoShorter s t → tooShort n s ≡ false → tooShort n t ≡ false
-unfolding tooShort lentOf Longer
+unfolding tooShort lentOf lengthsOf Longer
 no-shorter-fits n s t l e = longer-fits (lentOf n s) (lentOf n t) (l .labels, refl, (l .counts, refl, (l .means, refl, (l .terms, refl, (l .pulls, refl, (l .coords, refl, (l .room, refl, (l .vectors, refl, (l .rows, refl, tt))))))))) e
 
 -- ---- the lines of the exhaustive test

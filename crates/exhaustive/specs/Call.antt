@@ -7,6 +7,7 @@ use lib.ListN.{length}
 use lib.Ieee.{Float}
 use Rattle.float.specs.Floats.{zero⁺}
 use Rattle.outcome.specs.declared.Refusal.the-variants.{Ways}
+use Rattle.outcome.specs.declared.Check.{Check}
 use Rattle.outcome.specs.Refusals.{Line, Lent, _when_, first, short, _of_}
 use Rattle.outcome.specs.Outcome.{Outcome, answered, refused, judged}
 use Rattle.outcome.specs.Slices.{output, work}
@@ -35,22 +36,31 @@ pub record Slices : Type 0 where
   pub vectors : List Float
   pub rows : List ℕ
 
--- an output is asked n entries, work n by n; coordinates are asked what `pcoa` takes for 8 components, and the ordination n more
+-- slices of these lengths: an output is asked n entries, work n by n; coordinates are asked what `pcoa` takes for 8 components, and the ordination n more
+unfoldable pub lengthsOf : ℕ → ℕ → ℕ → ℕ → ℕ → ℕ → ℕ → ℕ → ℕ → ℕ → List Lent
+lengthsOf n labels counts means terms pulls coords room vectors rows =
+    (labels of n)
+    ∷ (counts of n)
+    ∷ (means of n)
+    ∷ (terms of n * n)
+    ∷ (pulls of n * n)
+    ∷ (coords of 16 + 8 * n)
+    ∷ (room of n + n * n)
+    ∷ (vectors of n * n)
+    ∷ (rows of n * n)
+    ∷ []
+
 unfoldable pub lentOf : ℕ → Slices → List Lent
 lentOf n s =
-    (length (s .labels) of n)
-    ∷ (length (s .counts) of n)
-    ∷ (length (s .means) of n)
-    ∷ (length (s .terms) of n * n)
-    ∷ (length (s .pulls) of n * n)
-    ∷ (length (s .coords) of 16 + 8 * n)
-    ∷ (length (s .room) of n + n * n)
-    ∷ (length (s .vectors) of n * n)
-    ∷ (length (s .rows) of n * n)
-    ∷ []
+    lengthsOf n (length (s .labels)) (length (s .counts)) (length (s .means)) (length (s .terms)) (length (s .pulls)) (length (s .coords)) (length (s .room)) (length (s .vectors))
+    (length (s .rows))
 
 unfoldable pub tooShort : ℕ → Slices → Bool
 tooShort n s = short (lentOf n s)
+
+-- lines 1 to 5
+unfoldable pub early : Lot → Slices → Check
+early lot s = first (testLines lot (tooShort (lot .n) s) false)
 
 -- lines 1 to 5 and 8
 unfoldable pub lines : Lot → Slices → List Line
@@ -61,27 +71,31 @@ pub record Called : Type 0 where
   pub answer : Outcome Judgement
   pub after : Slices
 
--- what is left in slices by an outcome
-unfoldable pub leaves : Lot → Outcome Judgement → Slices → Slices
-leaves lot o before =
+-- a call by its outcome: the answer lists these labels, counts and means, of g groups
+unfoldable pub callIn : List ℕ → List ℕ → List Float → ℕ → Outcome Judgement → Slices → Called
+callIn labels counts means g o before =
+    record {
+      answer = o;
+      after = record {
+        labels = output 0 (λ _. labels) g o (before .labels);
+        counts = output 0 (λ _. counts) g o (before .counts);
+        means = output zero⁺ (λ _. means) g o (before .means);
+        terms = work zero⁺ o (before .terms);
+        pulls = work zero⁺ o (before .pulls);
+        coords = work zero⁺ o (before .coords);
+        room = work zero⁺ o (before .room);
+        vectors = work zero⁺ o (before .vectors);
+        rows = work 0 o (before .rows);
+      };
+    }
+
+-- of a lot: g labels, counts, and mean z of the observed way
+unfoldable pub callBy : Lot → Outcome Judgement → Slices → Called
+callBy lot o before =
     let observed = groups (lot .labels) in
     let m = keptCount (lot .labels) in
     let g = groupCount (lot .labels) in
-    record {
-      labels = output 0 (λ _. names (lot .labels)) g o (before .labels);
-      counts = output 0 (λ _. sizesOf lot) g o (before .counts);
-      means = output zero⁺ (λ _. meanZ (zOf lot observed) observed m g) g o (before .means);
-      terms = work zero⁺ o (before .terms);
-      pulls = work zero⁺ o (before .pulls);
-      coords = work zero⁺ o (before .coords);
-      room = work zero⁺ o (before .room);
-      vectors = work zero⁺ o (before .vectors);
-      rows = work 0 o (before .rows);
-    }
-
--- a call by its outcome
-unfoldable pub callBy : Lot → Outcome Judgement → Slices → Called
-callBy lot o before = record { answer = o; after = leaves lot o before }
+    callIn (names (lot .labels)) (sizesOf lot) (meanZ (zOf lot observed) observed m g) g o before
 
 -- the outcome for any arguments, and the meaning of a call
 unfoldable pub outcomeOf : Lot → Slices → Outcome Judgement

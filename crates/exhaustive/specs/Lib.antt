@@ -2,3 +2,4 @@
 pub mod Exhaustive
 pub mod Call
 pub mod Level
+pub mod Settled

@@ -50,7 +50,7 @@ named-none (s ∷ held) = by (eqb s none) refl (named-none held)
     by true e h = rw (e, eq-eqb none s (sym (eqb-true s none e))) (omega (arith, h))
     by false e h = rw (e, ne-eqb none s (λ f. eqb-false s none e (sym f))) (omega (arith, h))
 
-named-few : (held : List ℕ) → length (named held) + howMany none held ≤ length held
+pub named-few : (held : List ℕ) → length (named held) + howMany none held ≤ length held
 unfolding named
 named-few held =
     let p : ℕ → Bool = λ s. not (eqb s none) in

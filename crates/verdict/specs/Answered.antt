@@ -42,7 +42,7 @@ countedBy t p w x ks gs ss n m g columns lead barred o =
     record {
       seen = seen;
       hits =
-        hitsAmong (locationHit seen t w (o .total) m g) (dispersionHit seen p t w m g) (assignmentHit seen barred n columns lead x ks g) g ss gs;
+          hitsAmong (locationHit seen t w (o .total) m g) (dispersionHit seen p t w m g) (assignmentHit seen barred n columns lead x ks g) g ss gs;
     }
 
 -- warning bits 0 to 4
