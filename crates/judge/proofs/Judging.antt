@@ -25,8 +25,9 @@ use Rattle.frames.specs.Frames.{readLot}
 use Rattle.frames.specs.Fits.{Fits}
 use Rattle.frames.specs.Call.{readCall, called}
 use Rattle.frames.specs.declared.Header.{Header}
+use Rattle.frames.specs.declared.Answer as frames
 use Rattle.frames.specs.declared.Answer.the-variants.{Read, Refused}
-use Rattle.frames.proofs.Fits.{fits-well}
+use Rattle.frames.proofs.Fits.{read-fits, fits-well}
 use Rattle.frames.proofs.Fronts.{fronts, read-fronts, read-refused}
 use Rattle.frames.proofs.Longest.{front-tells}
 use Rattle.printing.specs.Printed.{printed, page, onto}
@@ -41,7 +42,7 @@ room =
     (replicate 1024 zero⁺) (replicate 1024 0)
 
 roomy : (n : ℕ) → n ≤ 32 → test.tooShort n room ≡ false
-unfolding test.tooShort test.lentOf short any
+unfolding test.tooShort test.lentOf test.lengthsOf short any
 roomy n h =
     let q : n * n ≤ 1024 = mul-le-mul h h in
     rw (le-ltb 32 n h, le-ltb 1024 (n * n) q, le-ltb 272 (16 + 8 * n) (omega (arith, h)), le-ltb 1056 (n + n * n) (omega (arith, h, q)))
@@ -55,22 +56,28 @@ left-over lot s f e =
 
 -- what `exhaustive` answers of it
 pub judged-by : (lot : Lot) (r : Answer) {after : test.Slices} → Fits lot → test.called r after ≡ test.exhaustiveCall lot room → test.answerOf r ≡ judgement lot
-unfolding judgement test.exhaustiveCall test.callBy test.outcomeOf
+unfolding judgement test.exhaustiveCall test.callBy test.callIn test.outcomeOf
 judged-by lot r f e =
     ap (λ (c : test.Called). c .answer) e ∙ ap (λ (k : Check). judged k (exhaustive lot)) (left-over lot room f (roomy (lot .n) (f .few)))
 
 -- ---- the text
 
-module _ (text : List ℕ) {l s : List ℕ} {d : List Float} where
+module _ (text : List ℕ) (a : frames.Answer) {l s : List ℕ} {d : List Float} (e : called a l s d ≡ readCall text) where
+  this-read : (b : frames.Answer) → a ≡ b → called b l s d ≡ readCall text
+  this-read b i = ap (λ (a : frames.Answer). called a l s d) (sym i) ∙ e
+
   -- a lot was read
-  pub of-lot : {h : Header} {o : Outcome Judgement} → called (Read h) l s d ≡ readCall text → o ≡ judgement (fronts h l s d) → o ≡ andThen (readLot text) judgement
+  pub fits-front : {h : Header} → a ≡ Read h → Fits (fronts h l s d)
+  fits-front {h} i = read-fits text (fronts h l s d) (read-fronts text (this-read (Read h) i))
+
+  pub of-lot : {h : Header} {o : Outcome Judgement} → a ≡ Read h → o ≡ judgement (fronts h l s d) → o ≡ andThen (readLot text) judgement
   unfolding andThen
-  of-lot e j = j ∙ ap (λ (o : Outcome Lot). andThen o judgement) (sym (read-fronts text e))
+  of-lot {h} i j = j ∙ ap (λ (o : Outcome Lot). andThen o judgement) (sym (read-fronts text (this-read (Read h) i)))
 
   -- the text was refused
-  pub of-refusal : {x : Refusal} → called (Refused x) l s d ≡ readCall text → _≡_ {A = Outcome Judgement} (refused x) (andThen (readLot text) judgement)
+  pub of-refusal : {x : Refusal} → a ≡ Refused x → _≡_ {A = Outcome Judgement} (refused x) (andThen (readLot text) judgement)
   unfolding andThen
-  of-refusal e = ap (λ (o : Outcome Lot). andThen o judgement) (sym (read-refused text e))
+  of-refusal {x} i = ap (λ (o : Outcome Lot). andThen o judgement) (sym (read-refused text (this-read (Refused x) i)))
 
 -- that is printed
 pub judged-text : (text out : List ℕ) {o : Outcome Judgement} {new : List ℕ} {size : ℕ} → o ≡ andThen (readLot text) judgement → page size new ≡ onto (printed o) out → page size new ≡ onto (judgeText text) out
