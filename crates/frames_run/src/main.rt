@@ -1,5 +1,5 @@
 // Reads texts as `lotjudge` does and writes a line for each: n, whether strata are given, the labels and strata of the first two samples, the first
-// four distances and a sum over all that is held; or the refusal's number. Then prints verdicts and refusals.
+// four distances and a sum over all that is held; or the refusal's number; then what `judge` prints. Last it prints verdicts and refusals.
 // Standard input has the texts, each as NAME|TEXT#. The file `stdout` was made by oracle/frames.py, which reads them by its own rules.
 ghost use mathlib.Core.Path.{_≡_};
 ghost use Prim.Native.Nat.{_+_, _<_, _≤_, min};
@@ -13,6 +13,13 @@ use statistics::Statistic;
 use verdict::Assigned;
 use verdict::Judgement;
 use verdict::Tested;
+
+// The first n bytes of s.
+fn write_front(s: &[u8], n: usize) {
+    if n <= s.len() {
+        io::write_all(STDOUT_FILENO, &s[..n]);
+    }
+}
 
 fn space() {
     io::write_all(STDOUT_FILENO, b" ");
@@ -96,6 +103,16 @@ fn show(text: &[u8]) {
     io::write_all(STDOUT_FILENO, b"\n");
 }
 
+fn judge_on(text: &[u8], out: &mut [u8; 93]) {
+    let n = judge::judge(text, out);
+    write_front(out, n);
+}
+
+fn show_judged(text: &[u8]) {
+    let mut out = [0u8; 93];
+    judge_on(text, &mut out);
+}
+
 // The first place of the byte from place at on, or the end.
 fn find(input: &[u8], at: usize, byte: u8) -> usize
     requires { ⌜ at ≤ length (now input) ⌝ }
@@ -132,6 +149,7 @@ fn show_next(input: &[u8], at: usize) -> usize
     let start = past(input, bar);
     let end = find(input, start, b'#');
     show(&input[start..end]);
+    show_judged(&input[start..end]);
     past(input, end)
 }
 
@@ -143,13 +161,6 @@ fn replay(input: &[u8]) {
 }
 
 // ---- printing
-
-// The first n bytes of s.
-fn write_front(s: &[u8], n: usize) {
-    if n <= s.len() {
-        io::write_all(STDOUT_FILENO, &s[..n]);
-    }
-}
 
 fn print_on(a: Answer, out: &mut [u8])
     requires { ⌜ 93 ≤ length (now out) ⌝ }
@@ -203,7 +214,7 @@ fn refusals() {
 }
 
 fn main() {
-    let mut input = io::large_buffer();
+    let mut input = [0u8; 131072];
     let n = io::read_full(STDIN_FILENO, &mut input);
     replay(&input[..n]);
     verdicts();

@@ -6,11 +6,12 @@ use mathlib.Core.List.{List}
 use native.Mathlib.Omega.{arith}
 use native.Mathlib.Nat.{mul-le-mul}
 use lib.Dec.{ltb}
-use lib.ListN.{length, take, replicate}
+use lib.ListN.{length, take, drop, replicate, length-append}
 use lib.Ieee.{Float}
 use borrow.Author.Tests.{le-ltb}
 use Rattle.float.specs.Floats.{zero⁺}
 use Rattle.lists.specs.Filters.{any}
+use Rattle.lists.specs.Writes.{over}
 use Rattle.outcome.specs.declared.Refusal.{Refusal}
 use Rattle.outcome.specs.declared.Check.{Check}
 use Rattle.outcome.specs.Refusals.{first, short}
@@ -30,7 +31,7 @@ use Rattle.frames.specs.declared.Answer.the-variants.{Read, Refused}
 use Rattle.frames.proofs.Fits.{read-fits, fits-well}
 use Rattle.frames.proofs.Fronts.{fronts, read-fronts, read-refused}
 use Rattle.frames.proofs.Longest.{front-tells}
-use Rattle.printing.specs.Printed.{printed, page, onto}
+use Rattle.printing.specs.Printed.{printed, Page, page, onto}
 use Rattle.judge.specs.Judge.{lines, judgement, judgeText}
 
 -- ---- the lot
@@ -83,6 +84,14 @@ module _ (text : List ℕ) (a : frames.Answer) {l s : List ℕ} {d : List Float}
 pub judged-text : (text out : List ℕ) {o : Outcome Judgement} {new : List ℕ} {size : ℕ} → o ≡ andThen (readLot text) judgement → page size new ≡ onto (printed o) out → page size new ≡ onto (judgeText text) out
 unfolding judgeText
 judged-text text out e p = p ∙ ap (λ (o : Outcome Judgement). onto (printed o) out) e
+
+-- what is printed stands in the output
+pub size-fits : (text out : List ℕ) {new : List ℕ} {size : ℕ} → page size new ≡ onto text out → size ≤ length new
+unfolding onto over
+size-fits text out {new} {size} e =
+    let s : size ≡ length text = ap (λ (p : Page). p .size) e in
+    let b : length new ≡ length (over text out) = ap (λ (p : Page). length (p .bytes)) e in
+    omega (arith, s, b, length-append text (drop (length text) out))
 
 -- the first 11,835 bytes of a text tell what is printed
 pub front-enough : (text : List ℕ) → judgeText (take 11835 text) ≡ judgeText text
