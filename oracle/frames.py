@@ -1,7 +1,10 @@
 #!/usr/bin/env python3
-"""Writes the texts of `frames_run` and what is expected of them: its own reader of section 7, by a regular expression for each kind of line.
+"""Writes the texts of `frames_run` and what is expected of them: its own reader of section 7, by a regular expression for each kind of line, and
+its own exhaustive test, for lots where no way has an assignment.
     python3 oracle/frames.py > crates/frames_run/stdin
     python3 oracle/frames.py expected > crates/frames_run/stdout"""
+import itertools
+import math
 import random
 import re
 import struct
@@ -21,6 +24,18 @@ def lot(n, strata=0, value=lambda i, j: "%016x" % (0x4000000000000000 + (i << 44
     samples = ["a2%02x%04x%04x" % (k, k % 3, 7 + k % 2) for k in range(n)]
     pairs = ["a3%02x%02x%s" % (i, j, value(i, j)) for i in range(n) for j in range(i + 1, n)]
     return [head] + samples + pairs + ["af"]
+
+
+def four(labels, strata=None, value=None, more=()):
+    """The example's distances with these labels; other samples are at distance 3 of all."""
+    near = {(int(f[2:4], 16), int(f[4:6], 16)): f[6:] for f in FIRST[5:-1]}
+    labels = list(labels) + list(more)
+    n = len(labels)
+    given = strata is not None
+    strata = list(strata if given else ()) + [0xffff] * n
+    samples = ["a2%02x%04x%04x" % (k, labels[k], strata[k]) for k in range(n)]
+    pairs = ["a3%02x%02x%s" % (i, j, value or near.get((i, j), "4008000000000000")) for i in range(n) for j in range(i + 1, n)]
+    return text(["a1%02x%02x" % (n, given)] + samples + pairs + ["af"])
 
 
 def two(bits):
@@ -119,6 +134,32 @@ def texts():
     yield "2^20", two("4130000000000000")
     yield "the f64 after 2^20", two("4130000000000001")
     yield "the largest f64", two("7fefffffffffffff")
+    yield "labels 0, 1, 0, 1", four((0, 1, 0, 1))
+    yield "labels 0, 1, 1, 0", four((0, 1, 1, 0))
+    yield "labels 65534 and 3", four((65534, 65534, 3, 3))
+    yield "labels 0, 0, 1", text(["a10300", "a2000000ffff", "a2010000ffff", "a2020001ffff"] + [f for f in FIRST[5:-1] if f[4:6] != "03"] + ["af"])
+    yield "one label", four((2, 2, 2, 2))
+    yield "no labels", four((65535,) * 4)
+    yield "all distances 0", four((0, 0, 1, 1), value="0" * 16)
+    yield "all distances -0.0", four((0, 0, 1, 1), value="8" + "0" * 15)
+    yield "all distances 2^20", four((0, 0, 1, 1), value="4130000000000000")
+    yield "all distances above 2^20", four((0, 0, 1, 1), value="4130000000000001")
+    yield "all distances the smallest subnormal", four((0, 0, 1, 1), value="0" * 15 + "1")
+    yield "all distances 1/3", four((0, 0, 1, 1), value="3fd5555555555555")
+    yield "strata 0, 0, 1, 1", four((0, 0, 1, 1), (0, 0, 1, 1))
+    yield "strata 0, 1, 0, 1", four((0, 0, 1, 1), (0, 1, 0, 1))
+    yield "strata 5, 5, 5, 5", four((0, 0, 1, 1), (5, 5, 5, 5))
+    yield "strata 9, 9, 9, none", four((0, 0, 1, 1), (9, 9, 9, 65535))
+    yield "strata 9, none, 9, none", four((0, 0, 1, 1), (9, 65535, 9, 65535))
+    yield "strata 0, 1, 1, 2", four((0, 0, 1, 1), (0, 1, 1, 2))
+    yield "strata not given", four((0, 0, 1, 1)).replace("a2000000ffff", "a20000000001")
+    yield "a sample with no label", four((0, 0, 1, 1), more=(65535,))
+    yield "a label held once", four((0, 0, 1, 1), more=(7,))
+    yield "a label held once, no label, strata", four((0, 0, 1, 1), (1, 1, 1, 2, 2, 2), more=(7, 65535))
+    yield "a distance of a sample not kept is NaN", four((0, 0, 1, 1), more=(7,)).replace("a303044008000000000000", "a303047ff8000000000000")
+    yield "NaN, and af missing", two("7ff8000000000000").replace("af\n", "")
+    yield "9 and 9", four([k % 2 for k in range(18)])
+    yield "9 and 9, a negative distance", four([k % 2 for k in range(18)]).replace("a310114008", "a31011c008")
 
 
 KINDS = {"a1": r"a1(..)(..)", "a2": r"a2(..)(....)(....)", "a3": r"a3(..)(..)(.{16})", "af": r"af"}
@@ -169,6 +210,88 @@ def told(t):
     return "".join(" " + w for w in words + ["%016x" % b for b in bits[:4]] + ["%016x" % h])
 
 
+def judged(t):
+    """What is printed of a text."""
+    r = read(t)
+    if r is None:
+        return "bf0c\n"
+    n, given, labels, strata, bits = r
+    d = [struct.unpack(">d", struct.pack(">Q", b))[0] for b in bits[:n * n]]
+    labels = labels[:n]
+    if not all(0 <= x <= 2.0**20 for x in d):
+        return "bf03\n"
+    held = [k for k in range(n) if labels[k] != 65535 and labels.count(labels[k]) > 1]
+    names = sorted({labels[k] for k in held})
+    m, g = len(held), len(names)
+    if g < 2:
+        return "bf05\n"
+    own = tuple(names.index(labels[k]) for k in held)
+    where = [(0, 0) if not given else (1, k) if strata[k] == 65535 else (0, strata[k]) for k in held]
+    groups = [[k for k in range(m) if where[k] == s] for s in sorted(set(where))]
+    count = 1
+    for ks in groups:
+        count *= math.factorial(len(ks))
+        for x in range(g):
+            count //= math.factorial(sum(own[k] == x for k in ks))
+    if count > 20000:
+        return "bf08\n"
+    assert min(8, n, m - (g + 1)) < 2, "an assignment is not worked out here"
+    square = [[d[a * n + b] * d[a * n + b] for b in held] for a in held]
+    f, z, below = statistics(own, square, m, g)
+    ways = set()
+    for parts in itertools.product(*[set(itertools.permutations([own[k] for k in ks])) for ks in groups]):
+        way = [None] * m
+        for ks, part in zip(groups, parts):
+            for k, x in zip(ks, part):
+                way[k] = x
+        ways.add(tuple(way))
+    assert len(ways) == count
+    each = [statistics(way, square, m, g) for way in ways]
+    informs = sum(len(ks) for ks in groups if len({own[k] for k in ks}) > 1)
+    once = any(x != 65535 and labels.count(x) == 1 for x in labels)
+    small = min(own.count(x) for x in range(g)) < 5
+    warnings = once + 2 * (given and informs == 0) + 4 * (informs / m < 0.5 and informs > 0) + 8 * small + 16 * below
+    return ("b1%02x%02x%08x\n" % (m, g, count) + tested("b2", f, hits(f, [w[0] for w in each])) + tested("b3", z, hits(z, [w[1] for w in each]))
+            + "b4%02x\n" % warnings + "b5020000000000\n")
+
+
+def added(xs, start=-0.0):
+    for x in xs:
+        start += x
+    return start
+
+
+def quotient(a, b):
+    """None where it is not finite."""
+    if a is None or b is None or b == 0:
+        return None
+    return a / b if math.isfinite(a / b) else None
+
+
+def statistics(way, square, m, g):
+    """Location F, dispersion F, None where not finite, and whether some dispersion value is below 0. Weights are 1."""
+    groups = [[k for k in range(m) if way[k] == x] for x in range(g)]
+    total = added(added(square[a][b] for b in range(a + 1, m)) for a in range(m)) / m
+    within = added(added(added(square[a][b] for b in ks if b > a) for a in ks) / len(ks) for ks in groups)
+    f = quotient((total - within) / (g - 1), within / (m - g))
+    z, below = [0.0] * m, False
+    for ks in groups:
+        inside = added(added(square[a][b] for b in ks) for a in ks)
+        for a in ks:
+            v = added(square[a][b] for b in ks) / len(ks) - inside / (2.0 * len(ks) * len(ks))
+            below = below or v < 0
+            z[a] = math.sqrt(max(v, 0.0))
+    grand = added(z) / m
+    means = [added(z[k] for k in ks) / len(ks) for ks in groups]
+    between = added(len(ks) * ((mean - grand) * (mean - grand)) for ks, mean in zip(groups, means))
+    inner = added(added((z[k] - mean) * (z[k] - mean) for k in ks) for ks, mean in zip(groups, means))
+    return f, quotient(between / (g - 1), inner / (m - g)), below
+
+
+def hits(f, others):
+    return sum(o is None or f is not None and o >= f - 1e-12 * abs(f) for o in others)
+
+
 def tested(kind, f, hits):
     state, b = (0, 0) if f is None else (1, struct.unpack(">Q", struct.pack(">d", f))[0])
     return "%s%02x%016x%08x\n" % (kind, state, b, hits)
@@ -183,6 +306,7 @@ def verdict(kept, ways, f, hits, right, right_hits):
 if sys.argv[1:] == ["expected"]:
     for name, t in texts():
         print(name + told(t))
+        sys.stdout.write(judged(t))
     print(verdict(4, 6, 32.0, 2, None, 0) + verdict(32, 20000, -0.0, 10, 31, 19999) + "bf01\nbf0b\nbf0c")
 else:
     for name, t in texts():

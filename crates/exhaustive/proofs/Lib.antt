@@ -6,3 +6,4 @@ pub mod Lines
 pub mod Demand
 pub mod Settled
 pub mod Whole
+pub mod Cases

@@ -1,18 +1,25 @@
 // Reads texts as `lotjudge` does and writes a line for each: n, whether strata are given, the labels and strata of the first two samples, the first
-// four distances and a sum over all that is held; or the refusal's number. Then prints verdicts and refusals.
+// four distances and a sum over all that is held; or the refusal's number; then what `judge` prints. Last it prints verdicts and refusals.
 // Standard input has the texts, each as NAME|TEXT#. The file `stdout` was made by oracle/frames.py, which reads them by its own rules.
 ghost use mathlib.Core.Path.{_≡_};
 ghost use Prim.Native.Nat.{_+_, _<_, _≤_, min};
 ghost use lib.ListN.{length};
+use exhaustive::Answer;
+use judging::Assignment;
 use libc::STDIN_FILENO;
 use libc::STDOUT_FILENO;
 use outcome::Refusal;
-use printing::Answer;
-use printing::Assigned;
-use printing::Assignment;
-use printing::Tested;
-use printing::Verdict;
 use statistics::Statistic;
+use verdict::Assigned;
+use verdict::Judgement;
+use verdict::Tested;
+
+// The first n bytes of s.
+fn write_front(s: &[u8], n: usize) {
+    if n <= s.len() {
+        io::write_all(STDOUT_FILENO, &s[..n]);
+    }
+}
 
 fn space() {
     io::write_all(STDOUT_FILENO, b" ");
@@ -96,6 +103,16 @@ fn show(text: &[u8]) {
     io::write_all(STDOUT_FILENO, b"\n");
 }
 
+fn judge_on(text: &[u8], out: &mut [u8; 93]) {
+    let n = judge::judge(text, out);
+    write_front(out, n);
+}
+
+fn show_judged(text: &[u8]) {
+    let mut out = [0u8; 93];
+    judge_on(text, &mut out);
+}
+
 // The first place of the byte from place at on, or the end.
 fn find(input: &[u8], at: usize, byte: u8) -> usize
     requires { ⌜ at ≤ length (now input) ⌝ }
@@ -132,6 +149,7 @@ fn show_next(input: &[u8], at: usize) -> usize
     let start = past(input, bar);
     let end = find(input, start, b'#');
     show(&input[start..end]);
+    show_judged(&input[start..end]);
     past(input, end)
 }
 
@@ -143,13 +161,6 @@ fn replay(input: &[u8]) {
 }
 
 // ---- printing
-
-// The first n bytes of s.
-fn write_front(s: &[u8], n: usize) {
-    if n <= s.len() {
-        io::write_all(STDOUT_FILENO, &s[..n]);
-    }
-}
 
 fn print_on(a: Answer, out: &mut [u8])
     requires { ⌜ 93 ≤ length (now out) ⌝ }
@@ -167,17 +178,19 @@ fn tested(s: Statistic, hits: usize) -> Tested {
     Tested { statistic: s, hits }
 }
 
-fn verdict(kept: usize, ways: usize, f: f64, hits: usize, assigned: Assigned) {
+fn show_verdict(n: usize, ways: usize, f: f64, hits: usize, assigned: Assigned) {
     let location = tested(statistics::statistic_of(f), hits);
     let dispersion = tested(Statistic::Unbounded, ways);
-    print(Answer::Judged(Verdict {
-        kept,
-        groups: 2,
+    print(Answer::Judged(Judgement {
+        n,
+        n_groups: 2,
         ways,
         location,
+        r2: 0.5,
         dispersion,
-        warnings: 8,
         assigned,
+        informative_fraction: 1.0,
+        warnings: 8,
     }));
 }
 
@@ -186,12 +199,12 @@ fn verdicts() {
         assignment: Assignment::Withheld,
         hits: 0,
     };
-    verdict(4, 6, 32.0, 2, none);
+    show_verdict(4, 6, 32.0, 2, none);
     let given = Assigned {
         assignment: Assignment::Right(31),
         hits: 19999,
     };
-    verdict(32, 20000, -0.0, 10, given);
+    show_verdict(32, 20000, -0.0, 10, given);
 }
 
 fn refusals() {
@@ -201,7 +214,7 @@ fn refusals() {
 }
 
 fn main() {
-    let mut input = io::large_buffer();
+    let mut input = [0u8; 131072];
     let n = io::read_full(STDIN_FILENO, &mut input);
     replay(&input[..n]);
     verdicts();

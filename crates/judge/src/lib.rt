@@ -1,1 +1,111 @@
-// `judge` (document 01, section 7): from the whole input to the whole output. Its meaning; the function comes with the exhaustive test.
+// `judge` (document 01, section 7): from the whole input to the whole output.
+ghost use mathlib.Core.Path.{_≡_};
+ghost use mathlib.Core.Bool.{false};
+ghost use Prim.Native.Nat.{_≤_};
+ghost use lib.ListN.{length};
+ghost use Rattle.outcome.specs.Outcome.{andThen};
+ghost use Rattle.lot.specs.Lot.{lotOf};
+ghost use Rattle.exhaustive.specs.Call.{answerOf};
+ghost use Rattle.frames.specs.Frames.{readLot};
+ghost use Rattle.frames.specs.Fits.{Fits};
+ghost use Rattle.frames.specs.Reached.{Room};
+ghost use Rattle.frames.proofs.Fronts.{fronts};
+ghost use Rattle.printing.specs.Printed.{page, onto};
+ghost use Rattle.judge.specs.Judge.{judgement, judgeText};
+use exhaustive::Answer;
+use frames::Header;
+
+// What is found of a lot that was read; no weights are given.
+fn judge_lot(
+    n: usize,
+    distances: &[f64],
+    labels: &[u16],
+    stratified: bool,
+    strata: &[u16],
+    weights: &[f64],
+) -> Answer
+    requires { ⌜ Fits (lotOf n (now distances) (now labels) stratified (now strata) false (now weights)) ⌝ }
+    ensures { λ r. ⌜ answerOf r ≡ judgement (lotOf n (now (distances .entry)) (now (labels .entry)) stratified (now (strata .entry)) false (now (weights .entry))) ⌝ }
+{
+    let mut names = [0u16; 32];
+    let mut counts = [0u16; 32];
+    let mut means = [0.0f64; 32];
+    let mut terms = [0.0f64; 1024];
+    let mut pulls = [0.0f64; 1024];
+    let mut coords = [0.0f64; 272];
+    let mut room = [0.0f64; 1056];
+    let mut vectors = [0.0f64; 1024];
+    let mut rows = [0u16; 1024];
+    exhaustive::exhaustive(
+        n,
+        distances,
+        labels,
+        stratified,
+        strata,
+        false,
+        weights,
+        &mut names,
+        &mut counts,
+        &mut means,
+        &mut terms,
+        &mut pulls,
+        &mut coords,
+        &mut room,
+        &mut vectors,
+        &mut rows,
+    )
+}
+
+// The same of the lot at the fronts of three slices.
+fn judge_front(h: Header, labels: &[u16], strata: &[u16], distances: &[f64]) -> Answer
+    requires { ⌜ Room (now labels) (now strata) (now distances) × Fits (fronts h (now labels) (now strata) (now distances)) ⌝ }
+    ensures { λ r. ⌜ answerOf r ≡ judgement (fronts h (now (labels .entry)) (now (strata .entry)) (now (distances .entry))) ⌝ }
+{
+    let n = h.n;
+    let q = n * n;
+    judge_lot(
+        n,
+        &distances[..q],
+        &labels[..n],
+        h.stratified,
+        &strata[..n],
+        &distances[..0],
+    )
+}
+
+// What is found of a text. The slices lend room for its lot.
+fn judge_text(text: &[u8], labels: &mut [u16], strata: &mut [u16], distances: &mut [f64]) -> Answer
+    requires { ⌜ Room (now labels) (now strata) (now distances) ⌝ }
+    ensures { λ r. ⌜ answerOf r ≡ andThen (readLot (now (text .entry))) judgement ⌝ }
+{
+    let a = frames::read_into(text, labels, strata, distances);
+    match a {
+        frames::Answer::Read(h) => judge_front(h, labels, strata, distances),
+        frames::Answer::Refused(r) => Answer::Refused(r),
+    }
+}
+
+// `judge` on slices.
+fn judge_into(
+    text: &[u8],
+    labels: &mut [u16],
+    strata: &mut [u16],
+    distances: &mut [f64],
+    out: &mut [u8],
+) -> usize
+    requires { ⌜ Room (now labels) (now strata) (now distances) × (93 ≤ length (now out)) ⌝ }
+    ensures { λ r. ⌜ page r (now (out .exit)) ≡ onto (judgeText (now (text .entry))) (now (out .entry)) ⌝ }
+{
+    let a = judge_text(text, labels, strata, distances);
+    printing::print_into(a, out)
+}
+
+// Prints at the front of `out` what is found of the text; the answer is the number of bytes.
+pub fn judge(text: &[u8], out: &mut [u8; 93]) -> usize
+    ensures { λ r. ⌜ page r (now (out .exit)) ≡ onto (judgeText (now (text .entry))) (now (out .entry)) ⌝ }
+{
+    let mut labels = [0u16; 32];
+    let mut strata = [0u16; 32];
+    let mut distances = [0.0f64; 1024];
+    judge_into(text, &mut labels, &mut strata, &mut distances, out)
+}

@@ -10,10 +10,11 @@ use lib.Seq.{sets, length-sets}
 use Rattle.lists.specs.Writes.{over}
 use Rattle.lists.proofs.Writes.{over-none, over-next}
 use Rattle.outcome.specs.declared.Refusal.{Refusal}
-use Rattle.printing.specs.Printed.{verdictLines, refusalLine, printed, page, onto, outcomeOf}
-use Rattle.printing.specs.declared.Verdict.{Verdict}
-use Rattle.printing.specs.declared.Answer.{Answer}
-use Rattle.printing.specs.declared.Answer.the-variants.{Judged, Refused}
+use Rattle.verdict.specs.declared.Judgement.{Judgement}
+use Rattle.exhaustive.specs.declared.Answer.{Answer}
+use Rattle.exhaustive.specs.declared.Answer.the-variants.{Judged, Refused}
+use Rattle.exhaustive.specs.Call.{answerOf}
+use Rattle.printing.specs.Printed.{verdictLines, refusalLine, printed, page, onto}
 use Rattle.printing.specs.Hex.{digit, hex}
 use Rattle.printing.specs.Wrote.{Wrote}
 
@@ -87,12 +88,12 @@ wrote-onto {old} {new} {text} {size} {next} h w =
     let b : new ≡ over text old = w .new-is ∙ ap (λ (l : List ℕ). sets l 0 text) (sym (over-none old)) ∙ sets-front old text [] (omega (arith, w .size-is, h)) in
     λ i. record { size = n i; bytes = b i }
 
-pub printed-judged : (old : List ℕ) {new : List ℕ} {next : ℕ} {a : Answer} {v : Verdict} → a ≡ Judged v → 93 ≤ length old → Wrote old 0 93 (verdictLines v) new next →
-    page next new ≡ onto (printed (outcomeOf a)) old
+pub printed-judged : (old : List ℕ) {new : List ℕ} {next : ℕ} {a : Answer} {v : Judgement} → a ≡ Judged v → 93 ≤ length old → Wrote old 0 93 (verdictLines v) new next →
+    page next new ≡ onto (printed (answerOf a)) old
 unfolding printed
-printed-judged old e h w = wrote-onto h w ∙ ap (λ (a : Answer). onto (printed (outcomeOf a)) old) (sym e)
+printed-judged old e h w = wrote-onto h w ∙ ap (λ (a : Answer). onto (printed (answerOf a)) old) (sym e)
 
 pub printed-refused : (old : List ℕ) {new : List ℕ} {next : ℕ} {a : Answer} {r : Refusal} → a ≡ Refused r → 5 ≤ length old → Wrote old 0 5 (refusalLine r) new next →
-    page next new ≡ onto (printed (outcomeOf a)) old
+    page next new ≡ onto (printed (answerOf a)) old
 unfolding printed
-printed-refused old e h w = wrote-onto h w ∙ ap (λ (a : Answer). onto (printed (outcomeOf a)) old) (sym e)
+printed-refused old e h w = wrote-onto h w ∙ ap (λ (a : Answer). onto (printed (answerOf a)) old) (sym e)

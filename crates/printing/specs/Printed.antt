@@ -9,12 +9,10 @@ use Rattle.outcome.specs.Refusals.{number}
 use Rattle.outcome.specs.Outcome.{Outcome, answered, refused}
 use Rattle.statistics.specs.declared.Statistic.{Statistic}
 use Rattle.statistics.specs.declared.Statistic.the-variants.{Finite, Unbounded}
+use Rattle.judging.specs.declared.Assignment.{Assignment}
+use Rattle.judging.specs.declared.Assignment.the-variants.{Right, Withheld}
+use Rattle.verdict.specs.declared.Judgement.{Judgement}
 use Rattle.printing.specs.Hex.{hex, feed}
-use Rattle.printing.specs.declared.Assignment.{Assignment}
-use Rattle.printing.specs.declared.Assignment.the-variants.{Right, Withheld}
-use Rattle.printing.specs.declared.Verdict.{Verdict}
-use Rattle.printing.specs.declared.Answer.{Answer}
-use Rattle.printing.specs.declared.Answer.the-variants.{Judged, Refused}
 
 -- 01 finite, 00 unbounded; F's bits, 0 if unbounded
 abbrev pub stateOf : Statistic → ℕ
@@ -43,9 +41,9 @@ unfoldable pub assignedLine : Assignment → ℕ → List ℕ
 assignedLine a hits = hex 2 0xb5 ++ hex 2 (givenOf a) ++ hex 2 (rightOf a) ++ hex 8 hits ++ feed
 
 -- kept, groups, M; location; dispersion; warnings; the assignment
-unfoldable pub verdictLines : Verdict → List ℕ
+unfoldable pub verdictLines : Judgement → List ℕ
 verdictLines v =
-    (hex 2 0xb1 ++ hex 2 (v .kept) ++ hex 2 (v .groups) ++ hex 8 (v .ways) ++ feed)
+    (hex 2 0xb1 ++ hex 2 (v .n) ++ hex 2 (v .«n_groups») ++ hex 8 (v .ways) ++ feed)
     ++ testedLine 0xb2 (v .location .statistic) (v .location .hits)
     ++ testedLine 0xb3 (v .dispersion .statistic) (v .dispersion .hits)
     ++ (hex 2 0xb4 ++ hex 2 (v .warnings) ++ feed)
@@ -55,7 +53,7 @@ verdictLines v =
 unfoldable pub refusalLine : Refusal → List ℕ
 refusalLine r = hex 2 0xbf ++ hex 2 (number r) ++ feed
 
-unfoldable pub printed : Outcome Verdict → List ℕ
+unfoldable pub printed : Outcome Judgement → List ℕ
 printed (answered v) = verdictLines v
 printed (refused r) = refusalLine r
 
@@ -71,7 +69,3 @@ page size bytes = record { size = size; bytes = bytes }
 -- the text at the front of a slice
 unfoldable pub onto : List ℕ → List ℕ → Page
 onto text before = record { size = length text; bytes = over text before }
-
-abbrev pub outcomeOf : Answer → Outcome Verdict
-outcomeOf (Judged v) = answered v
-outcomeOf (Refused r) = refused r

@@ -3,46 +3,17 @@ ghost use mathlib.Core.Path.{_≡_};
 ghost use mathlib.Core.List.{_++_};
 ghost use Prim.Native.Nat.{_+_, _<_, _≤_};
 ghost use lib.ListN.{length};
+ghost use Rattle.exhaustive.specs.Call.{answerOf};
 ghost use Rattle.printing.specs.Hex.{digit, hex, feed};
-ghost use Rattle.printing.specs.Printed.{stateOf, patternOf, givenOf, rightOf, testedLine, assignedLine, verdictLines, refusalLine, printed, page, onto, outcomeOf};
+ghost use Rattle.printing.specs.Printed.{stateOf, patternOf, givenOf, rightOf, testedLine, assignedLine, verdictLines, refusalLine, printed, page, onto};
 ghost use Rattle.printing.specs.Wrote.{Wrote};
+use exhaustive::Answer;
+use judging::Assignment;
 use outcome::Refusal;
 use statistics::Statistic;
-
-// How many kept samples the discriminant scores place right, or none.
-pub enum Assignment {
-    Right(usize),
-    Withheld,
-}
-
-// A statistic of the observed way, and its hits.
-pub struct Tested {
-    pub statistic: Statistic,
-    pub hits: usize,
-}
-
-// The assignment of the observed way, and its hits.
-pub struct Assigned {
-    pub assignment: Assignment,
-    pub hits: usize,
-}
-
-// What is printed of a lot that was judged.
-pub struct Verdict {
-    // kept samples, groups, and M
-    pub kept: usize,
-    pub groups: usize,
-    pub ways: usize,
-    pub location: Tested,
-    pub dispersion: Tested,
-    pub warnings: u8,
-    pub assigned: Assigned,
-}
-
-pub enum Answer {
-    Judged(Verdict),
-    Refused(Refusal),
-}
+use verdict::Assigned;
+use verdict::Judgement;
+use verdict::Tested;
 
 // ---- numbers
 
@@ -165,7 +136,7 @@ fn put_assigned(out: &mut [u8], at: usize, t: Assigned) -> usize
     put_line(out, at, 0xb5, given_of(a), 2, right_of(a), t.hits as u64)
 }
 
-fn print_verdict(v: Verdict, out: &mut [u8]) -> usize
+fn print_verdict(v: Judgement, out: &mut [u8]) -> usize
     requires { ⌜ 93 ≤ length (now out) ⌝ }
     ensures { λ r. ⌜ Wrote (now (out .entry)) 0 93 (verdictLines v) (now (out .exit)) r ⌝ }
 {
@@ -176,9 +147,9 @@ fn print_verdict(v: Verdict, out: &mut [u8]) -> usize
         out,
         0,
         0xb1,
-        v.kept as u64,
+        v.n as u64,
         2,
-        v.groups as u64,
+        v.n_groups as u64,
         v.ways as u64,
     );
     let q = put_tested(out, p, 0xb2, location);
@@ -197,7 +168,7 @@ fn print_refusal(r: Refusal, out: &mut [u8]) -> usize
 // `print` on a slice.
 pub fn print_into(a: Answer, out: &mut [u8]) -> usize
     requires { ⌜ 93 ≤ length (now out) ⌝ }
-    ensures { λ r. ⌜ page r (now (out .exit)) ≡ onto (printed (outcomeOf a)) (now (out .entry)) ⌝ }
+    ensures { λ r. ⌜ page r (now (out .exit)) ≡ onto (printed (answerOf a)) (now (out .entry)) ⌝ }
 {
     match a {
         Answer::Judged(v) => print_verdict(v, out),
@@ -207,7 +178,7 @@ pub fn print_into(a: Answer, out: &mut [u8]) -> usize
 
 // Prints a verdict or a refusal at the front of `out`; the answer is the number of bytes.
 pub fn print(a: Answer, out: &mut [u8; 93]) -> usize
-    ensures { λ r. ⌜ page r (now (out .exit)) ≡ onto (printed (outcomeOf a)) (now (out .entry)) ⌝ }
+    ensures { λ r. ⌜ page r (now (out .exit)) ≡ onto (printed (answerOf a)) (now (out .entry)) ⌝ }
 {
     print_into(a, out)
 }

@@ -20,8 +20,9 @@ pub fn wrapping_mul(a: u64, b: u64) -> u64
     let al = a % 4294967296;
     let bh = b / 4294967296;
     let bl = b % 4294967296;
-    let cross = std::num::wrapping_add_u64(ah * bl, al * bh) % 4294967296;
-    std::num::wrapping_add_u64(al * bl, cross * 4294967296)
+    let low = al * bl;
+    let high = ah * bl % 4294967296 + al * bh % 4294967296 + low / 4294967296;
+    high % 4294967296 * 4294967296 + low % 4294967296
 }
 
 // The next state.

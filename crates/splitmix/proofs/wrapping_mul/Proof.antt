@@ -1,44 +1,37 @@
--- `splitmix::wrapping_mul` meets its contract. The product by halves is the product. Assumes nothing.
-use mathlib.Core.Path.{_∙_, ap}
-use Prim.Native.Nat.{ℕ, _+_, _*_, _%_, _/_, _^_}
+-- `splitmix::wrapping_mul` meets its contract. The product by halves is the product.
+-- Assumes nothing.
+use Prim.Native.Nat.{_%_, _/_}
 use native.Mathlib.Omega.{arith}
-use Rattle.splitmix.proofs.Products.{half-product, by-halves}
 use borrow.Author.Needs.{needs}
+use Rattle.splitmix.proofs.Products.{half-product, by-halves}
 use Rattle.splitmix.proofs.wrapping_mul.Statement.{statement}
 use Rattle.splitmix.proofs.wrapping_mul.Tie as tie
 
-mul-wrapping-add-u64 : tie.Need-mul-wrapping-add-u64
-mul-wrapping-add-u64 c = record { fits = half-product (c .args .a / 4294967296) (c .args .b % 4294967296) (omega arith) (omega arith) }
+mul-low : tie.Need-mul-low
+mul-low c = record { fits = half-product (c .args .a % 4294967296) (c .args .b % 4294967296) (omega arith) (omega arith) }
 
-mul-wrapping-add-u64-2 : tie.Need-mul-wrapping-add-u64-2
-mul-wrapping-add-u64-2 c = record { fits = half-product (c .args .a % 4294967296) (c .args .b / 4294967296) (omega arith) (omega arith) }
+mul-high : tie.Need-mul-high
+mul-high c = record { fits = half-product (c .args .a / 4294967296) (c .args .b % 4294967296) (omega arith) (omega arith) }
 
-wrapping-add-u64-requires : tie.Need-wrapping-add-u64-requires
-wrapping-add-u64-requires c κs = search needs
+mul-high-2 : tie.Need-mul-high-2
+mul-high-2 c = record { fits = half-product (c .args .a % 4294967296) (c .args .b / 4294967296) (omega arith) (omega arith) }
 
-mul-wrapping-add-u64-3 : tie.Need-mul-wrapping-add-u64-3
-mul-wrapping-add-u64-3 c = record { fits = half-product (c .before .args .a % 4294967296) (c .before .args .b % 4294967296) (omega arith) (omega arith) }
+add-high : tie.Need-add-high
+add-high c = search needs
 
-mul-wrapping-add-u64-4 : tie.Need-mul-wrapping-add-u64-4
-mul-wrapping-add-u64-4 c = search needs
+add-high-2 : tie.Need-add-high-2
+add-high-2 c = omega (arith, half-product (c .args .a % 4294967296) (c .args .b % 4294967296) (omega arith) (omega arith))
 
-wrapping-add-u64-requires-2 : tie.Need-wrapping-add-u64-requires-2
-wrapping-add-u64-requires-2 c κs = search needs
+mul-result : tie.Need-mul-result
+mul-result c = search needs
+
+add-result : tie.Need-add-result
+add-result c = search needs
 
 returns : tie.Need-returns
-returns c = let a = c .before .before .args .a in
-    let b = c .before .before .args .b in
-    c .wrapping-add-u642 .ensures ∙ ap (λ (n : ℕ). (a % 4294967296 * (b % 4294967296) + n % 4294967296 * 4294967296) % 2 ^ 64) (c .before .wrapping-add-u64 .ensures)
-    ∙ by-halves a b (a / 4294967296) (a % 4294967296) (b / 4294967296) (b % 4294967296) (omega arith) (omega arith)
+returns c = by-halves (c .args .a) (c .args .b) (c .args .a / 4294967296) (c .args .a % 4294967296) (c .args .b / 4294967296) (c .args .b % 4294967296) (omega arith) (omega arith)
 
 pub wrapping-mul-spec : {M : Type 1} → statement M
 wrapping-mul-spec =
     tie.close
-    (tie.spec
-    mul-wrapping-add-u64
-    mul-wrapping-add-u64-2
-    wrapping-add-u64-requires
-    mul-wrapping-add-u64-3
-    mul-wrapping-add-u64-4
-    wrapping-add-u64-requires-2
-    returns)
+    (tie.spec mul-low mul-high mul-high-2 add-high add-high-2 mul-result add-result returns)

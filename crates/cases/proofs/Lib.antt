@@ -1,0 +1,2 @@
+-- Judged samples of the trade.
+pub mod Judged
