@@ -4,6 +4,8 @@
 mod compare;
 mod implementation;
 mod inputs;
+#[cfg(feature = "port")]
+mod level;
 mod matrix;
 mod ops;
 #[cfg(feature = "port")]
@@ -22,6 +24,7 @@ const USAGE: &str = "usage:
   oracle check OP                read a replay file from standard input, ask the Rust again, compare
   oracle twice OP SEED COUNT     make a replay file twice and compare
   oracle time                    time the calls
+  oracle level SEED COUNT        every way of COUNT small lots handed in, and demand 3 counted (feature `port`)
   oracle compare SEED COUNT      the port against the Rust, COUNT inputs of each of four functions (feature `port`)
 OP: test, pcoa, hash_pca, dapc, jacobi_eigen, top_eigs or gram_matrix";
 
@@ -37,6 +40,8 @@ fn main() -> ExitCode {
         }
         #[cfg(feature = "port")]
         ["compare", seed, count] => compare(seed, count),
+        #[cfg(feature = "port")]
+        ["level", seed, count] => level(seed, count),
         [command, op, ref rest @ ..] => match op {
             "test" => run::<ops::test::Test>(command, rest),
             "pcoa" => run::<ops::pcoa::Pcoa>(command, rest),
@@ -96,6 +101,11 @@ fn check<O: Operation>(file: &[u64]) -> Result<(), String> {
 fn compare(seed: &str, count: &str) -> Result<(), String> {
     ops::expect_panics();
     compare::print(number(seed)?, number(count)? as usize)
+}
+
+#[cfg(feature = "port")]
+fn level(seed: &str, count: &str) -> Result<(), String> {
+    level::print(number(seed)?, number(count)? as usize)
 }
 
 fn number(text: &str) -> Result<u64, String> {

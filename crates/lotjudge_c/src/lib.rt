@@ -14,6 +14,8 @@ ghost use Rattle.exhaustive.specs.Call as ways;
 ghost use Rattle.pcoa.specs.Call.{pcoaCall};
 ghost use Rattle.hash_pca.specs.Call.{hashPcaCall};
 ghost use Rattle.dapc.specs.Call.{dapcCall};
+ghost use Rattle.printing.specs.Printed.{page, onto};
+ghost use Rattle.judge.specs.Judge.{judgeText};
 ghost use Rattle.lotjudge_c.specs.Exported.{codeOf, pOf, given, testValues, testNumbers, exportTest, testExport, fOf, isFinite, rightOf, isAssigned, wayValues, wayNumbers, exportWays, waysExport, exportPcoa, pcoaExport, exportHashPca, hashPcaExport, dapcNumbers, exportDapc, dapcExport};
 
 // ---- `test`
@@ -157,34 +159,39 @@ fn is_assigned(a: Assignment) -> u64
 fn way_values(j: Judgement) -> [f64; 4]
     ensures { λ r. ⌜ r ≡ wayValues j ⌝ }
 {
-    let l = j.location.statistic;
-    let d = j.dispersion.statistic;
-    let first = f_of(l);
-    let second = f_of(d);
+    let l = j.location;
+    let d = j.dispersion;
+    let ls = l.statistic;
+    let ds = d.statistic;
+    let first = f_of(ls);
+    let second = f_of(ds);
     [first, j.r2, second, j.informative_fraction]
 }
 
 fn way_numbers(j: Judgement) -> [u64; 11]
     ensures { λ r. ⌜ r ≡ wayNumbers j ⌝ }
 {
-    let l = j.location.statistic;
-    let d = j.dispersion.statistic;
-    let a = j.assigned.assignment;
-    let first = is_bounded(l);
-    let second = is_bounded(d);
-    let third = is_assigned(a);
-    let right = right_of(a);
+    let l = j.location;
+    let d = j.dispersion;
+    let a = j.assigned;
+    let ls = l.statistic;
+    let ds = d.statistic;
+    let given = a.assignment;
+    let first = is_bounded(ls);
+    let second = is_bounded(ds);
+    let third = is_assigned(given);
+    let right = right_of(given);
     [
         j.n as u64,
         j.n_groups as u64,
         j.ways as u64,
         first,
-        j.location.hits as u64,
+        l.hits as u64,
         second,
-        j.dispersion.hits as u64,
+        d.hits as u64,
         third,
         right,
-        j.assigned.hits as u64,
+        a.hits as u64,
         j.warnings as u64,
     ]
 }
@@ -318,4 +325,13 @@ pub extern "C" fn lotjudge_dapc(
             0
         }
     }
+}
+
+// ---- `judge`
+
+#[no_mangle]
+pub extern "C" fn lotjudge_judge(text: &[u8], out: &mut [u8; 93]) -> usize
+    ensures { λ r. ⌜ page r (now (out .exit)) ≡ onto (judgeText (now (text .entry))) (now (out .entry)) ⌝ }
+{
+    judge::judge(text, out)
 }
