@@ -9,21 +9,26 @@ use lib.Ieee.{Float, toBits, ofBits, ofInt, odd, size, add, sub, mul, div, neg, 
 use lib.Ieee.Scale.{finite}
 use Rattle.float.specs.Floats.{f64}
 use Rattle.float.specs.Order.{magnitude, larger}
+use Rattle.float.specs.Root.{isqrt, rootOf, root}
 use Rattle.float.specs.Tolerance.{threshold}
 use Rattle.lists.specs.Ranges.{upFrom, range, table, rows, grid}
-use Rattle.lists.specs.Filters.{keep, countIf, any, firstAt, pairs}
+use Rattle.lists.specs.Filters.{keep, countIf, any, firstAt, pairs, orderedPairs}
 use Rattle.lists.specs.Numbers.{howMany, stands, position, firsts, insertUp, upward, members}
 use Rattle.lists.specs.Sums.{sumFrom}
 use Rattle.lists.specs.Rows.{entry}
 use Rattle.lot.specs.Kept.{twice, kept, gathered, keptLabels, names, groups, keptCount, groupCount}
 use Rattle.lot.specs.Strata.{named, numbered, heldStrata, strata}
 use Rattle.lot.specs.Way.{δ, mark, tally}
-use Rattle.location.specs.Squares.{squareAt, weightAt, termAt, terms, weightsOf, termsOf}
+use Rattle.location.specs.Squares.{squareAt, weightAt, termAt, pullAt, terms, pulls, weightsOf, termsOf, pullsOf}
 use Rattle.location.specs.Location.{rowSum, rowsSum, total, pairSum, groupWeight, groupWithin, within, fRatio, pseudoF}
-use Rattle.statistics.specs.Statistics.{totalOf, withinOf, locationF}
+use Rattle.dispersion.specs.Dispersion as dispersion
+use Rattle.dispersion.specs.Dispersion.{inside, pullSum, valueOf, value, values, distanceOf}
+use Rattle.dispersion.specs.Anova.{grandMean, groupMean, groupMeans, squared, share, between, residualAt, residual, anovaF}
+use Rattle.statistics.specs.Statistics as statistics
+use Rattle.statistics.specs.Statistics.{totalOf, withinOf, locationF, zOf, dispersionF}
 use Rattle.statistics.specs.Hits.{statistic, hit}
 use Rattle.ways.specs.Ways.{spend, deal, waysOf, ways}
-use Rattle.exhaustive.specs.Exhaustive.{hits, locationOf, locationHits}
+use Rattle.exhaustive.specs.Exhaustive.{hits, locationOf, dispersionOf, locationHits, dispersionHits}
 use Rattle.outcome.specs.declared.Refusal.the-variants as refusal
 use Rattle.outcome.specs.Outcome.{Outcome, answered, refused, andThen}
 use Rattle.statistics.specs.declared.Statistic.the-variants.{Finite, Unbounded}
@@ -102,3 +107,8 @@ refused-first = ap (λ (o : Outcome Lot). printed (andThen o judgement)) after-t
 pub location-hits : locationHits lot ≡ 2
 unfolding lot locationHits hits locationOf statistic hit threshold magnitude finite le lt add sub mul div neg ofBits ofInt odd size larger locationF pseudoF fRatio totalOf total rowsSum rowSum withinOf within groupWithin groupWeight pairSum pairs members entry sumFrom weightsOf termsOf terms termAt weightAt squareAt grid rows table range upFrom groups position firstAt keptCount groupCount names keptLabels gathered kept twice howMany countIf keep upward insertUp ways waysOf deal spend tally mark δ strata numbered named firsts heldStrata stands any
 location-hits = refl
+
+-- dispersion is unbounded in every way
+pub dispersion-hits : dispersionHits lot ≡ 6
+unfolding lot dispersionHits hits dispersionOf statistics.dispersionOf dispersionF statistic hit finite anovaF residual residualAt between share squared groupMeans groupMean grandMean fRatio zOf dispersion.zOf distanceOf root rootOf isqrt values value valueOf pullSum inside orderedPairs groupWeight pullsOf pulls pullAt le lt add sub mul div neg ofBits ofInt odd size larger members entry sumFrom weightsOf termsOf terms termAt weightAt squareAt grid rows table range upFrom groups position firstAt keptCount groupCount names keptLabels gathered kept twice howMany countIf keep upward insertUp ways waysOf deal spend tally mark δ strata numbered named firsts heldStrata stands any
+dispersion-hits = refl
