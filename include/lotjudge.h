@@ -1,7 +1,7 @@
 /* The lot judge, for C and languages that call C.
  *
  * Every function is proved against a written meaning (docs/READING.md) for any arguments: it ends, and it returns 0, or one of the
- * numbers 1 to 11 of a refusal, whatever the numbers and lengths are. A pointer must lead to as many elements as the length after it
+ * numbers 1 to 11 of a refusal, whatever the numbers and lengths are (`lotjudge_judge` tells it in text). A pointer must lead to as many elements as the length after it
  * says (a length of 0 reads nothing), and nothing that is written may overlap anything else that is passed.
  *
  * Refusals, the lowest that applies:
@@ -93,6 +93,13 @@ uint8_t lotjudge_hash_pca(const uint64_t *hashes, size_t hashes_len, const size_
  */
 uint8_t lotjudge_dapc(const double *x, size_t x_len, size_t n, size_t columns, const uint16_t *labels, size_t labels_len,
                       double *out, size_t out_len, uint16_t *assigned, size_t assigned_len, size_t numbers[3]);
+
+/* A lot as text, judged by every way: the bytes that the program `lotjudge` prints for it. Never refuses a call: what is wrong with the text or
+ * the lot is told in the output.
+ *   text           the frames, any bytes
+ *   out            the output; the returned number says how many of its bytes are written, the rest stays
+ */
+size_t lotjudge_judge(const uint8_t *text, size_t text_len, uint8_t out[93]);
 
 #ifdef __cplusplus
 }

@@ -82,7 +82,6 @@ def texts():
     pairs = big[33:-1]
     random.shuffle(pairs)
     yield "n = 32, pairs in another order", text(big[:33] + pairs + ["af"])
-    yield "n = 32, a pair missing", text(big[:33] + pairs[1:] + ["af"])
     yield "n = 33", text(lot(33))
     yield "n = 255", text(["a1ff00", "af"])
     yield "no frames but the end", text(["af"])

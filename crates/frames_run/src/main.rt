@@ -214,7 +214,7 @@ fn refusals() {
 }
 
 fn main() {
-    let mut input = [0u8; 131072];
+    let mut input = io::large_buffer();
     let n = io::read_full(STDIN_FILENO, &mut input);
     replay(&input[..n]);
     verdicts();

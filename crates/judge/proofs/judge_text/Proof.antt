@@ -14,7 +14,7 @@ enum-known-a : tie.Need-enum-known-a
 enum-known-a c = search needs
 
 judge-front-requires : tie.Need-judge-front-requires
-judge-front-requires c κs = (record { labels = c .before .before .before .before .before .before .before .before .before .before .before .before .read-into .kept .1 .0 ∙ c .before .before .before .before .before .before .before .before .before .before .before .before .before .before .before .before .before .before .before .before .pre .labels; strata = c .before .before .before .before .before .before .before .before .before .before .before .before .read-into .kept .1 .1 .0 ∙ c .before .before .before .before .before .before .before .before .before .before .before .before .before .before .before .before .before .before .before .before .pre .strata; distances = c .before .before .before .before .before .before .before .before .before .before .before .before .read-into .kept .1 .1 .1 .0 ∙ c .before .before .before .before .before .before .before .before .before .before .before .before .before .before .before .before .before .before .before .before .pre .distances; }, fits-front (c .before .before .before .before .before .before .before .before .before .before .before .before .before .before .before .before .before .before .before .before .args .text .now) (c .before .before .before .before .before .before .before .before .before .before .before .before .read-into .result) (c .before .before .before .before .before .before .before .before .before .before .before .before .read-into .ensures) (c .before .before .before .before .a .given .1))
+judge-front-requires c κs = (record { labels = c .before .before .before .before .before .before .before .before .before .before .before .before .read-into .kept .1 .0 ∙ c .before .before .before .before .before .before .before .before .before .before .before .before .before .before .before .before .before .before .before .before .pre .labels; strata = c .before .before .before .before .before .before .before .before .before .before .before .before .read-into .kept .1 .1 .0 ∙ c .before .before .before .before .before .before .before .before .before .before .before .before .before .before .before .before .before .before .before .before .pre .strata; distances = c .before .before .before .before .before .before .before .before .before .before .before .before .read-into .kept .1 .1 .1 .0 ∙ c .before .before .before .before .before .before .before .before .before .before .before .before .before .before .before .before .before .before .before .before .pre .distances }, fits-front (c .before .before .before .before .before .before .before .before .before .before .before .before .before .before .before .before .before .before .before .before .args .text .now) (c .before .before .before .before .before .before .before .before .before .before .before .before .read-into .result) (c .before .before .before .before .before .before .before .before .before .before .before .before .read-into .ensures) (c .before .before .before .before .a .given .1))
 
 enum-known-a-2 : tie.Need-enum-known-a-2
 enum-known-a-2 c = search needs
