@@ -1,22 +1,22 @@
 -- Gram-Schmidt column by column. A column is worked on in one block and goes to another: the first j columns of the one with the rest of the other
 -- are the block that the definition has. Assumes nothing.
-use mathlib.Core.Path.{_≡_, refl, sym, ap, ap₂, _∙_, subst}
+use mathlib.Core.Path.{_≡_, sym, ap, ap₂, _∙_}
 use mathlib.Core.List.{List, _++_, append-assoc, append-nil}
 use Prim.Native.Nat.{ℕ, zero, suc, _+_, _*_, _<_, _≤_}
 use native.Mathlib.Nat.{zero-mul, mul-le-mul-right}
 use native.Mathlib.Numerals.{add-one}
 use native.Mathlib.Omega.{arith}
 use lib.ListN.{length, take, drop, length-append, length-drop, length-map, drop-of-length-le}
-use lib.Seq.{take-all, take-at, drop-at, drop-drop, length-take-le}
+use lib.Seq.{take-all, take-at, drop-at, length-take-le}
 use lib.Ieee.{Float}
 use Rattle.lists.specs.Loops.{inTurn}
 use Rattle.lists.specs.Rows.{row, putRow, onRow}
-use Rattle.lists.proofs.Loops.{inTurn-next}
+use Rattle.lists.proofs.Loops.{inTurn-next, inTurn-ext}
 use Rattle.lists.proofs.Rows.{row-end, length-row, length-put-row}
 use Rattle.vectors.specs.Vectors.{lessTimes, divided, projectedOff, unit}
-use Rattle.vectors.proofs.Extra.{length-zipWith}
+use Rattle.lists.proofs.Zips.{length-zipWith}
+use Rattle.lists.proofs.Grids.{row-taken, row-put, put-put, row-before-put, put-same}
 use Rattle.block.specs.Block.{lessProjection, unitColumn, orthonormal}
-use Rattle.block.proofs.Extra.{row-taken, row-put, put-put, row-before-put, put-same, inTurn-ext}
 
 -- ---- lengths
 
@@ -82,8 +82,8 @@ module _ (n : ℕ) where
 
     off-joined : (x : List Float) → offAll (joined j q z) j x ≡ offAll q j x
     off-joined x =
-        inTurn-ext (λ i. projectedOff (row n i (joined j q z))) (λ i. projectedOff (row n i q)) j
-        (λ i h y. ap (λ (r : List Float). projectedOff r y) (row-taken n i (j * n) q (drop (j * n) z) (row-end n i j h) (omega arith))) x
+        inTurn-ext (λ i. projectedOff (row n i (joined j q z))) (λ i. projectedOff (row n i q)) j x
+        (λ i y h. ap (λ (r : List Float). projectedOff r y) (row-taken n i (j * n) q (drop (j * n) z) (row-end n i j h) (omega arith)))
 
     put-joined : (v w : List Float) → length v ≡ n → length w ≡ n → putRow n j v (joined j q z) ≡ joined (suc j) (putRow n j v q) (putRow n j w z)
     unfolding putRow

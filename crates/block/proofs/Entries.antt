@@ -3,7 +3,7 @@ use mathlib.Core.Path.{_≡_, refl, sym, ap, ap₂, _∙_, subst}
 use mathlib.Core.Bool.{Bool, true, _&&_}
 use mathlib.Core.List.{List, [], _∷_, _++_, map}
 use Prim.Native.Nat.{ℕ, zero, suc, _+_, _-_, _<_, _≤_}
-use native.Mathlib.Nat.{add-zero, add-suc}
+use native.Mathlib.Nat.{add-zero}
 use native.Mathlib.Numerals.{add-one}
 use native.Mathlib.Omega.{arith}
 use lib.ListN.{length, getD, set, length-map, length-set}
@@ -15,11 +15,11 @@ use Rattle.lists.specs.Writes.{over}
 use Rattle.lists.proofs.Loops.{inTurn-more, fromTo-none, fromTo-next}
 use Rattle.lists.proofs.Ranges.{map-last, table-last, length-table, getD-table, table-ext}
 use Rattle.lists.proofs.Writes.{Writing, writing-next, writing-here, writing-none, writing-all, over-none, over-next, over-all}
-use Rattle.vectors.proofs.Extra.{zip-table}
+use Rattle.lists.proofs.Zips.{zip-table}
+use Rattle.lists.proofs.Searches.{all-last}
 use Rattle.splitmix.specs.SplitMix.{advance, uniform}
 use Rattle.block.specs.Block.{states}
 use Rattle.block.specs.Rounds.{settledAt, settled}
-use Rattle.block.proofs.Extra.{all-last}
 
 -- ---- entries i to r - 1 written by a rule
 

@@ -16,7 +16,8 @@ use Rattle.lists.specs.Loops.{inTurn, fromTo}
 use Rattle.lists.specs.Rows.{entry}
 use Rattle.lists.proofs.Rows.{row-end, cell-below}
 use Rattle.cholesky.specs.Cholesky.{evened, evenedRow, symmetrised}
-use Rattle.moments.proofs.Extra.{inTurn-carries, fromTo-carries, grid-of, entry-set, entry-set-other}
+use Rattle.lists.proofs.Loops.{inTurn-carries, fromTo-carries}
+use Rattle.lists.proofs.Grids.{grid-of, entry-set, entry-set-other}
 
 module _ (p : ℕ) (t : List Float) where
   mean : ℕ → ℕ → Float

@@ -1,6 +1,6 @@
 -- What a row of the factor leaves of the rows before it, so that each pivot is what it was when it was found. Assumes nothing.
 use mathlib.Core.Path.{_≡_, refl, sym, ap, ap₂, _∙_}
-use mathlib.Core.Bool.{Bool, true, false, not, _||_}
+use mathlib.Core.Bool.{Bool, not, _||_}
 use mathlib.Core.List.{List}
 use Prim.Native.Nat.{ℕ, _+_, _*_, _<_, _≤_}
 use native.Mathlib.Omega.{arith}
@@ -12,18 +12,10 @@ use Rattle.lists.specs.Ranges.{range}
 use Rattle.lists.specs.Loops.{inTurn}
 use Rattle.lists.specs.Filters.{any}
 use Rattle.lists.specs.Rows.{entry}
-use Rattle.lists.proofs.Loops.{inTurn-next}
+use Rattle.lists.proofs.Loops.{inTurn-next, inTurn-carries, inTurn-ext}
 use Rattle.lists.proofs.Rows.{row-end}
 use Rattle.cholesky.specs.Cholesky.{reduced, cholEntry, cholRow, factor, pivotFails}
-use Rattle.moments.proofs.Extra.{inTurn-carries, inTurn-ext, any-more, any-same}
-
-pub or-true : (b : Bool) → (b || true) ≡ true
-or-true true = refl
-or-true false = refl
-
-pub or-false : (b : Bool) → (b || false) ≡ b
-or-false true = refl
-or-false false = refl
+use Rattle.lists.proofs.Searches.{any-more, any-same}
 
 module _ (p : ℕ) (a : List Float) where
   reduced-same : (l l′ : List Float) (i j : ℕ) → ((k : ℕ) → k < j → entry p l i k ≡ entry p l′ i k) → ((k : ℕ) → k < j → entry p l j k ≡ entry p l′ j k)

@@ -1,6 +1,6 @@
 -- The groups that labels give: the samples that have one are the kept ones, each number is below g, and g is at most half of m. Assumes nothing.
 use mathlib.Core.Path.{_≡_, refl, sym, ap, ap₂, subst, _∙_}
-use mathlib.Core.Bool.{Bool, true, false, not, cond, _&&_}
+use mathlib.Core.Bool.{Bool, true, false, not, cond}
 use mathlib.Core.List.{List, [], _∷_, map, List·Memᴰ as Member, List·Memᴰ·head as here, List·Memᴰ·tail as there}
 use Prim.Native.Nat.{ℕ, _+_, _*_, _<_, _≤_}
 use native.Mathlib.Omega.{arith}
@@ -9,15 +9,15 @@ use lib.Dec.{eqb, leb}
 use lib.ListN.{length, getD, length-map, List·getD-map}
 use Rattle.lists.specs.Ranges.{range}
 use Rattle.lists.specs.Filters.{keep, countIf}
-use Rattle.lists.specs.Numbers.{howMany, stands, position, upward, inGroup}
-use Rattle.lists.proofs.Filters.{countIf-yes, countIf-no}
+use Rattle.lists.specs.Numbers.{howMany, stands, position, inGroup}
 use Rattle.lot.specs.Lot.{none}
 use Rattle.lot.specs.Kept.{twice, kept, keptLabels, names, groupEach, keptCount, groupCount}
-use Rattle.lot.proofs.Extra.{getD-either, and-both}
-use Rattle.lot.proofs.Membership.{member-getD, member-range, member-any, stands-member, keep-cong}
-use Rattle.lot.proofs.Upward.{Upward, upward-member, member-upward, position-below}
+use Rattle.lists.proofs.Parts.{getD-either}
+use Rattle.lists.proofs.Truths.{and-both}
+use Rattle.lists.proofs.Members.{member-getD, member-range, member-any, stands-member, keep-cong}
+use Rattle.lists.proofs.Upward.{Upward, upward-member, member-upward, position-below}
 use Rattle.lot.proofs.Places.{kept-labels}
-use Rattle.lot.proofs.Samples.{length-keptLabels, kept-few, names-few}
+use Rattle.lot.proofs.Samples.{length-keptLabels, names-few}
 use Rattle.lot.proofs.Within.{kept-twice, twice-kept, names-upward}
 use Rattle.moments.specs.Moments.{Numbered, grouped}
 

@@ -1,7 +1,7 @@
 -- The lines of the table, and what holds where all are passed. Assumes nothing.
-use mathlib.Core.Path.{_≡_, refl, sym, ap, ap₂, _∙_}
+use mathlib.Core.Path.{_≡_, refl, sym, ap, _∙_}
 use mathlib.Core.Bool.{Bool, true, false, not, _||_}
-use mathlib.Core.List.{List, [], _∷_, _++_}
+use mathlib.Core.List.{List}
 use Prim.Native.Nat.{ℕ, _+_, _-_, _*_, _/_, _<_, _≤_, min}
 use native.Mathlib.Nat.{mul-comm, zero-mul, div-lt-iff-lt-mul, le-div-iff-mul-le, min-le-right, min-eq-left, min-eq-right}
 use native.Mathlib.Omega.{arith}
@@ -10,12 +10,11 @@ use lib.Dec.{eqb, ltb}
 use lib.ListN.{length}
 use lib.Ieee.{Float}
 use Rattle.lists.specs.Filters.{any}
-use Rattle.outcome.specs.declared.Refusal.{Refusal}
 use Rattle.outcome.specs.declared.Refusal.the-variants.{Length, Limit, Value, Labels, Columns}
-use Rattle.outcome.specs.declared.Check.{Check}
 use Rattle.outcome.specs.declared.Check.the-variants as check
-use Rattle.outcome.specs.Refusals.{Line, first, short}
-use Rattle.jacobi.proofs.Extra.{or-false, first-passed}
+use Rattle.outcome.specs.Refusals.{first, short}
+use Rattle.lists.proofs.Truths.{or-neither}
+use Rattle.outcome.proofs.Table.{first-passed}
 use Rattle.dapc.specs.Dapc.{leading}
 use Rattle.dapc.specs.Call.{misfits, badCoordinate, shapeLines, groupLines}
 
@@ -106,11 +105,11 @@ unfolding shapeLines misfits short any
 passed-shape n columns x labels out assigned e =
     let one = first-passed Length _ (misfits n columns (length x) labels out assigned) e in
     let two = first-passed Limit _ (ltb 256 n || ltb 16 columns) (one .1) in
-    let limits = or-false (ltb 256 n) (ltb 16 columns) (two .0) in
-    let lengths = or-false (not (eqb (length x) (n * columns)) || not (eqb labels n)) _ (one .0) in
-    let inputs = or-false (not (eqb (length x) (n * columns))) (not (eqb labels n)) (lengths .0) in
-    let o = or-false (ltb out (columns + n * columns)) _ (lengths .1) in
-    let a = or-false (ltb assigned n) false (o .1) in
+    let limits = or-neither (ltb 256 n) (ltb 16 columns) (two .0) in
+    let lengths = or-neither (not (eqb (length x) (n * columns)) || not (eqb labels n)) _ (one .0) in
+    let inputs = or-neither (not (eqb (length x) (n * columns))) (not (eqb labels n)) (lengths .0) in
+    let o = or-neither (ltb out (columns + n * columns)) _ (lengths .1) in
+    let a = or-neither (ltb assigned n) false (o .1) in
     record {
       coordinates = eqb-true (length x) (n * columns) (not-false _ (inputs .0));
       labelled = eqb-true labels n (not-false _ (inputs .1));

@@ -2,11 +2,11 @@
 use mathlib.Core.Path.{_≡_, refl, sym, ap, ap₂, _∙_}
 use mathlib.Core.Bool.{Bool, true, false}
 use mathlib.Core.List.{List, _++_, append-assoc}
-use Prim.Native.Nat.{ℕ, _+_, _-_, _*_, _<_, _≤_}
+use Prim.Native.Nat.{ℕ, _+_, _-_, _*_, _≤_}
 use native.Mathlib.Nat.{add-sub-cancel-left, min-le-right}
 use native.Mathlib.Omega.{arith}
 use lib.ListN.{length, getD, take, drop, replicate, length-append, length-drop, length-replicate}
-use lib.Seq.{length-take-le, take-add, take-at, drop-at, take-append-le, getD-take}
+use lib.Seq.{length-take-le, take-add, take-at, drop-at, getD-take}
 use lib.Ieee.{Float, nan}
 use borrow.Rule.Slice.PartMut.{putMid}
 use Rattle.float.specs.Floats.{zero⁺}
@@ -15,14 +15,13 @@ use Rattle.lists.specs.Writes.{over, cleared}
 use Rattle.lists.proofs.Ranges.{length-grid, length-table, table-ext, table-of}
 use Rattle.lists.proofs.Rows.{part-rest}
 use Rattle.lists.proofs.Writes as writes
-use Rattle.lot.proofs.Extra.{over-over, over-lent, over-take}
+use Rattle.lists.proofs.Parts.{over-over, over-lent, over-take}
 use Rattle.outcome.specs.declared.Refusal.{Refusal}
 use Rattle.outcome.specs.declared.Refusal.the-variants.{Unordered}
 use Rattle.outcome.specs.Outcome.{Outcome, answered, refused, andThen}
 use Rattle.outcome.specs.Slices.{output}
 use Rattle.cholesky.specs.Cholesky.{solveRows}
 use Rattle.scores.specs.Scores.{scoresOf, centroids, assignedOf, unordered, rightOf}
-use Rattle.dapc.specs.declared.Separation.{Separation}
 use Rattle.dapc.specs.declared.Answer.the-variants.{Scored, Refused}
 use Rattle.dapc.specs.Dapc.{Scores, axesOf, concluded, assign}
 use Rattle.dapc.specs.Call.{Called, called, refusal, leaves}

@@ -5,23 +5,21 @@ use mathlib.Core.List.{List, [], _∷_, _++_}
 use Prim.Native.Nat.{ℕ, _+_, _-_, _*_, _≤_}
 use native.Mathlib.Nat.{mul-le-mul, min-le-left}
 use native.Mathlib.Omega.{arith}
-use lib.ListN.{length, take}
+use lib.ListN.{length}
 use lib.Ieee.{Float}
 use Rattle.lists.specs.Filters.{all}
-use Rattle.lists.specs.Writes.{over}
-use Rattle.lists.proofs.Writes.{take-over}
 use Rattle.outcome.specs.declared.Refusal.{Refusal}
 use Rattle.outcome.specs.declared.Check.{Check}
 use Rattle.outcome.specs.declared.Check.the-variants as check
 use Rattle.outcome.specs.Refusals.{Line, first}
-use Rattle.outcome.specs.Outcome.{Outcome, refused, andThen}
+use Rattle.outcome.specs.Outcome.{andThen}
 use Rattle.outcome.specs.Slices.{output, untouched}
 use Rattle.lot.specs.declared.groups.Sizes.{Sizes}
 use Rattle.lot.specs.Kept.{groupEach, keptCount, groupCount}
 use Rattle.lot.specs.Described.{Grouped}
 use Rattle.lot.proofs.Samples.{kept-few}
 use Rattle.moments.specs.Moments.{Numbered, grouped}
-use Rattle.jacobi.proofs.Extra.{first-untouched}
+use Rattle.outcome.proofs.Table.{first-untouched}
 use Rattle.dapc.specs.declared.Answer.the-variants.{Refused}
 use Rattle.dapc.specs.Dapc.{leading, axesOf, discriminate, dapc}
 use Rattle.dapc.specs.Call.{shapeLines, groupLines, dapcLines, Called, leaves, callBy, dapcCall, groupsCall, called, Ready, Sized}

@@ -13,7 +13,7 @@ use Rattle.outcome.specs.Refusals.{first}
 use Rattle.outcome.specs.Outcome.{answered, judged}
 use Rattle.lot.specs.Lot.{Lot}
 use Rattle.lot.specs.Way.{IsWay, relabelled}
-use Rattle.lot.proofs.Membership.{countIf-cong}
+use Rattle.lists.proofs.Counts.{count-cong}
 use Rattle.lot.proofs.Relabelled.{same-lot}
 use Rattle.location.specs.Location.{pseudoF, fRatio}
 use Rattle.dispersion.specs.Anova.{anovaF}
@@ -50,7 +50,7 @@ hits-same : {X : Type 0} (isHit : X → X → Bool) (stat stat′ : List ℕ →
 unfolding hits
 hits-same isHit stat stat′ {way} {way′} {all} {all′} s o w a =
     (λ i. countIf (λ v. isHit (stat′ (w i)) (stat′ v)) (a i))
-    ∙ countIf-cong (λ v. isHit (stat′ way) (stat′ v)) (λ v. isHit (stat way) (stat v)) all (λ v m. ap₂ isHit o (s v m))
+    ∙ count-cong (λ v. isHit (stat′ way) (stat′ v)) (λ v. isHit (stat way) (stat v)) all (λ v m. ap₂ isHit o (s v m))
 
 -- ---- one way handed in: its answer
 
@@ -101,7 +101,7 @@ module _ (lot : Lot) (s : Slices) (j : Judgement) (answers : exhaustiveCall lot 
   -- the calls that pass a test, by what the test says of each way's answer
   calls-are : (test : Judgement → Bool) (says : List ℕ → Bool) → ((way : List ℕ) (w : IsWay lot way) → test (accepts way w .j) ≡ says way) → calls lot made test ≡ countIf says (ways lot)
   unfolding calls passes
-  calls-are test says h = countIf-cong _ says (ways lot) (λ way m. let w = every-way lot .sound way m in ap (passes test) (accepts way w .answers) ∙ h way w)
+  calls-are test says h = count-cong _ says (ways lot) (λ way m. let w = every-way lot .sound way m in ap (passes test) (accepts way w .answers) ∙ h way w)
 
   -- as many as k hits, by the ways that section 6 counts
   few-hits : {X : Type 0} (isHit : X → X → Bool) (stat : List ℕ → X) (k : ℕ) (way : List ℕ) {n : ℕ} → n ≡ hits isHit stat way (ways lot)

@@ -1,7 +1,7 @@
 -- Where a call answers, no line of the table holds, and so it is for each way handed in, with slices that are no shorter. Assumes nothing.
-use mathlib.Core.Path.{_≡_, refl, sym, ap, _∙_}
-use mathlib.Core.Bool.{Bool, true, false, not, _&&_, _||_, cond, true≢false}
-use mathlib.Core.List.{List, [], _∷_, _++_}
+use mathlib.Core.Path.{_≡_, refl, ap, _∙_}
+use mathlib.Core.Bool.{Bool, true, false, not, _&&_, _||_, cond}
+use mathlib.Core.List.{List, [], _∷_}
 use Prim.Native.Nat.{ℕ, _*_, _≤_}
 use native.Mathlib.Omega.{arith}
 use lib.Dec.{eqb, ltb}
@@ -11,13 +11,13 @@ use Rattle.lists.specs.Filters.{any}
 use Rattle.outcome.specs.declared.Refusal.{Refusal}
 use Rattle.outcome.specs.declared.Check.{Check}
 use Rattle.outcome.specs.declared.Check.the-variants as check
-use Rattle.outcome.specs.Refusals.{Line, Lent, first, short, unfit, _of_}
+use Rattle.outcome.specs.Refusals.{Line, Lent, first, short, unfit}
 use Rattle.outcome.specs.Outcome.{Outcome, answered, refused, judged, andThen}
 use Rattle.lot.specs.Lot.{Lot}
 use Rattle.lot.specs.Kept.{groupCount}
 use Rattle.lot.specs.Way.{IsWay, relabelled}
 use Rattle.lot.specs.Lines.{misfits, testLines}
-use Rattle.lot.proofs.Extra.{or-neither}
+use Rattle.lists.proofs.Truths.{or-neither}
 use Rattle.lot.proofs.Relabelled.{same-lot}
 use Rattle.ways.specs.Ways.{wayCount, mostWays}
 use Rattle.exhaustive.specs.Call.{Slices, NoShorter, lengthsOf, lentOf, tooShort, lines}

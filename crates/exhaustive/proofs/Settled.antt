@@ -1,25 +1,23 @@
 -- Calls on kept samples, put together from what inner functions leave. Assumes nothing.
-use mathlib.Core.Path.{_≡_, refl, sym, ap, ap₂, subst, _∙_}
-use mathlib.Core.Bool.{Bool, true, false, cond}
-use mathlib.Core.List.{List, [], _∷_, _++_}
-use Prim.Native.Nat.{ℕ, _+_, _-_, _*_, _≤_, _<_, min}
+use mathlib.Core.Path.{_≡_, refl, sym, ap, subst, _∙_}
+use mathlib.Core.Bool.{Bool, false}
+use mathlib.Core.List.{List, _++_}
+use Prim.Native.Nat.{ℕ, _+_, _-_, _*_, _≤_, _<_}
 use native.Mathlib.Nat.{min-le-left, min-le-right, mul-le-mul}
 use native.Mathlib.Omega.{arith}
 use borrow.Author.Tests.{le-ltb, lt-ltb}
-use lib.Dec.{ltb}
-use lib.ListN.{length, take, drop, replicate, length-take, length-drop, length-append}
-use lib.Seq.{length-take-le, take-all, drop-append-le, take-at}
+use lib.ListN.{length, take, drop, replicate, length-drop}
+use lib.Seq.{length-take-le, drop-append-le, take-at}
 use lib.Ieee.{Float}
 use Rattle.float.specs.Floats.{zero⁺}
 use Rattle.lists.specs.Writes.{over, cleared}
-use Rattle.lists.proofs.Writes.{length-over}
-use Rattle.lot.proofs.Extra.{over-lent}
+use Rattle.lists.proofs.Parts.{over-lent}
 use Rattle.outcome.specs.declared.Refusal.{Refusal}
 use Rattle.outcome.specs.declared.Refusal.the-variants.{Ways}
 use Rattle.outcome.specs.declared.Check.{Check}
 use Rattle.outcome.specs.declared.Check.the-variants as check
-use Rattle.outcome.specs.Refusals.{_when_, first}
-use Rattle.outcome.specs.Outcome.{Outcome, answered, refused, judged, andThen}
+use Rattle.outcome.specs.Refusals.{first}
+use Rattle.outcome.specs.Outcome.{Outcome, answered, refused, andThen}
 use Rattle.outcome.specs.Slices.{untouched, output, work}
 use Rattle.lot.specs.Kept.{sizes}
 use Rattle.coordinates.specs.Finish.{Coordinates}
@@ -29,12 +27,12 @@ use Rattle.pcoa.specs.Given.{Given, given, gives, coordinatesOf}
 use Rattle.pcoa.proofs.Late.{Late}
 use Rattle.pcoa.proofs.Call.{late-pcoa, ordinate-min}
 use Rattle.ways.specs.Ways.{mostWays, wayCountOf, capped}
-use Rattle.ways.proofs.Number.{few-ways, many-ways}
+use Rattle.ways.proofs.Number.{many-ways}
 use Rattle.verdict.specs.declared.Judgement.{Judgement}
 use Rattle.verdict.specs.Answered.{columnsOf, answerFor, meansFor, Kept}
 use Rattle.exhaustive.specs.declared.Answer.the-variants.{Judged, Refused}
 use Rattle.exhaustive.specs.Call.{Slices, Called, callIn, slicesOf, called}
-use Rattle.exhaustive.specs.Settled.{coordsIn, told, coordsOf, Sized, turned, outcomeFor, callFor, callFew, Long, Ready}
+use Rattle.exhaustive.specs.Settled.{coordsIn, told, coordsOf, Sized, turned, outcomeFor, callFor, callFew, Ready}
 
 -- ---- outputs and work
 

@@ -1,7 +1,7 @@
 -- A whole call: a lot that lines 1 to 5 let pass, described, and then answered. Assumes nothing.
 use mathlib.Core.Path.{_≡_, refl, sym, ap, ap₂, subst, _∙_}
 use mathlib.Core.Bool.{Bool, true, false, _||_, cond}
-use mathlib.Core.List.{List, [], _∷_, _++_, map, List·Memᴰ as Member}
+use mathlib.Core.List.{List, [], _∷_, _++_}
 use Prim.Native.Nat.{ℕ, _+_, _*_, _≤_, _<_}
 use native.Mathlib.Nat.{mul-le-mul}
 use native.Mathlib.Omega.{arith}
@@ -20,26 +20,27 @@ use Rattle.outcome.specs.Outcome.{Outcome, answered, refused, judged, andThen}
 use Rattle.outcome.specs.Slices.{untouched, output, work}
 use Rattle.lists.specs.Filters.{all}
 use Rattle.lists.proofs.Writes.{take-over}
-use Rattle.jacobi.proofs.Extra.{first-untouched}
+use Rattle.outcome.proofs.Table.{first-untouched}
+use Rattle.lists.proofs.Truths.{or-neither}
+use Rattle.lists.proofs.Counts.{count-cong}
+use Rattle.lists.proofs.Members.{member-any, member-getD}
 use Rattle.exhaustive.specs.declared.Answer.the-variants.{Refused}
 use Rattle.lot.specs.declared.Shape.{Shape}
 use Rattle.lot.specs.Lot.{Lot, none}
-use Rattle.lot.specs.Kept.{kept, names, groups, keptCount, groupCount, sizes}
-use Rattle.lot.specs.Strata.{named, heldStrata, strata, strataCount, informative, informativeCount, fraction}
+use Rattle.lot.specs.Kept.{kept, names, groups, keptCount, groupCount}
+use Rattle.lot.specs.Strata.{named, heldStrata, strata, strataCount, informativeCount, fraction}
 use Rattle.lot.specs.Described.{samplesOf, Described}
 use Rattle.lot.specs.Described as lots
 use Rattle.lot.specs.Way.{IsWay}
 use Rattle.lot.specs.Lines.{testLines}
 use Rattle.lot.proofs.Checks.{Passes, passes, passes-room}
-use Rattle.lot.proofs.Extra.{or-neither}
 use Rattle.lot.proofs.Fills.{filled-front}
-use Rattle.lot.proofs.Membership.{countIf-cong, member-any, member-getD}
 use Rattle.lot.proofs.Samples.{kept-below, kept-few, names-few, length-groups, length-gathered}
 use Rattle.lot.proofs.Within.{groups-below, length-strata, strata-below}
 use Rattle.location.specs.Location as location
 use Rattle.location.specs.Squares.{weightsOf, termsOf, pullsOf}
 use Rattle.dispersion.specs.Dispersion as dispersion
-use Rattle.statistics.specs.Hits.{hit, statistic}
+use Rattle.statistics.specs.Hits.{statistic}
 use Rattle.statistics.specs.Statistics.{totalOf, withinOf, locationF, rSquaredOf, zOf, someNegative, dispersionF}
 use Rattle.statistics.specs.Statistics as statistics
 use Rattle.statistics.specs.Warnings.{uninformed, sizesOf, warned}
@@ -49,14 +50,14 @@ use Rattle.coordinates.specs.Finish.{Coordinates}
 use Rattle.coordinates.specs.Pcoa.{pcoa}
 use Rattle.dapc.specs.Dapc.{leading}
 use Rattle.dapc.proofs.Grouping.{half-groups}
-use Rattle.ways.specs.Ways.{mostWays, waysOf, ways, wayCountOf, wayCount}
+use Rattle.ways.specs.Ways.{mostWays, ways, wayCountOf, wayCount}
 use Rattle.judging.specs.declared.Assignment.{Assignment}
 use Rattle.judging.specs.Assignments.{assignment, asRight}
 use Rattle.judging.specs.Judging.{locationBy, dispersionBy, barredBy, assignmentBy, Judged}
 use Rattle.judging.proofs.Assigned.{way-judged, assignment-way}
 use Rattle.walk.specs.Walked.{hitsAmong, Walkable}
 use Rattle.verdict.specs.declared.Judgement.{Judgement}
-use Rattle.verdict.specs.Answered.{columnsOf, seenBy, countedBy, warnedBy, concluded, answerFor, meansFor, Kept}
+use Rattle.verdict.specs.Answered.{columnsOf, seenBy, countedBy, warnedBy, concluded, answerFor, meansFor}
 use Rattle.exhaustive.specs.Exhaustive.{locationOf, dispersionOf, assignmentOf, hits, locationHits, dispersionHits, assignmentHits, judgement, coordinates, exhaustive}
 use Rattle.exhaustive.specs.Call.{Slices, Called, lengthsOf, lentOf, tooShort, early, lines, called, callIn, callBy, outcomeOf, exhaustiveCall}
 use Rattle.exhaustive.specs.Settled.{coordsOf, Sized, outcomeFor, callFew, Long, Ready}
@@ -112,7 +113,7 @@ module _ (lot : Lot) (labelled : length (lot .labels) ≡ lot .n) (few : lot .n 
     answer-lot =
         answer-made
         ∙ ap₂ made (assigned-is gs own-way)
-        (countIf-cong (λ way. asRight (assigned gs) (assigned way)) (λ way. asRight (assignmentOf lot x gs) (assignmentOf lot x way)) (ways lot)
+        (count-cong (λ way. asRight (assigned gs) (assigned way)) (λ way. asRight (assignmentOf lot x gs) (assignmentOf lot x way)) (ways lot)
         (λ way w. ap₂ asRight (assigned-is gs own-way) (assigned-is way (every-way lot .sound way w))))
 
   -- by what the ordination gives

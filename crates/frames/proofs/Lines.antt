@@ -13,6 +13,7 @@ use Rattle.reader.specs.Frame.{noFrame, frame}
 use Rattle.frames.specs.Lines.{feed, lines}
 use Rattle.frames.specs.Frames.{head, tail}
 use Rattle.frames.specs.Reached.{framesFrom, IsLine}
+use Rattle.lists.proofs.Searches.{first-within}
 
 -- the line that c begins, or not, and the lines after it
 more : Bool → ℕ → List (List ℕ) → List (List ℕ)
@@ -41,18 +42,9 @@ lines-split (c ∷ d ∷ s) h = more-split (feed c) c (firstAt feed (d ∷ s)) (
 
 -- ---- the line at a place of a text
 
-first-most : (s : List ℕ) → firstAt feed s ≤ length s
-unfolding firstAt
-first-most [] = omega arith
-first-most (c ∷ s) = by (feed c) (first-most s)
-  where
-    by : (b : Bool) → firstAt feed s ≤ length s → cond b 0 (suc (firstAt feed s)) ≤ suc (length s)
-    by true h = omega arith
-    by false h = omega arith
-
 pub line-end-in : (text : List ℕ) (at : ℕ) → at ≤ length text → at + firstAt feed (drop at text) ≤ length text
 line-end-in text at h =
-    let a = first-most (drop at text) in
+    let a = first-within feed (drop at text) in
     let b = length-drop at text in omega arith
 
 pub lines-from : (text : List ℕ) (at e : ℕ) → at < length text → e ≡ at + firstAt feed (drop at text) →

@@ -26,7 +26,8 @@ use Rattle.gram.specs.Gram.{selected, frequency, gram}
 use Rattle.gram.specs.Lines.{falls, badOffsets, tooShort, gramLines, earlyLines, lateLines}
 use Rattle.gram.specs.Columns.{Chosen, Offsets, columnGram}
 use Rattle.gram.specs.Call.{features, outcomeOf, Checked, Called, leaves, gramCall, called}
-use Rattle.gram.proofs.Extra.{or-no, any-no}
+use Rattle.lists.proofs.Truths.{or-neither}
+use Rattle.lists.proofs.Searches.{any-no}
 use Rattle.gram.proofs.Tables.{lines-pass, early-refuses, early-passes, refusal-untouched, answers, judged-passes, judged-refused}
 use Rattle.gram.proofs.Columns.{gram-is}
 
@@ -46,9 +47,9 @@ offsets-fit n hashes offsets e =
     let wide = not (eqb (length offsets) (n + 1)) in
     let from = not (eqb (o 0) 0) in
     let to = not (eqb (o n) hashes) in
-    let a = or-no (wide || from || to) (falls n offsets) e in
-    let b = or-no (wide || from) to (a .0) in
-    let c = or-no wide from (b .0) in
+    let a = or-neither (wide || from || to) (falls n offsets) e in
+    let b = or-neither (wide || from) to (a .0) in
+    let c = or-neither wide from (b .0) in
     let last : o n ≡ hashes = eqb-true _ _ (not-false _ (b .1)) in
     let step : (i : ℕ) → i < n → o i ≤ o (i + 1) = λ i h. ltb-false (o (i + 1)) (o i) (any-no (λ i. ltb (o (i + 1)) (o i)) n (a .1) i h) in
     record {
@@ -81,9 +82,9 @@ accepted n hashes offsets short beyond e =
     let l₃ = lines-pass (Ordination when ltb n 3) _ (l₂ .1) in
     let l₆ = lines-pass (Ordination when eqb m 0) _ (l₃ .1) in
     let l₇ = lines-pass (Hashes when ltb 4096 m) _ (l₆ .1) in
-    let a = or-no (badOffsets n (length hashes) offsets) short (l₁ .0) in
-    let b = or-no (ltb 256 n || ltb 65536 (length hashes)) beyond (l₂ .0) in
-    let c = or-no (ltb 256 n) (ltb 65536 (length hashes)) (b .0) in
+    let a = or-neither (badOffsets n (length hashes) offsets) short (l₁ .0) in
+    let b = or-neither (ltb 256 n || ltb 65536 (length hashes)) beyond (l₂ .0) in
+    let c = or-neither (ltb 256 n) (ltb 65536 (length hashes)) (b .0) in
     record {
       sets = offsets-fit n (length hashes) offsets (a .0);
       enough = a .1;
@@ -110,8 +111,8 @@ module _ (n : ℕ) (hashes offsets : List ℕ) (short beyond : Bool) where
   early-passed e =
       let l₁ = lines-pass (Length when badOffsets n (length hashes) offsets || short) _ e in
       let l₂ = lines-pass (Limit when ltb 256 n || ltb 65536 (length hashes) || beyond) _ (l₁ .1) in
-      let b = or-no (ltb 256 n || ltb 65536 (length hashes)) beyond (l₂ .0) in
-      let c = or-no (ltb 256 n) (ltb 65536 (length hashes)) (b .0) in
+      let b = or-neither (ltb 256 n || ltb 65536 (length hashes)) beyond (l₂ .0) in
+      let c = or-neither (ltb 256 n) (ltb 65536 (length hashes)) (b .0) in
       (ltb-false _ _ (c .0), ltb-false _ _ (c .1))
 
   pub features-early : (r : Refusal) → asked ≡ Refused r → refused r ≡ features n hashes offsets short beyond
@@ -184,8 +185,8 @@ module _ (n : ℕ) (hashes offsets : List ℕ) (short beyond : Bool) where
 pub long-enough : (n out words : ℕ) → tooShort n out words ≡ false → (n * n ≤ out) × (n * 64 ≤ words)
 unfolding tooShort short any
 long-enough n out words e =
-    let a = or-no (ltb out (n * n)) _ e in
-    let b = or-no (ltb words (n * 64)) false (a .1) in
+    let a = or-neither (ltb out (n * n)) _ e in
+    let b = or-neither (ltb words (n * 64)) false (a .1) in
     (ltb-false _ _ (a .0), ltb-false _ _ (b .0))
 
 module _ (n : ℕ) (hashes offsets : List ℕ) (out : List Float) (words : List ℕ) where

@@ -12,7 +12,7 @@ use lib.Seq.{drop-set-lt, drop-set-add, take-set-le}
 use Rattle.lists.specs.Filters.{countIf}
 use Rattle.lists.specs.Ranges.{range, table}
 use Rattle.lists.proofs.Ranges.{table-range}
-use Rattle.gram.proofs.Extra.{drop-map}
+use Rattle.lists.proofs.Parts.{drop-map}
 use Rattle.gram.specs.Bits.{bit, pack, packed, common}
 
 -- ---- one word

@@ -19,11 +19,14 @@ use Rattle.lists.specs.Writes.{over}
 use Rattle.lists.proofs.Ranges.{length-table, getD-table}
 use Rattle.lists.proofs.Filters.{drop-more}
 use Rattle.lists.proofs.Writes.{getD-over}
-use Rattle.sorting.proofs.Extra.{count-places}
+use Rattle.lists.proofs.Counts.{count-places, count-below}
+use Rattle.lists.proofs.Truths.{same-or-not, never}
+use Rattle.lists.proofs.Grids.{row-rows, grid-ext}
+use Rattle.lists.proofs.Tallies.{stands-cons}
+use Rattle.lists.proofs.Parts.{drop-map, take-map, getD-map-in}
 use Rattle.gram.specs.Gram.{setAt, sets, selected, frequency, meanSum, shared, gram}
 use Rattle.gram.specs.Bits.{packed, common}
 use Rattle.gram.specs.Columns.{none, columnOf, square, columnSum, present, entryAt, columnGram}
-use Rattle.gram.proofs.Extra.{same-or-not, row-rows, never, stands-cons, drop-map, take-map, getD-map-in, count-below, grid-ext}
 use Rattle.gram.proofs.Bits.{common-packed, both-table, length-packed}
 use Rattle.gram.proofs.Upward.{Upward, upward-upward, position-at, stands-at}
 
@@ -54,7 +57,7 @@ module _ (n w : ℕ) (columns offsets : List ℕ) (means : List Float) (enough :
   pub matrix-is : grid n n (λ i j. entryAt w words sums t (min i j) (max i j)) ≡ columnGram n columns offsets means
   unfolding columnGram entryAt
   matrix-is =
-      grid-ext _ _ n n
+      grid-ext n n _ _
       (λ i j h g. entry-is (min i j) (max i j) (omega arith) (omega arith))
     where
       entry-is : (i j : ℕ) → i < n → j < n → num (common (row w i words) (row w j words)) ⊖ getD sums i nan ⊖ getD sums j nan ⊕ t
@@ -203,4 +206,4 @@ module _ (n : ℕ) (hashes offsets : List ℕ) (few : length (selected n hashes)
 
   pub gram-is : columnGram n columns offsets means ≡ gram n hashes offsets
   unfolding columnGram gram
-  gram-is = grid-ext _ _ n n (λ i j h g. entry-is (min i j) (max i j) (omega arith) (omega arith))
+  gram-is = grid-ext n n _ _ (λ i j h g. entry-is (min i j) (max i j) (omega arith) (omega arith))

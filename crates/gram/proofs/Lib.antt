@@ -1,5 +1,4 @@
 -- The laws of the loops, and what they leave is the Gram matrix of the definition.
-pub mod Extra
 pub mod Bits
 pub mod Sets
 pub mod Matrix

@@ -14,7 +14,7 @@ use Rattle.lists.specs.Writes.{over}
 use Rattle.lists.proofs.Ranges.{range-none, range-last, length-range, map-last, length-table, getD-table, table-last, rows-last, length-rows}
 use Rattle.lists.proofs.Rows.{row-end, cell-below, getD-row}
 use Rattle.lists.proofs.Writes.{over-next, over-all, length-over, drop-over}
-use Rattle.gram.proofs.Extra.{row-rows}
+use Rattle.lists.proofs.Grids.{row-rows}
 
 -- ---- a row from place i on
 

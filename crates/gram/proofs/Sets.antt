@@ -22,7 +22,8 @@ use Rattle.lists.proofs.Filters.{drop-more, keep-yes, keep-no}
 use Rattle.lists.proofs.Sums.{left-turn, left-end}
 use Rattle.gram.specs.Bits.{common}
 use Rattle.gram.specs.Columns.{present}
-use Rattle.gram.proofs.Extra.{or-false, or-true, same-or-not, stands-next}
+use Rattle.lists.proofs.Truths.{or-false, or-true, same-or-not}
+use Rattle.lists.proofs.Tallies.{stands-next}
 
 -- ---- the sum of the means
 

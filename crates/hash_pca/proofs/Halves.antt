@@ -27,7 +27,7 @@ use Rattle.gram.specs.Call as of-gram
 use Rattle.gram.specs.Call.{features, outcomeOf, Checked}
 use Rattle.gram.proofs.Tables.{refusal-untouched, judged-passes, judged-refused}
 use Rattle.gram.proofs.Accepted.{Accepted, accepted, checked-gram}
-use Rattle.jacobi.proofs.Extra.{or-false}
+use Rattle.lists.proofs.Truths.{or-neither}
 use Rattle.coordinates.specs.Finish.{Coordinates}
 use Rattle.coordinates.specs.Pcoa.{ordinate, hashPca}
 use Rattle.pcoa.specs.Given.{written}
@@ -189,7 +189,7 @@ words-test words n = by (ltb (words / 64) n) refl
 pub lent : (k n out b w m v words : ℕ) → lacking k n out b w m v words ≡ false → Lent k n out b w m v words
 unfolding lacking
 lent k n out b w m v words e =
-    let s = or-false (tooShort k n out b w m v) (ltb words (n * 64)) e in
+    let s = or-neither (tooShort k n out b w m v) (ltb words (n * 64)) e in
     record { room = long-enough k n out b w m v (s .0); sets = ltb-false _ _ (s .1) }
 
 -- ---- the whole call

@@ -27,7 +27,9 @@ use Rattle.rotation.specs.Rotation.{turned}
 use Rattle.rotation.specs.Sweeps.{Swept, swept, sweepsFrom}
 use Rattle.jacobi.specs.Eigen.{identity, diagonal, descending, valuesIn, vectorsIn, Eigen, eigenpairs, jacobi}
 use Rattle.jacobi.specs.Call.{misfits, notFinite, jacobiLines, sweepsOf, written, Called, leaves, jacobiCall, outcomeOf, called, eigenOf, Solved, solved, solution}
-use Rattle.jacobi.proofs.Extra.{over-front, or-false, first-passed, first-untouched}
+use Rattle.lists.proofs.Parts.{over-front}
+use Rattle.lists.proofs.Truths.{or-neither}
+use Rattle.outcome.proofs.Table.{first-passed, first-untouched}
 use Rattle.jacobi.proofs.Order.{length-descending, descending-below}
 use Rattle.jacobi.proofs.Filling.{length-gathered}
 
@@ -194,10 +196,10 @@ unfolding jacobiLines misfits short any
 passed-fits n a out m v e =
     let one = first-passed Length _ (misfits n a out m v) e in
     let two = first-passed Limit _ (ltb 256 n) (one .1) in
-    let lengths = or-false (unfit a (n * n)) _ (one .0) in
-    let o = or-false (ltb out (n + n * n)) _ (lengths .1) in
-    let w = or-false (ltb m (n * n)) _ (o .1) in
-    let x = or-false (ltb v (n * n)) _ (w .1) in
+    let lengths = or-neither (unfit a (n * n)) _ (one .0) in
+    let o = or-neither (ltb out (n + n * n)) _ (lengths .1) in
+    let w = or-neither (ltb m (n * n)) _ (o .1) in
+    let x = or-neither (ltb v (n * n)) _ (w .1) in
     record {
       a-fits = eqb-true _ _ (not-false _ (lengths .0));
       out-fits = ltb-false _ _ (o .0);

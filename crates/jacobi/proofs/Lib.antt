@@ -1,5 +1,4 @@
 -- What the proofs of the functions share.
-pub mod Extra
 pub mod Order
 pub mod Filling
 pub mod Call

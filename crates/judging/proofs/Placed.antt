@@ -1,12 +1,12 @@
 -- The group of each sample, put sample by sample on those that are kept. Assumes nothing.
-use mathlib.Core.Path.{_≡_, refl, sym, ap, ap₂, subst, _∙_}
+use mathlib.Core.Path.{_≡_, refl, sym, ap, subst, _∙_}
 use mathlib.Core.Bool.{Bool, true, false, not, cond, _||_, true≢false}
 use mathlib.Core.List.{List, map, List·Memᴰ as Member}
 use Prim.Native.Nat.{ℕ, zero, suc, _<_, _≤_}
 use native.Mathlib.Omega.{arith}
 use native.Mathlib.Decide.{ℕ-discrete}
 use borrow.Author.Tests.{eq-eqb, ne-eqb, eqb-true, ltb-true}
-use lib.Dec.{eqb, ltb}
+use lib.Dec.{eqb}
 use lib.ListN.{length, getD, set, replicate, length-set, length-map, length-replicate, List·getD-map, getD-replicate}
 use lib.Seq.{ext-getD, getD-set-same, getD-set-other}
 use Rattle.lists.specs.Ranges.{range}
@@ -16,9 +16,10 @@ use Rattle.lists.specs.Numbers.{stands, position, Below}
 use Rattle.lists.proofs.Loops.{length-inTurn}
 use Rattle.lot.specs.Lot.{none}
 use Rattle.lot.specs.Kept.{kept, gathered, keptLabels, names, groups, groupEach}
-use Rattle.lot.proofs.Extra.{getD-either, any-first, found-passes}
-use Rattle.lot.proofs.Membership.{member-range, range-member, member-getD, member-keep, keep-member, member-any}
-use Rattle.lot.proofs.Samples.{kept-below, length-groups}
+use Rattle.lists.proofs.Parts.{getD-either}
+use Rattle.lists.proofs.Searches.{any-first, found-passes}
+use Rattle.lists.proofs.Members.{range-member, member-getD, member-keep, keep-member, member-any}
+use Rattle.lot.proofs.Samples.{kept-below}
 use Rattle.moments.specs.Moments.{grouped}
 use Rattle.dapc.proofs.Grouping.{length-each, grouped-kept}
 use Rattle.judging.specs.Judging.{placed}

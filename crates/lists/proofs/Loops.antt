@@ -1,6 +1,6 @@
 -- A loop that has made k turns makes one more. Assumes nothing.
 -- The invariant is `x ≡ inTurn step k x₀`; it begins by `refl` at 0, a turn is `inTurn-next _ _ _ inv ensures`. No induction in any function's proof.
-use mathlib.Core.Path.{_≡_, refl, sym, ap, _∙_}
+use mathlib.Core.Path.{_≡_, refl, sym, ap, subst, _∙_}
 use mathlib.Core.List.{List}
 use Prim.Native.Nat.{ℕ, zero, suc, _+_, _-_, _<_, _≤_}
 use native.Mathlib.Nat.{sub-self}
@@ -55,6 +55,30 @@ module _ {A : Type 0} where
   unfolding inTurn
   inTurn-keeps P step keeps zero a p = p
   inTurn-keeps P step keeps (suc n) a p = keeps n (inTurn step n a) (inTurn-keeps P step keeps n a p)
+
+  -- a loop carries a fact from turn to turn
+  pub inTurn-carries : (P : ℕ → A → Type 0) (step : ℕ → A → A) (n : ℕ) (a : A) → P 0 a → ((k : ℕ) (b : A) → k < n → P k b → P (k + 1) (step k b)) → P n (inTurn step n a)
+  unfolding inTurn
+  inTurn-carries P step zero a p carries = p
+  inTurn-carries P step (suc n) a p carries =
+      subst (λ (k : ℕ). P k (step n (inTurn step n a))) (add-one n)
+      (carries n (inTurn step n a) (omega arith) (inTurn-carries P step n a p (λ k b h. carries k b (omega arith))))
+
+  pub fromTo-carries : (P : ℕ → A → Type 0) (step : ℕ → A → A) (lo hi : ℕ) (a : A) → lo ≤ hi → P lo a
+      → ((k : ℕ) (b : A) → lo ≤ k → k < hi → P k b → P (k + 1) (step k b)) → P hi (fromTo step lo hi a)
+  unfolding fromTo
+  fromTo-carries P step lo hi a h p carries =
+      let start : lo ≡ lo + 0 = omega arith in
+      let end : lo + (hi - lo) ≡ hi = omega arith in
+      subst (λ (k : ℕ). P k (inTurn (λ j. step (lo + j)) (hi - lo) a)) end
+      (inTurn-carries (λ j b. P (lo + j) b) (λ j. step (lo + j)) (hi - lo) a (subst (λ (k : ℕ). P k a) start p)
+      (λ j b g q. let next : lo + j + 1 ≡ lo + (j + 1) = omega arith in subst (λ (k : ℕ). P k (step (lo + j) b)) next (carries (lo + j) b (omega arith) (omega arith) q)))
+
+  -- equal steps, equal loops
+  pub inTurn-ext : (f h : ℕ → A → A) (n : ℕ) (a : A) → ((k : ℕ) (b : A) → k < n → f k b ≡ h k b) → inTurn f n a ≡ inTurn h n a
+  unfolding inTurn
+  inTurn-ext f h zero a e = refl
+  inTurn-ext f h (suc n) a e = ap (f n) (inTurn-ext f h n a (λ k b g. e k b (omega arith))) ∙ e n (inTurn h n a) (omega arith)
 
 -- a loop over a list whose every turn keeps the length
 pub length-inTurn : {A : Type 0} (step : ℕ → List A → List A) → ((k : ℕ) (l : List A) → length (step k l) ≡ length l) →

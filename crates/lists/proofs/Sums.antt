@@ -9,10 +9,10 @@ use Prim.Native.Nat.{ℕ, _+_, _<_, _≤_}
 use lib.ListN.{length, getD, drop, drop-of-length-le}
 use lib.Ieee.{Float}
 use Rattle.float.specs.Floats.{_⊕_}
-use Rattle.lists.specs.Ranges.{range, table}
+use Rattle.lists.specs.Ranges.{range, table, rows}
 use Rattle.lists.specs.Filters.{keep, pairs, orderedPairs}
 use Rattle.lists.specs.Sums.{sumFrom}
-use Rattle.lists.proofs.Ranges.{range-more, range-none, table-range}
+use Rattle.lists.proofs.Ranges.{range-more, range-none, table-range, rows-last}
 use Rattle.lists.proofs.Filters.{drop-more, keep-step-yes, keep-step-no, keep-done}
 
 pub sum-append : (s : Float) (xs ys : List Float) → sumFrom s (xs ++ ys) ≡ sumFrom (sumFrom s xs) ys
@@ -104,3 +104,13 @@ module _ {A B : Type 0} (f : A → B → Float) (s : Float) {t : Float} (l : Lis
   pub ordered-end : length l ≤ i → sumFrom s (orderedPairs f (drop i l) ys) ≡ t → s ≡ t
   unfolding sumFrom orderedPairs
   ordered-end h inv = ap (λ (ks : List A). sumFrom s (orderedPairs f ks ys)) (sym (drop-of-length-le l h)) ∙ inv
+
+-- ---- a sum over rows, one row more
+
+pub sum-rows-none : (s : Float) (f : ℕ → List Float) → s ≡ sumFrom s (rows 0 f)
+unfolding sumFrom rows
+sum-rows-none s f = refl
+
+pub sum-rows-next : (s : Float) (f : ℕ → List Float) (k : ℕ) {t t′ : Float} → t ≡ sumFrom s (rows k f) → t′ ≡ sumFrom t (f k) → t′ ≡ sumFrom s (rows (k + 1) f)
+sum-rows-next s f k e h =
+    h ∙ ap (λ (x : Float). sumFrom x (f k)) e ∙ sym (sum-append s (rows k f) (f k)) ∙ ap (sumFrom s) (sym (rows-last f k))

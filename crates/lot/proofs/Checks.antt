@@ -15,7 +15,7 @@ use Rattle.lot.specs.Lot.{Lot}
 use Rattle.lot.specs.Kept.{groupCount}
 use Rattle.lot.specs.Lines.{badDistance, badWeight, misfits, testLines}
 use Rattle.lot.specs.Described.{samplesOf, Room}
-use Rattle.lot.proofs.Extra.{or-neither}
+use Rattle.lists.proofs.Truths.{or-neither}
 
 -- ---- a lot whose parts fit n
 

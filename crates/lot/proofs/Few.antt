@@ -10,9 +10,10 @@ use Rattle.lists.specs.Filters.{firstAt}
 use Rattle.lists.specs.Numbers.{howMany}
 use Rattle.lot.specs.Lot.{none}
 use Rattle.lot.specs.Kept.{twice, names, keptLabels, groupCount}
-use Rattle.lot.proofs.Extra.{and-both, any-missing, found-passes}
-use Rattle.lot.proofs.Membership.{member-getD, any-fails}
-use Rattle.lot.proofs.Upward.{upward-one, upward-two}
+use Rattle.lists.proofs.Truths.{and-both}
+use Rattle.lists.proofs.Searches.{any-missing, found-passes}
+use Rattle.lists.proofs.Members.{member-getD, any-fails}
+use Rattle.lists.proofs.Upward.{upward-one, upward-two}
 use Rattle.lot.proofs.Within.{kept-twice, twice-kept}
 
 module _ (labels : List ℕ) where

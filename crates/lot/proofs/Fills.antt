@@ -12,7 +12,7 @@ use Rattle.lists.specs.Writes.{over}
 use Rattle.lists.proofs.Filters.{kept-last-yes, kept-last-no}
 use Rattle.lists.proofs.Writes.{over-none, over-next, length-over, take-over}
 use Rattle.lot.specs.Filled.{Filled}
-use Rattle.lot.proofs.Extra.{over-over, over-take}
+use Rattle.lists.proofs.Parts.{over-over, over-take}
 
 -- a list's own front
 pub filled-take : (l : List ℕ) (k : ℕ) → k ≤ length l → Filled (take k l) l l k

@@ -13,8 +13,8 @@ use Rattle.lists.specs.Numbers.{inGroup, members}
 use Rattle.lot.specs.Strata.{informs}
 use Rattle.lot.specs.Way.{tally}
 use Rattle.lot.proofs.Tallies.{Counted, tally-own, tally-some}
-use Rattle.lot.proofs.Extra.{and-both}
-use Rattle.lot.proofs.Membership.{member-range, range-member, member-keep, keep-member, member-any, any-member, none-any, any-fails}
+use Rattle.lists.proofs.Truths.{and-both}
+use Rattle.lists.proofs.Members.{member-range, range-member, member-keep, keep-member, member-any, any-member, none-any, any-fails}
 
 -- the sample b is of stratum s and not in group g
 abbrev pub other : List ℕ → List ℕ → ℕ → ℕ → ℕ → Bool

@@ -1,12 +1,9 @@
 -- The laws of a lot.
-pub mod Extra
 pub mod Fills
 pub mod Inserts
 pub mod Samples
 pub mod Numbering
-pub mod Membership
 pub mod Informing
-pub mod Upward
 pub mod Places
 pub mod Few
 pub mod Checks

@@ -2,7 +2,7 @@
 use mathlib.Core.Path.{_≡_, refl, sym, ap, ap₂, _∙_}
 use mathlib.Core.Bool.{Bool, true, false, not, cond}
 use mathlib.Core.List.{List, [], _∷_, _++_, map, foldl}
-use Prim.Native.Nat.{ℕ, zero, _+_, _-_, _<_, _≤_}
+use Prim.Native.Nat.{ℕ, zero, _+_, _<_, _≤_}
 use native.Mathlib.Nat.{add-zero}
 use native.Mathlib.Omega.{arith}
 use borrow.Author.Tests.{eq-eqb, ne-eqb}
@@ -21,8 +21,8 @@ use Rattle.lot.specs.Filled.{Filled}
 use Rattle.lot.specs.Kept.{gathered}
 use Rattle.lot.specs.Strata.{named, noted, numbered}
 use Rattle.lot.specs.Described.{Stratified}
-use Rattle.lot.proofs.Extra.{over-lent, over-back, getD-either, take-more}
-use Rattle.lot.proofs.Membership.{see}
+use Rattle.lists.proofs.Parts.{over-lent, over-back, getD-either, take-more}
+use Rattle.lists.proofs.Members.{see}
 use Rattle.lot.proofs.Fills.{filled-none, filled-take, filled-as, filled-more, filled-over, filled-front}
 use Rattle.lot.proofs.Samples.{front-gathered, length-gathered}
 

@@ -14,8 +14,9 @@ use Rattle.lot.specs.Lot.{Lot, none}
 use Rattle.lot.specs.Kept.{twice, kept, gathered, keptLabels, names, groups, keptCount}
 use Rattle.lot.specs.Strata.{named, numbered, heldStrata, strata, strataCount, informative, informativeCount}
 use Rattle.lot.specs.Way.{IsWay, relabelled, SameLot}
-use Rattle.lot.proofs.Membership.{below-member, member-howMany, howMany-member, keep-cong, countIf-cong, countIf-map}
-use Rattle.lot.proofs.Upward.{upward-same}
+use Rattle.lists.proofs.Members.{below-member, member-howMany, howMany-member, keep-cong}
+use Rattle.lists.proofs.Counts.{count-cong, count-map}
+use Rattle.lists.proofs.Upward.{upward-same}
 use Rattle.lot.proofs.Places.{kept-labels}
 use Rattle.lot.proofs.Samples.{length-groups}
 use Rattle.lot.proofs.Within.{name, map-back, kept-twice, twice-kept, groups-below, name-twice, position-name, groups-named, strata-below, length-strata}
@@ -63,8 +64,8 @@ module _ (lot : Lot) (way : List ℕ) (is-way : IsWay lot way) where
     arith,
     count-onKept (twice old) (name old) old way names-pass as-many q,
     ap (countIf q) (groups-named old ∙ kept-labels old),
-    countIf-map q (name old) way,
-    countIf-map q (name old) (groups old),
+    count-map q (name old) way,
+    count-map q (name old) (groups old),
     count-same (λ j. q (name old j)) (groups old) way same-groups (length (names old)) (groups-below old) way-below,
   )
 
@@ -144,7 +145,7 @@ module _ (lot : Lot) (way : List ℕ) (is-way : IsWay lot way) where
   unfolding informativeCount informative keptCount
   same-informative =
       (λ i. informative (same-strata i) (groups-way i) (length (same-kept i)))
-      ∙ countIf-cong _ _ (range 0 (length (kept old))) (λ k m. informs-same (strata lot) (groups old) way (length (kept old))
+      ∙ count-cong _ _ (range 0 (length (kept old))) (λ k m. informs-same (strata lot) (groups old) way (length (kept old))
       (length-strata lot) (length-groups old) (is-way .labelsAll) (is-way .keepsCounts) (getD (strata lot) k 0))
 
   pub same-lot : SameLot lot way

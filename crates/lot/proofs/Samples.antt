@@ -2,7 +2,7 @@
 use mathlib.Core.Path.{_≡_, refl, sym, ap, _∙_, subst}
 use mathlib.Core.Bool.{Bool, true, cond}
 use mathlib.Core.List.{List, _++_, map}
-use Prim.Native.Nat.{ℕ, _+_, _-_, _≤_}
+use Prim.Native.Nat.{ℕ, _+_, _≤_}
 use native.Mathlib.Omega.{arith}
 use lib.ListN.{length, getD, take, drop, length-map}
 use lib.Ieee.{Float}
@@ -18,7 +18,8 @@ use Rattle.lot.specs.Kept.{twice, kept, gathered, keptLabels, names, gro
 use Rattle.lot.specs.Strata.{named, numbered, heldStrata, strata, strataCount}
 use Rattle.lot.specs.declared.groups.Sizes.{Sizes}
 use Rattle.lot.specs.Described.{samplesOf, Grouped, Stratified, Described}
-use Rattle.lot.proofs.Extra.{keep-below, over-back}
+use Rattle.lists.proofs.Members.{keep-below}
+use Rattle.lists.proofs.Parts.{over-back}
 use Rattle.lot.proofs.Fills.{filled-as, filled-front, filled-long}
 use Rattle.lot.proofs.Inserts.{length-upward}
 

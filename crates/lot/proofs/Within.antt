@@ -14,9 +14,9 @@ use Rattle.lists.proofs.Filters.{countIf-append, countIf-yes}
 use Rattle.lot.specs.Lot.{Lot, none}
 use Rattle.lot.specs.Kept.{twice, kept, keptLabels, names, groups, keptCount}
 use Rattle.lot.specs.Strata.{named, numbered, heldStrata, strata, strataCount}
-use Rattle.lot.proofs.Extra.{take-more}
-use Rattle.lot.proofs.Membership.{member-getD, member-keep, keep-member, below-map, member-firsts}
-use Rattle.lot.proofs.Upward.{Upward, upward-upward, upward-member, member-upward, position-at, at-position, position-below}
+use Rattle.lists.proofs.Parts.{take-more}
+use Rattle.lists.proofs.Members.{member-getD, member-keep, keep-member, below-map, member-firsts}
+use Rattle.lists.proofs.Upward.{Upward, upward-upward, upward-member, member-upward, position-at, at-position, position-below}
 use Rattle.lot.proofs.Places.{kept-labels}
 use Rattle.lot.proofs.Samples.{length-gathered}
 use Rattle.lot.proofs.Numbering.{numberAt, length-numbered}

@@ -16,7 +16,7 @@ use Rattle.lists.specs.Rows.{entry}
 use Rattle.lists.proofs.Ranges.{length-grid}
 use Rattle.lists.proofs.Sums.{kept-turn, kept-pass, kept-end}
 use Rattle.lists.proofs.Rows.{row-end, length-on-row, length-part, entry-grid}
-use Rattle.moments.proofs.Extra.{grid-of, entry-put, entry-put-other}
+use Rattle.lists.proofs.Grids.{grid-of, entry-put, entry-put-other}
 
 -- the whole sum in a cell that held s
 abbrev pub cellSum : (ℕ → Bool) → (ℕ → Float) → ℕ → ℕ → Float → Float

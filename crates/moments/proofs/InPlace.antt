@@ -13,7 +13,7 @@ use Rattle.lists.specs.Rows.{entry, row}
 use Rattle.lists.proofs.Ranges.{length-table, getD-table, table-ext}
 use Rattle.lists.proofs.Rows.{row-end, length-row, row-entry}
 use Rattle.lists.proofs.Writes.{Filling, filling-none, filling-next, filling-all}
-use Rattle.moments.proofs.Extra.{part-entry, filling-here}
+use Rattle.lists.proofs.Grids.{part-entry, filling-here}
 
 module _ (n w : ℕ) (g : ℕ → ℕ → Float) (old : List Float) where
   -- k rows are worked out

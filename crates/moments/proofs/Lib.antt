@@ -1,5 +1,4 @@
 -- Laws by which loops add up sums and counts and fill matrices, and laws of the shared words that stand in no crate below.
-pub mod Extra
 pub mod Adding
 pub mod InPlace
 pub mod Counting

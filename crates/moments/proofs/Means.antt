@@ -18,7 +18,7 @@ use Rattle.lists.proofs.Rows.{row-end, length-part, entry-grid}
 use Rattle.lot.specs.Lot.{none}
 use Rattle.lot.specs.Kept.{sizes}
 use Rattle.moments.specs.Moments.{grouped, overallMean, columnMean, meanOf, groupMeans}
-use Rattle.moments.proofs.Extra.{part-entry, first-row, grid-one, grid-ext, entry-replicate}
+use Rattle.lists.proofs.Grids.{part-entry, first-row, grid-one, grid-ext, entry-replicate}
 use Rattle.moments.proofs.Adding.{Adding, adding-grid, adding-pass, adding-row, adding-all, cellSum}
 use Rattle.moments.proofs.Counting.{length-sizes, getD-sizes}
 use Rattle.moments.proofs.Groups.{has-group, has-none, in-own, in-one, in-none}

@@ -3,7 +3,7 @@
 use mathlib.Core.Path.{_≡_, refl, sym, ap, ap₂, subst, _∙_}
 use mathlib.Core.Bool.{Bool, true, cond}
 use mathlib.Core.List.{List, [], _∷_, map}
-use Prim.Native.Nat.{ℕ, _+_, _-_, _*_, _<_, _≤_}
+use Prim.Native.Nat.{ℕ, _+_, _*_, _<_, _≤_}
 use native.Mathlib.Omega.{arith}
 use lib.Dec.{eqb}
 use lib.ListN.{length, getD, replicate}
@@ -20,7 +20,7 @@ use Rattle.lists.proofs.Sums.{sum-table}
 use Rattle.lot.specs.Lot.{none}
 use Rattle.lot.specs.Kept.{sizes}
 use Rattle.moments.specs.Moments.{grouped, off, groupOff, meanOf, groupMeans, scatterWithin, scatterBetween, ridge, ridged, Filled}
-use Rattle.moments.proofs.Extra.{part-entry, grid-ext, entry-replicate}
+use Rattle.lists.proofs.Grids.{part-entry, grid-ext, entry-replicate}
 use Rattle.moments.proofs.Adding.{Adding, adding-grid, adding-pass, adding-all, cellSum}
 use Rattle.moments.proofs.Counting.{length-sizes, getD-sizes}
 use Rattle.moments.proofs.Groups.{has-group, has-none}

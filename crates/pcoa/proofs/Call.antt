@@ -16,7 +16,7 @@ use Rattle.outcome.specs.declared.Check.the-variants.{Passed, Refused}
 use Rattle.outcome.specs.Refusals.{first}
 use Rattle.outcome.specs.Outcome.{Outcome, answered, refused, judged, andThen}
 use Rattle.outcome.specs.Slices.{untouched, output, work}
-use Rattle.jacobi.proofs.Extra.{first-untouched}
+use Rattle.outcome.proofs.Table.{first-untouched}
 use Rattle.topeigs.specs.TopEigs.{topEigs}
 use Rattle.topeigs.proofs.Whole.{top-min}
 use Rattle.coordinates.specs.Finish.{Coordinates, finish, laid}

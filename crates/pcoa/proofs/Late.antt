@@ -17,7 +17,7 @@ use Rattle.outcome.specs.Slices.{untouched, output, work}
 use Rattle.rotation.specs.Sweeps.{Swept, sweepsFrom}
 use Rattle.rotation.specs.Rotation.{turned}
 use Rattle.jacobi.specs.Eigen.{identity, diagonal, eigenpairs, jacobi}
-use Rattle.jacobi.proofs.Extra.{over-front}
+use Rattle.lists.proofs.Parts.{over-front}
 use Rattle.ritz.specs.Ritz.{Pairs, rayleighRitz}
 use Rattle.topeigs.specs.TopEigs.{leading, byBlock, topEigs}
 

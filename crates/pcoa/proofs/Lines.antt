@@ -14,7 +14,8 @@ use Rattle.outcome.specs.declared.Refusal.the-variants.{Length, Limit, Value, O
 use Rattle.outcome.specs.declared.Check.{Check}
 use Rattle.outcome.specs.declared.Check.the-variants.{Passed, Refused}
 use Rattle.outcome.specs.Refusals.{first, unfit, short}
-use Rattle.jacobi.proofs.Extra.{or-false, first-passed}
+use Rattle.lists.proofs.Truths.{or-neither}
+use Rattle.outcome.proofs.Table.{first-passed}
 use Rattle.lot.specs.Lines.{badDistance}
 use Rattle.pcoa.specs.Given.{Room}
 use Rattle.pcoa.specs.Call.{tooShort, badComponents, pcoaLines}
@@ -79,11 +80,11 @@ module _ (k n out b w m v : ℕ) where
 pub long-enough : (k n out b w m v : ℕ) → tooShort k n out b w m v ≡ false → Room k n out b w m v
 unfolding tooShort short any
 long-enough k n out b w m v e =
-    let o = or-false (ltb out (k + k + n * k)) _ e in
-    let b₁ = or-false (ltb b (n * n)) _ (o .1) in
-    let w₁ = or-false (ltb w (n + n * n)) _ (b₁ .1) in
-    let m₁ = or-false (ltb m (n * n)) _ (w₁ .1) in
-    let v₁ = or-false (ltb v (n * n)) _ (m₁ .1) in
+    let o = or-neither (ltb out (k + k + n * k)) _ e in
+    let b₁ = or-neither (ltb b (n * n)) _ (o .1) in
+    let w₁ = or-neither (ltb w (n + n * n)) _ (b₁ .1) in
+    let m₁ = or-neither (ltb m (n * n)) _ (w₁ .1) in
+    let v₁ = or-neither (ltb v (n * n)) _ (m₁ .1) in
     record {
       out-fits = ltb-false _ _ (o .0);
       b-fits = ltb-false _ _ (b₁ .0);
@@ -100,7 +101,7 @@ pub record Asked (k n : ℕ) : Type 0 where
 pub asked : (components n : ℕ) {k : ℕ} → badComponents components ≡ false → k ≡ min components n → Asked k n
 unfolding badComponents
 asked components n {k} h e =
-    let most : components ≤ 16 = ltb-false _ _ (or-false (eqb components 0) (ltb 16 components) h .1) in
+    let most : components ≤ 16 = ltb-false _ _ (or-neither (eqb components 0) (ltb 16 components) h .1) in
     record { below = omega (arith, min-le-right components n); most = omega (arith, min-le-left components n) }
 
 -- ---- the lines of `pcoa`
@@ -158,8 +159,8 @@ passed-fits components n d out b w m v {k} e p =
     let k′ = min components n in
     let l₁ = first-passed Length _ (unfit d (n * n) || tooShort k′ n out b w m v) p in
     let l₂ = first-passed Limit _ (ltb 256 n || badComponents components) (l₁ .1) in
-    let s = or-false (unfit d (n * n)) (tooShort k′ n out b w m v) (l₁ .0) in
-    let a = or-false (ltb 256 n) (badComponents components) (l₂ .0) in
+    let s = or-neither (unfit d (n * n)) (tooShort k′ n out b w m v) (l₁ .0) in
+    let a = or-neither (ltb 256 n) (badComponents components) (l₂ .0) in
     record {
       distances = eqb-true _ _ (not-false _ (s .0));
       few = ltb-false _ _ (a .0);

@@ -1,6 +1,6 @@
 -- What is known of a lot that no line turns away, and of its description. Assumes nothing.
 use mathlib.Core.Path.{_≡_, refl, sym, ap, _∙_, subst}
-use mathlib.Core.Bool.{Bool, true, false, not, _||_, cond}
+use mathlib.Core.Bool.{Bool, true, false, not, cond}
 use mathlib.Core.List.{List, [], _∷_}
 use Prim.Native.Nat.{ℕ, _+_, _*_, _<_, _≤_}
 use native.Mathlib.Nat.{mul-le-mul}
@@ -21,8 +21,8 @@ use Rattle.lot.specs.Kept.{kept, keptLabels, names, groups, keptCount, groupCou
 use Rattle.lot.specs.Strata.{named, heldStrata, strata, strataCount}
 use Rattle.lot.specs.Described.{samplesOf, Described}
 use Rattle.lot.specs.Described as lots
-use Rattle.lot.proofs.Extra.{or-neither}
-use Rattle.lot.proofs.Membership.{keep-member, keep-cong}
+use Rattle.lists.proofs.Truths.{or-neither, or-false}
+use Rattle.lists.proofs.Members.{keep-member, keep-cong}
 use Rattle.lot.proofs.Numbering.{length-named}
 use Rattle.lot.proofs.Inserts.{length-upward}
 use Rattle.lot.proofs.Samples.{length-gathered, kept-below, kept-few, length-keptLabels, length-groups}
@@ -64,10 +64,6 @@ strata-few lot h = by (lot .stratified)
     by : (b : Bool) → cond b (length (named (heldStrata lot)) + howMany none (heldStrata lot)) 1 ≤ 256
     by true = omega (arith, named-few (heldStrata lot), length-gathered (lot .strata) (kept (lot .labels)))
     by false = omega arith
-
-or-false : (b : Bool) → (b || false) ≡ b
-or-false true = refl
-or-false false = refl
 
 -- ---- line 1, by the tests that the code makes
 

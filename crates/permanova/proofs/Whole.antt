@@ -1,7 +1,7 @@
 -- A whole call. Assumes nothing.
-use mathlib.Core.Path.{_≡_, refl, sym, ap, ap₂, _∙_}
-use mathlib.Core.Bool.{Bool, true, false, _&&_, cond}
-use mathlib.Core.List.{List, [], _∷_}
+use mathlib.Core.Path.{_≡_, refl, ap, ap₂, _∙_}
+use mathlib.Core.Bool.{Bool, true}
+use mathlib.Core.List.{List}
 use Prim.Native.Nat.{ℕ}
 use lib.Dec.{ltb}
 use lib.ListN.{length, take}
@@ -12,8 +12,8 @@ use Rattle.lists.specs.Writes.{over, cleared}
 use Rattle.outcome.specs.declared.Refusal.{Refusal}
 use Rattle.outcome.specs.declared.Check.{Check}
 use Rattle.outcome.specs.declared.Check.the-variants as check
-use Rattle.outcome.specs.Refusals.{Line, first}
-use Rattle.outcome.specs.Outcome.{Outcome, answered, judged}
+use Rattle.outcome.specs.Refusals.{first}
+use Rattle.outcome.specs.Outcome.{answered, judged}
 use Rattle.outcome.specs.Slices.{untouched, output, work}
 use Rattle.lot.specs.declared.Shape.{Shape}
 use Rattle.lot.specs.Lot.{Lot}
@@ -35,6 +35,7 @@ use Rattle.permanova.specs.Measured.{measured, concluded}
 use Rattle.permanova.specs.Answered.{answerFor, meansFor}
 use Rattle.permanova.specs.Call.{Slices, Called, slicesOf, tested, tooShort, testCheck, leaves, accepted, testCall, called}
 use Rattle.permanova.proofs.Lots.{kept-many, groups-many, strata-many, front-kept, front-groups, front-strata}
+use Rattle.outcome.proofs.Table.{first-untouched}
 
 -- ---- what is answered for the kept samples of a lot is the answer for the lot
 
@@ -105,18 +106,6 @@ module _ (lot : Lot) (seed k : ℕ) (before : Slices) (passed : testCheck lot k 
       }
 
 -- ---- by whether a line of the table holds
-
--- a refusal is one of the lines
-first-untouched : (lines : List Line) {r : Refusal} → all (λ l. untouched (l .returned)) lines ≡ true → check.Refused r ≡ first lines → untouched r ≡ true
-unfolding first all
-first-untouched [] h e = cc
-first-untouched (l ∷ lines) {r} h e = by (l .holds) (untouched (l .returned)) refl h e (λ h e. first-untouched lines h e)
-  where
-    by : (b t : Bool) → untouched (l .returned) ≡ t → t && all (λ l. untouched (l .returned)) lines ≡ true → check.Refused r ≡ cond b (check.Refused (l .returned)) (first lines)
-        → (all (λ l. untouched (l .returned)) lines ≡ true → check.Refused r ≡ first lines → untouched r ≡ true) → untouched r ≡ true
-    by b false u h e more = cc
-    by true true u h e more = let same : r ≡ l .returned = cc in rw same u
-    by false true u h e more = more h e
 
 module _ (lot : Lot) (seed k : ℕ) (before : Slices) where
   -- the check as the code makes it

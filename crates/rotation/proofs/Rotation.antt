@@ -12,7 +12,7 @@ use Rattle.float.specs.Order.{magnitude}
 use Rattle.lists.specs.Rows.{entry, row, putRow}
 use Rattle.lists.proofs.Rows.{row-end, length-row, row-entry}
 use Rattle.rotation.specs.Rotation.{turnFirst, turnSecond, turnEntries, turnColumns, turnRows, tangent, cosine, Turned, turned, held, turnPair, rotate}
-use Rattle.rotation.proofs.Extra.{length-zipWith}
+use Rattle.lists.proofs.Zips.{length-zipWith}
 use Rattle.rotation.proofs.Apart.{row-put, put-put, apart-below, row-put-other, put-put-other, rows-apart}
 
 pub length-turnEntries : (p q : ℕ) (c s : Float) (r : List Float) → length (turnEntries p q c s r) ≡ length r

@@ -3,7 +3,7 @@
 use mathlib.Core.Path.{_≡_, refl, sym, ap, ap₂, subst, _∙_}
 use mathlib.Core.Bool.{Bool, true, false, cond, _||_}
 use mathlib.Core.List.{List, _∷_}
-use Prim.Native.Nat.{ℕ, _+_, _-_, _<_, _≤_}
+use Prim.Native.Nat.{ℕ, _+_, _<_, _≤_}
 use native.Mathlib.Omega.{arith}
 use borrow.Author.Tests.{eq-eqb, ne-eqb}
 use lib.Dec.{eqb}
@@ -19,12 +19,14 @@ use Rattle.lists.proofs.Ranges.{getD-table, table-ext}
 use Rattle.lists.proofs.Filters.{keep-step-yes, keep-step-no, keep-done}
 use Rattle.lists.proofs.Writes.{Writing, writing-none, writing-next, writing-table}
 use Rattle.lot.specs.Lot.{none}
-use Rattle.lot.proofs.Membership.{keep-member, member-range, countIf-cong}
+use Rattle.lists.proofs.Members.{keep-member, member-range}
+use Rattle.lists.proofs.Counts.{count-cong}
+use Rattle.lists.proofs.Grids.{first-row, part-entry}
 use Rattle.moments.specs.Moments.{grouped}
-use Rattle.moments.proofs.Extra.{first-row, part-entry}
 use Rattle.moments.proofs.Groups.{has-group, has-none}
 use Rattle.moments.proofs.Means.{hasGroup, front}
 use Rattle.scores.specs.Scores.{gap, gaps, nearestOf, assignedOf, unordered, rightOf}
+use Rattle.lists.proofs.Truths.{or-false}
 
 -- the distances from row i, which is lent by itself
 gaps-row : (axes g : ℕ) (scores cen : List Float) (i : ℕ) → gaps axes g (front axes i axes scores) cen 0 ≡ gaps axes g scores cen i
@@ -109,13 +111,9 @@ module _ (axes g : ℕ) (groups : List ℕ) (scores cen : List Float) (found₀ 
       let none-left : left i ≡ _ = keep-done (hasGroup groups) i (length groups) h in
       let is : found ≡ table (length groups) placed = writing-table placed found₀ (a .written) long h in (
         is,
-        omega (arith, a .counted, ap (countIf own) none-left, countIf-cong own (λ k. eqb (getD found k 0) (getD groups k 0)) (left 0) (λ k m. same k (member-range (length groups) k (keep-member (hasGroup groups) (range 0 (length groups)) k m .1)) is)),
+        omega (arith, a .counted, ap (countIf own) none-left, count-cong own (λ k. eqb (getD found k 0) (getD groups k 0)) (left 0) (λ k m. same k (member-range (length groups) k (keep-member (hasGroup groups) (range 0 (length groups)) k m .1)) is)),
         sym (or-false nans) ∙ ap (λ (l : List ℕ). nans || any odd l) (sym none-left) ∙ a .told,
       )
     where
-      or-false : (b : Bool) → (b || false) ≡ b
-      or-false true = refl
-      or-false false = refl
-
       same : (k : ℕ) → k < length groups → found ≡ table (length groups) placed → own k ≡ eqb (getD found k 0) (getD groups k 0)
       same k z is = ap (λ (t : ℕ). eqb t (getD groups k 0)) (sym (ap (λ (l : List ℕ). getD l k 0) is ∙ getD-table placed (length groups) k 0 z))

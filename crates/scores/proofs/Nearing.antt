@@ -2,7 +2,7 @@
 use mathlib.Core.Path.{_≡_, refl, sym, ap, ap₂, subst, _∙_}
 use mathlib.Core.Bool.{Bool, true, false, cond, _||_}
 use mathlib.Core.List.{List, [], _∷_, map}
-use Prim.Native.Nat.{ℕ, _+_, _-_, _<_, _≤_}
+use Prim.Native.Nat.{ℕ, _+_, _<_, _≤_}
 use native.Mathlib.Omega.{arith}
 use lib.Dec.{T}
 use lib.ListN.{length, getD, take}
@@ -18,9 +18,11 @@ use Rattle.lists.specs.Rows.{entry}
 use Rattle.lists.proofs.Ranges.{length-table, getD-table, table-ext, table-range}
 use Rattle.lists.proofs.Filters.{range-any-none}
 use Rattle.lists.proofs.Loops.{inTurn-none, inTurn-next}
-use Rattle.moments.proofs.Extra.{any-more, first-row, part-entry}
+use Rattle.lists.proofs.Searches.{any-more}
+use Rattle.lists.proofs.Grids.{first-row, part-entry}
 use Rattle.moments.proofs.Means.{front}
 use Rattle.scores.specs.Scores.{gap, nearestOf}
+use Rattle.lists.proofs.Truths.{or-false, or-true}
 
 -- two rows alone
 pub gap-row : (x y : List Float) → sum⁻ (table (length x) (λ k. (getD x k nan ⊖ getD y k nan) ⊗ (getD x k nan ⊖ getD y k nan))) ≡ gap (length x) x y 0 0
@@ -30,14 +32,6 @@ gap-row x y =
     let h : ℕ → Float = λ k. entry (length x) x 0 k ⊖ entry (length x) y 0 k in
     ap sum⁻ (table-ext (λ k. f k ⊗ f k) (λ k. h k ⊗ h k) (length x)
     (λ k _. ap (λ (d : Float). d ⊗ d) (ap₂ (λ (u v : Float). u ⊖ v) (sym (first-row (length x) x k)) (sym (first-row (length x) y k)))))
-
-pub or-true : (b : Bool) → (b || true) ≡ true
-or-true true = refl
-or-true false = refl
-
-pub or-false : (b : Bool) → (b || false) ≡ b
-or-false true = refl
-or-false false = refl
 
 -- the distance to one centroid of many: the first, and one that is lent by itself
 module _ (axes : ℕ) (row cen : List Float) (wide : length row ≡ axes) where

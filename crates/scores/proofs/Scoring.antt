@@ -16,7 +16,7 @@ use Rattle.lists.proofs.Ranges.{length-table, getD-table, table-ext}
 use Rattle.lists.proofs.Rows.{row-end, length-part}
 use Rattle.lot.specs.Lot.{none}
 use Rattle.lot.specs.Kept.{sizes}
-use Rattle.moments.proofs.Extra.{part-entry, grid-ext, entry-replicate}
+use Rattle.lists.proofs.Grids.{part-entry, grid-ext, entry-replicate}
 use Rattle.moments.proofs.Adding.{Adding, adding-pass, adding-row, adding-all, cellSum}
 use Rattle.moments.proofs.Counting.{getD-sizes}
 use Rattle.moments.proofs.Groups.{in-own, in-one, in-none}

@@ -2,20 +2,19 @@
 use mathlib.Core.Path.{_≡_, refl, sym, ap, ap₂, _∙_, subst}
 use mathlib.Core.Bool.{Bool, true, false, cond}
 use mathlib.Core.List.{List, [], _∷_, _++_, foldl}
-use Prim.Native.Nat.{ℕ, zero, suc, _+_, _*_, _-_, _%_, _<_, _≤_}
+use Prim.Native.Nat.{ℕ, zero, suc, _+_, _-_, _%_, _<_}
 use native.Mathlib.Numerals.{add-one}
-use native.Mathlib.Omega.{arith}
 use lib.Dec.{eqb, ltb}
 use borrow.Author.Tests.{eqb-true, eqb-false, ltb-true, ltb-false}
 use lib.ListN.{length, getD, set, length-set, List·getD-eq-default}
-use lib.Seq.{getD-set-same, getD-set-other, set-out}
+use lib.Seq.{getD-set-same, getD-set-other}
 use lib.Ieee.{Float}
 use Rattle.lists.specs.Ranges.{range, table}
 use Rattle.lists.specs.Filters.{countIf}
 use Rattle.lists.specs.Loops.{inTurn, downTo}
 use Rattle.lists.specs.Numbers.{members, Below}
 use Rattle.lists.proofs.Ranges.{table-last}
-use Rattle.lists.proofs.Loops.{inTurn-keeps}
+use Rattle.lists.proofs.Loops.{inTurn-keeps, inTurn-ext}
 use Rattle.members.specs.Members.{part, Grouped}
 use Rattle.splitmix.specs.SplitMix.{advance, mix}
 use Rattle.splitmix.specs.Shuffle.{Deal, deal, seeded, swapped, swapDrawn, shuffleStratum, shuffle}
@@ -82,11 +81,6 @@ unfolding inTurn
 fold-table f h zero b = unfold table Rattle.lists.specs.Ranges.upFrom in refl
 fold-table f h (suc n) b =
     ap (λ (k : ℕ). foldl f b (table k h)) (sym (add-one n)) ∙ ap (foldl f b) (table-last h n) ∙ fold-append f b (table n h) (h n) ∙ ap (λ u. f u (h n)) (fold-table f h n b)
-
-inTurn-ext : {A : Type 0} (f h : ℕ → A → A) (n : ℕ) (a : A) → ((k : ℕ) (u : A) → k < n → f k u ≡ h k u) → inTurn f n a ≡ inTurn h n a
-unfolding inTurn
-inTurn-ext f h zero a e = refl
-inTurn-ext f h (suc n) a e = ap (f n) (inTurn-ext f h n a (λ k u l. e k u (omega arith))) ∙ e n (inTurn h n a) (omega arith)
 
 pub shuffled-within : (ss : List ℕ) (m s : ℕ) (next mem lab : List ℕ) (seed t : ℕ) → Grouped ss m s next mem → shuffledBy next mem s lab seed t ≡ shuffled (parts ss m s) lab seed t
 unfolding shuffledBy shuffled parts shuffle

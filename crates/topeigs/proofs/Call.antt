@@ -19,9 +19,10 @@ use Rattle.outcome.specs.declared.Check.the-variants.{Passed, Refused}
 use Rattle.outcome.specs.Refusals.{first, short}
 use Rattle.outcome.specs.Outcome.{Outcome, answered, refused, judged}
 use Rattle.outcome.specs.Slices.{output, work, untouched}
-use Rattle.outcome.proofs.Table.{first-holds, first-passes}
+use Rattle.outcome.proofs.Table.{first-holds, first-passes, first-passed, first-untouched}
 use Rattle.jacobi.specs.Call.{notFinite}
-use Rattle.jacobi.proofs.Extra.{over-front, or-false, first-passed, first-untouched}
+use Rattle.lists.proofs.Parts.{over-front}
+use Rattle.lists.proofs.Truths.{or-neither}
 use Rattle.ritz.specs.Ritz.{Pairs}
 use Rattle.ritz.specs.Given.{written, pairsOf, Given, given, gives}
 use Rattle.topeigs.specs.TopEigs.{topEigs}
@@ -132,13 +133,13 @@ passed-fits components n a out w m v e =
     let k = min components n in
     let one = first-passed Length _ (misfits k n (length a) out w m v) e in
     let two = first-passed Limit _ (beyond n components) (one .1) in
-    let lengths = or-false (not (eqb (length a) (n * n))) _ (one .0) in
-    let o = or-false (ltb out (k + k * n)) _ (lengths .1) in
-    let x = or-false (ltb w (n + n * n)) _ (o .1) in
-    let y = or-false (ltb m (n * n)) _ (x .1) in
-    let z = or-false (ltb v (n * n)) _ (y .1) in
-    let limits = or-false (ltb 256 n || eqb components 0) _ (two .0) in
-    let size = or-false (ltb 256 n) _ (limits .0) in
+    let lengths = or-neither (not (eqb (length a) (n * n))) _ (one .0) in
+    let o = or-neither (ltb out (k + k * n)) _ (lengths .1) in
+    let x = or-neither (ltb w (n + n * n)) _ (o .1) in
+    let y = or-neither (ltb m (n * n)) _ (x .1) in
+    let z = or-neither (ltb v (n * n)) _ (y .1) in
+    let limits = or-neither (ltb 256 n || eqb components 0) _ (two .0) in
+    let size = or-neither (ltb 256 n) _ (limits .0) in
     let most = ltb-false 16 components (limits .1) in
     record {
       a-fits = eqb-true _ _ (not-false _ (lengths .0));

@@ -7,8 +7,8 @@ use native.Mathlib.Nat.{add-sub-cancel-left, zero-mul, mul-le-mul-right, min-le-
 use native.Mathlib.Omega.{arith}
 use borrow.Author.Tests.{le-leb, lt-leb}
 use lib.Dec.{leb}
-use lib.ListN.{length, take, drop, replicate, length-drop, length-replicate, replicate-append-replicate}
-use lib.Seq.{length-take-le, take-at}
+use lib.ListN.{length, take, drop, replicate, length-drop, length-replicate}
+use lib.Seq.{length-take-le}
 use lib.Ieee.{Float}
 use Rattle.float.specs.Floats.{_⊗_, zero⁺, 1·05}
 use Rattle.lists.specs.Rows.{row}
@@ -35,14 +35,6 @@ module _ (n k : ℕ) (pairs : List Float) where
       length-take-le (k * n) (drop n pairs) (omega arith)
 
 -- ---- the block
-
--- the front of zeros
-pub take-zeros : (k n : ℕ) → k ≤ n → take k (replicate n zero⁺) ≡ replicate k zero⁺
-take-zeros k n h =
-    let split : k + (n - k) ≡ n = omega arith in
-    ap (λ (t : ℕ). take k (replicate t zero⁺)) (sym split)
-    ∙ ap (take k) (sym (replicate-append-replicate k (n - k) zero⁺))
-    ∙ take-at (replicate k zero⁺) (replicate (n - k) zero⁺) k (length-replicate k zero⁺)
 
 -- a block of at most 24 columns has no more entries than the matrix
 pub block-fits : (k n : ℕ) → 64 < n → k ≤ 16 → (k + 8) * n ≤ n * n

@@ -5,14 +5,14 @@ use Prim.Native.Nat.{ℕ, _+_, _<_, _≤_}
 use lib.ListN.{length, getD, set}
 use lib.Ieee.{Float, nan}
 use Rattle.float.specs.Floats.{_⊕_, _⊗_, zero⁻}
-use Rattle.lists.specs.Ranges.{range, table}
-use Rattle.lists.specs.Sums.{sumFrom, sum⁻}
+use Rattle.lists.specs.Ranges.{range}
+use Rattle.lists.specs.Sums.{sumFrom}
 use Rattle.lists.proofs.Ranges.{map-table}
 use Rattle.lists.proofs.Sums.{sum-turn, sum-end, sum-table}
 use Rattle.lists.proofs.Writes.{Writing, writing-next, writing-here, writing-all, writing-table}
 use Rattle.vectors.specs.declared.Four.{Four}
 use Rattle.vectors.specs.Vectors.{dot}
-use Rattle.vectors.proofs.Extra.{zip-table}
+use Rattle.lists.proofs.Zips.{zip-table}
 
 -- ---- an inner product: with the products from entry i on, s is the whole
 

@@ -1,3 +1,2 @@
 -- Laws of loops over the entries of vectors.
-pub mod Extra
 pub mod Entries

@@ -17,7 +17,8 @@ use Rattle.lists.proofs.Ranges.{rows-ext}
 use Rattle.lot.specs.Way.{δ, mark, tally}
 use Rattle.ways.specs.Ways.{spend, deal}
 use Rattle.ways.specs.Every.{Distinct}
-use Rattle.ways.proofs.Extra.{map-cong, addUp-add, addUp-mul, addUp-zeros, addUp-term, multiply-ones, multiply-pos, factorial-pos, factorial-less, member-upFrom, upFrom-member, member-rows, rows-member, length-rows-sum}
+use Rattle.lists.proofs.Members.{map-cong, member-upFrom, upFrom-member, member-rows, rows-member}
+use Rattle.lists.proofs.Tallies.{addUp-add, addUp-mul, addUp-zeros, addUp-term, multiply-ones, multiply-pos, factorial-pos, factorial-less, length-rows-sum}
 use Rattle.ways.proofs.Distinct.{distinct-rows, distinct-map, distinct-upFrom, δ-same, δ-other, addUp-δ, multiply-scale}
 
 -- ---- `mark`: one sample in the counts

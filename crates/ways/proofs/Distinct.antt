@@ -1,21 +1,22 @@
 -- Lists of which no member stands at two places: how they are made, and sums, products and counts over them. Assumes nothing.
 use mathlib.Core.Path.{_≡_, refl, sym, ap, ap₂, _∙_}
-use mathlib.Core.Bool.{Bool, true, false, cond}
-use mathlib.Core.Logic.{_⊎_, ⊎-elim}
+use mathlib.Core.Bool.{Bool, cond}
+use mathlib.Core.Logic.{⊎-elim}
 use mathlib.Core.List.{List, [], _∷_, _++_, map, List·Memᴰ as Member, List·Memᴰ·head as here, List·Memᴰ·tail as there, List·Memᴰ·cases-cons as cases-cons, List·Memᴰ·append-cases as append-cases, List·Memᴰ·not-nil as not-nil, Memᴰ·append-left, Memᴰ·append-right, Memᴰ·of-map, Memᴰ·cast}
-use Prim.Native.Nat.{ℕ, zero, suc, _*_, _≤_, _<_}
+use Prim.Native.Nat.{ℕ, zero, suc, _*_, _≤_}
 use native.Mathlib.Nat.{le-antisymm, mul-assoc, mul-left-comm, mul-one}
 use native.Mathlib.Omega.{arith}
 use native.Mathlib.Decide.{ℕ-discrete}
-use lib.Dec.{eqb, ltb}
-use borrow.Author.Tests.{eq-eqb, ne-eqb, ltb-true, ltb-false, eqb-false}
+use borrow.Author.Tests.{eq-eqb, ne-eqb}
 use Rattle.lists.specs.Ranges.{upFrom, rows}
 use Rattle.lists.specs.Filters.{countIf}
-use Rattle.lists.specs.Numbers.{addUp, multiply, insertUp, upward}
+use Rattle.lists.specs.Numbers.{addUp, multiply, upward}
 use Rattle.lists.proofs.Filters.{countIf-append}
 use Rattle.lot.specs.Way.{δ}
 use Rattle.ways.specs.Every.{Distinct}
-use Rattle.ways.proofs.Extra.{map-cong, addUp-zeros, multiply-ones, member-upFrom, member-rows, insertUp-member}
+use Rattle.lists.proofs.Upward.{Upward, upward-upward}
+use Rattle.lists.proofs.Members.{map-cong, member-upFrom, member-rows}
+use Rattle.lists.proofs.Tallies.{addUp-zeros, multiply-ones}
 
 module _ {A : Type 0} where
   pub distinct-append : (xs ys : List A) → Distinct xs → Distinct ys → ((x : A) → Member x xs → Member x ys → ⊥) → Distinct (xs ++ ys)
@@ -48,37 +49,13 @@ distinct-upFrom lo (suc n) = ((λ m. omega (arith, member-upFrom (suc lo) n lo m
 
 -- ---- a list without repeats, upward: each number is below all after it
 
-Upward : List ℕ → Type 0
-Upward [] = Unit {0}
-Upward (x ∷ xs) = ((y : ℕ) → Member y xs → x < y) × Upward xs
-
-insert-step : (a b : Bool) (x y : ℕ) (ys rest : List ℕ) → ltb x y ≡ a → eqb x y ≡ b → Upward (y ∷ ys) → Upward rest
-    → ((z : ℕ) → Member z rest → (z ≡ x) ⊎ Member z ys) → Upward (cond a (x ∷ y ∷ ys) (cond b (y ∷ ys) (y ∷ rest)))
-unfolding Upward
-insert-step true b x y ys rest e f u v h =
-    let less : x < y = ltb-true x y e in
-    (λ z m. ⊎-elim (λ s. omega arith) (λ t. omega (arith, u .0 z t)) (cases-cons m), u)
-insert-step false true x y ys rest e f u v h = u
-insert-step false false x y ys rest e f u v h =
-    (λ z m. ⊎-elim (λ s. omega (arith, ltb-false x y e, eqb-false x y f)) (λ t. u .0 z t) (h z m), v)
-
-insert-upward : (x : ℕ) (ys : List ℕ) → Upward ys → Upward (insertUp x ys)
-unfolding Upward insertUp
-insert-upward x [] u = (λ y m. absurd (not-nil m), tt)
-insert-upward x (y ∷ ys) u = insert-step (ltb x y) (eqb x y) x y ys (insertUp x ys) refl refl u (insert-upward x ys (u .1)) (λ z m. insertUp-member x z ys m)
-
-goes-upward : (xs : List ℕ) → Upward (upward xs)
-unfolding Upward upward
-goes-upward [] = tt
-goes-upward (x ∷ xs) = insert-upward x (upward xs) (goes-upward xs)
-
 upward-distinct : (xs : List ℕ) → Upward xs → Distinct xs
 unfolding Upward Distinct
 upward-distinct [] u = tt
 upward-distinct (x ∷ xs) u = ((λ m. omega (arith, u .0 x m)), upward-distinct xs (u .1))
 
 pub distinct-upward : (xs : List ℕ) → Distinct (upward xs)
-distinct-upward xs = upward-distinct (upward xs) (goes-upward xs)
+distinct-upward xs = upward-distinct (upward xs) (upward-upward xs)
 
 -- ---- sums and products
 

@@ -4,7 +4,7 @@ use mathlib.Core.Path.{_≡_, refl, sym, ap, ap₂, _∙_}
 use mathlib.Core.Bool.{Bool}
 use mathlib.Core.Logic.{⊎-elim}
 use mathlib.Core.List.{List, [], _∷_, map, List·Memᴰ as Member, List·Memᴰ·head as here, List·Memᴰ·tail as there, List·Memᴰ·cases-cons as cases-cons, List·Memᴰ·not-nil as not-nil}
-use Prim.Native.Nat.{ℕ, zero, suc, _+_, _*_, _/_, _≤_, _<_, suc-le-suc}
+use Prim.Native.Nat.{ℕ, zero, suc, _*_, _≤_, _<_, suc-le-suc}
 use native.Mathlib.Nat.{lt-of-not-le, mul-div-cancel, one-mul}
 use native.Mathlib.Omega.{arith}
 use native.Mathlib.Decide.{decLt}
@@ -18,7 +18,9 @@ use Rattle.lot.specs.Strata.{strata}
 use Rattle.lot.specs.Way.{δ, mark, tally, IsWay, relabelled, SameLot}
 use Rattle.ways.specs.Ways.{deal, waysOf, ways, sizeFactorials, labelFactorials, wayCountOf, wayCount}
 use Rattle.ways.specs.Every.{WayOf, Distinct, Every}
-use Rattle.ways.proofs.Extra.{map-cong, addUp-add, addUp-mul, addUp-zeros, upFrom-member, member-upward, upward-member}
+use Rattle.lists.proofs.Members.{map-cong, upFrom-member}
+use Rattle.lists.proofs.Tallies.{addUp-add, addUp-mul, addUp-zeros}
+use Rattle.lists.proofs.Upward.{member-upward, upward-member}
 use Rattle.ways.proofs.Distinct.{distinct-upFrom, distinct-upward, addUp-δ, multiply-more, any-order}
 use Rattle.ways.proofs.Dealt.{mark-same, mark-label, howMany-cons, deal-cong, deal-distinct, balanced-tally, deal-sound, deal-complete, counts!, sizes!, counts!-pos, deal-count}
 

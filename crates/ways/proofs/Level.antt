@@ -11,7 +11,7 @@ use borrow.Author.Tests.{leb-true}
 use Rattle.lists.specs.Filters.{countIf}
 use Rattle.lists.proofs.Filters.{countIf-no}
 use Rattle.ways.specs.Level.{KeepsLevel, Ranks}
-use Rattle.ways.proofs.Extra.{countIf-mono, countIf-member}
+use Rattle.lists.proofs.Counts.{count-mono, count-member}
 
 and-left : (a b : Bool) → (a && b) ≡ true → a ≡ true
 and-left true b e = refl
@@ -37,7 +37,7 @@ module _ {A : Type 0} (counted : A → Bool) (rank : A → A → Bool) (order : 
     lowest-more a xs true e (inl z) = inr (
       a,
       e,
-      λ y m q. ⊎-elim (λ s. rw s (itself a (ok a e))) (λ t. absurd (omega (arith, countIf-member p xs y t q))) (cases-cons m),
+      λ y m q. ⊎-elim (λ s. rw s (itself a (ok a e))) (λ t. absurd (omega (arith, count-member p xs y t q))) (cases-cons m),
     )
     lowest-more a xs true e (inr w) = ⊎-elim
         (λ l. inr (
@@ -64,7 +64,7 @@ module _ {A : Type 0} (counted : A → Bool) (rank : A → A → Bool) (order : 
         ⊎-elim
         (λ none. omega arith)
         (λ w. le-trans
-        (countIf-mono few (hit (w .0)) xs (λ y m q. coarser (w .0) y (ok (w .0) (w .1)) (ok y q) (w .2 y m q)))
+        (count-mono few (hit (w .0)) xs (λ y m q. coarser (w .0) y (ok (w .0) (w .1)) (ok y q) (w .2 y m q)))
         (leb-true _ _ (and-right (counted (w .0)) _ (w .1))))
         (lowest few ok xs)
 
@@ -80,7 +80,7 @@ module _ {A : Type 0} (rank : A → A → Bool) (order : Ranks always rank) wher
   -- hits that are coarser than the ranks
   module _ (hit : A → A → Bool) (coarser : (x y : A) → rank x y ≡ true → hit x y ≡ true) where
     pub rank-le-hits : (x : A) (xs : List A) → countIf (rank x) xs ≤ countIf (hit x) xs
-    rank-le-hits x xs = countIf-mono (rank x) (hit x) xs (λ y _. coarser x y)
+    rank-le-hits x xs = count-mono (rank x) (hit x) xs (λ y _. coarser x y)
 
     pub level-hits : (xs : List A) (k : ℕ) → countIf (λ x. leb (countIf (hit x) xs) k) xs ≤ k
     level-hits xs = level always rank order hit (λ x y _ _. coarser x y) xs

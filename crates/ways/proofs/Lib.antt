@@ -1,5 +1,4 @@
 -- The laws of the ways.
-pub mod Extra
 pub mod Distinct
 pub mod Dealt
 pub mod Every

@@ -15,7 +15,7 @@ use Rattle.lists.specs.Numbers.{multiply, howMany, upward, Below}
 use Rattle.lists.proofs.Filters.{drop-more, countIf-below}
 use Rattle.lot.specs.Way.{mark, tally}
 use Rattle.ways.specs.Ways.{spend, deal, waysOf, sizeFactorials, labelFactorials, wayCountOf, mostWays, capped}
-use Rattle.ways.proofs.Extra.{member-upward}
+use Rattle.lists.proofs.Upward.{member-upward}
 use Rattle.ways.proofs.Distinct.{distinct-upward}
 use Rattle.ways.proofs.Dealt.{mark-same, mark-cases, balanced-tally, balanced-le, counts!, sizes!, counts!-pos, counts!-cong, counts!-spend, sizes!-cons, deal-count}
 use Rattle.ways.proofs.Every.{ways-count}

@@ -17,7 +17,9 @@ use Rattle.lists.proofs.Ranges.{rows-last}
 use Rattle.lists.proofs.Filters.{drop-more, countIf-append, countIf-below}
 use Rattle.ways.specs.Ways.{deal, waysOf, wayCountOf}
 use Rattle.ways.specs.Onward.{leftIn, HasRows, tallies, onward, reached, Ahead}
-use Rattle.ways.proofs.Extra.{countIf-cong, countIf-map, countIf-all, addUp-term, upFrom-member, rows-member, rows-longer, length-rows-sum}
+use Rattle.lists.proofs.Counts.{count-cong, count-map, count-all}
+use Rattle.lists.proofs.Tallies.{addUp-term, rows-longer, length-rows-sum}
+use Rattle.lists.proofs.Members.{upFrom-member, rows-member}
 use Rattle.ways.proofs.Dealt.{branch, deal-cons, branch-some, branch-none, deal-cong}
 use Rattle.ways.proofs.Every.{ways-count}
 use Rattle.ways.proofs.Counts.{left-spend, onward-ways}
@@ -100,8 +102,8 @@ module _ (p : List ℕ → Bool) (g : ℕ) (ss counts way : List ℕ) (k : ℕ) 
       let ahead = onward g ss (taken counts (place g ss k j)) (k + 1) in
       so-far-more j ∙ ap (λ (m : ℕ). so-far p g ss counts way k j + m)
       (ap (countIf (λ rest. p (take k way ++ rest))) (turn-some g ss counts k j hj b some)
-      ∙ countIf-map (λ rest. p (take k way ++ rest)) (λ rest. j ∷ rest) ahead
-      ∙ countIf-cong _ (λ rest. p (take (k + 1) (set way′ k j) ++ rest)) ahead (λ rest _. ap p (begins k j way way′ rest e hk)))
+      ∙ count-map (λ rest. p (take k way ++ rest)) (λ rest. j ∷ rest) ahead
+      ∙ count-cong _ (λ rest. p (take (k + 1) (set way′ k j) ++ rest)) ahead (λ rest _. ap p (begins k j way way′ rest e hk)))
 
   -- no more is counted than there are ways
   so-far-le : (j : ℕ) → k < length ss → j ≤ g → so-far p g ss counts way k j ≤ length (onward g ss counts k)
@@ -227,7 +229,7 @@ module _ (g : ℕ) (ss counts way : List ℕ) (k : ℕ) where
   -- the test that all pass counts the ways
   pub reached-all : reached (λ _. true) g ss counts way k ≡ length (onward g ss counts k)
   unfolding reached
-  reached-all = countIf-all (onward g ss counts k)
+  reached-all = count-all (onward g ss counts k)
 
   pub all-reached : {r : ℕ} → r ≡ length (onward g ss counts k) → r ≡ reached (λ _. true) g ss counts way k
   all-reached e = e ∙ sym reached-all

@@ -8,8 +8,8 @@ use native.Mathlib.Omega.{arith}
 use lib.ListN.{length, length-replicate}
 use Rattle.float.specs.Floats.{zero⁺}
 use Rattle.lists.proofs.Loops.{inTurn-none}
-use Rattle.cholesky.specs.Cholesky.{factor}
-use Rattle.cholesky.proofs.Pivots.{Factoring, factoring-next, factoring-all, or-true, or-false}
+use Rattle.cholesky.proofs.Pivots.{Factoring, factoring-next, factoring-all}
+use Rattle.lists.proofs.Truths.{or-true, or-false}
 use Rattle.lists.proofs.Filters.{range-any-none}
 use Rattle.cholesky.proofs.factor.Statement.{statement}
 use Rattle.cholesky.proofs.factor.Tie as tie

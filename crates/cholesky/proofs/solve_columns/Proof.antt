@@ -10,7 +10,7 @@ use Rattle.lists.specs.Rows.{entry}
 use Rattle.lists.proofs.Rows.{row-end}
 use Rattle.lists.proofs.Writes.{Filling, filling-none, filling-next, filling-all}
 use Rattle.cholesky.specs.Cholesky.{solveLower, solveColumns}
-use Rattle.moments.proofs.Extra.{filling-blank}
+use Rattle.lists.proofs.Grids.{filling-blank}
 use Rattle.cholesky.proofs.Solved.{length-lower}
 use Rattle.cholesky.proofs.solve_columns.Statement.{statement}
 use Rattle.cholesky.proofs.solve_columns.Tie as tie

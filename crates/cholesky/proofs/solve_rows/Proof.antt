@@ -9,7 +9,7 @@ use Rattle.lists.specs.Rows.{row}
 use Rattle.lists.proofs.Rows.{row-end, length-part, part-row}
 use Rattle.lists.proofs.Writes.{Filling, filling-none, filling-next, filling-all}
 use Rattle.cholesky.specs.Cholesky.{solveUpper, solveRows}
-use Rattle.moments.proofs.Extra.{filling-blank}
+use Rattle.lists.proofs.Grids.{filling-blank}
 use Rattle.cholesky.proofs.Solved.{length-upper}
 use Rattle.cholesky.proofs.solve_rows.Statement.{statement}
 use Rattle.cholesky.proofs.solve_rows.Tie as tie

@@ -2,13 +2,12 @@
 -- Assumes nothing.
 use mathlib.Core.Path.{sym, ap₂, _∙_}
 use mathlib.Core.List.{List, _++_}
-use Prim.Native.Nat.{_+_, _-_}
 use native.Mathlib.Omega.{arith}
 use borrow.Author.Needs.{needs}
 use lib.ListN.{length}
 use lib.Seq.{length-take-le}
 use lib.Ieee.{Float}
-use Rattle.jacobi.proofs.Extra.{length-second, put-second}
+use Rattle.lists.proofs.Parts.{length-second, put-second}
 use Rattle.coordinates.proofs.describe.Statement.{statement}
 use Rattle.coordinates.proofs.describe.Tie as tie
 

@@ -1,13 +1,13 @@
 -- `coordinates::finish_in` meets its contract. The output is filled in two parts, each lent by itself.
 -- Assumes nothing.
 use mathlib.Core.Path.{sym, ap, _∙_}
-use Prim.Native.Nat.{_+_, _-_}
+use Prim.Native.Nat.{_+_}
 use native.Mathlib.Omega.{arith}
 use borrow.Author.Needs.{needs}
 use lib.ListN.{length, length-drop}
 use lib.Seq.{length-take-le}
 use Rattle.lists.proofs.Rows.{part-rest}
-use Rattle.jacobi.proofs.Extra.{length-second, put-second}
+use Rattle.lists.proofs.Parts.{length-second, put-second}
 use Rattle.coordinates.specs.Finish.{finish, laid}
 use Rattle.coordinates.proofs.Finished.{finished}
 use Rattle.coordinates.proofs.finish_in.Statement.{statement}

@@ -2,12 +2,12 @@
 -- Assumes nothing.
 
 use mathlib.Core.Path.{sym}
-use Prim.Native.Nat.{ℕ, _*_, _-_}
+use Prim.Native.Nat.{ℕ, _*_}
 use native.Mathlib.Nat.{mul-le-mul}
 use native.Mathlib.Omega.{arith}
 use lib.Seq.{length-take-le}
 use Rattle.float.specs.Floats.{zero⁺, zero⁻}
-use Rattle.moments.proofs.Extra.{take-replicate}
+use Rattle.lists.proofs.Parts.{take-replicate}
 use Rattle.dapc.proofs.separate_in.Statement.{statement}
 use Rattle.dapc.proofs.separate_in.Tie as tie
 

@@ -1,12 +1,11 @@
 -- `judging::assignment_of` meets its contract. None where the coordinates are barred, else by the scores.
 -- Assumes nothing.
 use mathlib.Core.Path.{sym}
-use Prim.Native.Nat.{_-_}
 use native.Mathlib.Omega.{arith}
 use borrow.Author.Needs.{needs}
 use lib.Seq.{length-take-le}
 use Rattle.lot.specs.Lot.{none}
-use Rattle.moments.proofs.Extra.{take-replicate}
+use Rattle.lists.proofs.Parts.{take-replicate}
 use Rattle.judging.proofs.Cases.{assignment-barred, assignment-found}
 use Rattle.judging.proofs.assignment_of.Statement.{statement}
 use Rattle.judging.proofs.assignment_of.Tie as tie

@@ -9,7 +9,7 @@ use lib.ListN.{length}
 use lib.Ieee.{inFloat}
 use Rattle.lists.specs.Rows.{entry}
 use Rattle.lists.proofs.Rows.{row-end}
-use Rattle.moments.proofs.Extra.{length-front}
+use Rattle.lists.proofs.Grids.{length-front}
 use Rattle.moments.proofs.Adding.{adding-none}
 use Rattle.moments.proofs.Scatter.{BetweenAdded, between-turn, between-end}
 use Rattle.moments.proofs.add_between.Statement.{statement}

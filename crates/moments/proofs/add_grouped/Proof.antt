@@ -8,7 +8,7 @@ use native.Mathlib.Omega.{arith}
 use lib.ListN.{length}
 use Rattle.lists.specs.Rows.{entry}
 use Rattle.lists.proofs.Rows.{row-end}
-use Rattle.moments.proofs.Extra.{length-front}
+use Rattle.lists.proofs.Grids.{length-front}
 use Rattle.moments.proofs.Adding.{adding-none}
 use Rattle.moments.proofs.Means.{AllAdded, all-turn, all-pass, all-end}
 use Rattle.moments.proofs.add_grouped.Statement.{statement}

@@ -2,12 +2,12 @@
 -- Assumes nothing.
 
 use mathlib.Core.Path.{sym}
-use Prim.Native.Nat.{_*_, _-_}
+use Prim.Native.Nat.{_*_}
 use native.Mathlib.Omega.{arith}
 use Rattle.float.specs.Floats.{zero⁺}
 use native.Mathlib.Nat.{mul-le-mul}
 use lib.Seq.{length-take-le}
-use Rattle.moments.proofs.Extra.{take-replicate}
+use Rattle.lists.proofs.Parts.{take-replicate}
 use Rattle.moments.proofs.fill.Statement.{statement}
 use Rattle.moments.proofs.fill.Tie as tie
 

@@ -7,7 +7,7 @@ use lib.ListN.{length, length-drop}
 use lib.Seq.{length-take-le}
 use lib.Ieee.{Float}
 use Rattle.lists.proofs.Rows.{part-rest}
-use Rattle.jacobi.proofs.Extra.{length-second, put-second}
+use Rattle.lists.proofs.Parts.{length-second, put-second}
 use Rattle.ritz.specs.Ritz.{combined}
 use Rattle.ritz.proofs.turn_back.Statement.{statement}
 use Rattle.ritz.proofs.turn_back.Tie as tie

@@ -12,7 +12,7 @@ use Rattle.lists.specs.Sums.{sumFrom}
 use Rattle.lists.specs.Rows.{row}
 use Rattle.lists.proofs.Rows.{row-end, part-row}
 use Rattle.rotation.specs.Sweeps.{squaresBut, offDiagonal}
-use Rattle.rotation.proofs.Extra.{sum-rows-none, sum-rows-next}
+use Rattle.lists.proofs.Sums.{sum-rows-none, sum-rows-next}
 use Rattle.rotation.proofs.off_diagonal.Statement.{statement}
 use Rattle.rotation.proofs.off_diagonal.Tie as tie
 

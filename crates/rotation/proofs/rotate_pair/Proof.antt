@@ -6,9 +6,9 @@ use native.Mathlib.Omega.{arith}
 use lib.ListN.{length, getD}
 use lib.Ieee.{Float, nan}
 use Rattle.lists.specs.Ranges.{table}
-use Rattle.lists.proofs.Writes.{Writing, writing-none, writing-next, writing-all}
+use Rattle.lists.proofs.Writes.{Writing, writing-none, writing-next, writing-all, writing-here}
 use Rattle.rotation.specs.Rotation.{turnFirst, turnSecond}
-use Rattle.rotation.proofs.Extra.{zip-table, writing-here}
+use Rattle.lists.proofs.Zips.{zip-table}
 use Rattle.rotation.proofs.rotate_pair.Statement.{statement}
 use Rattle.rotation.proofs.rotate_pair.Tie as tie
 

@@ -7,7 +7,7 @@ use native.Mathlib.Omega.{arith}
 use lib.ListN.{length}
 use Rattle.lists.proofs.Rows.{row-end, length-part}
 use Rattle.lists.proofs.Writes.{Filling, filling-none, filling-next, filling-all}
-use Rattle.moments.proofs.Extra.{length-front}
+use Rattle.lists.proofs.Grids.{length-front}
 use Rattle.scores.proofs.Scoring.{scored, scored-long, scored-row, scored-all}
 use Rattle.scores.proofs.fill_scores.Statement.{statement}
 use Rattle.scores.proofs.fill_scores.Tie as tie

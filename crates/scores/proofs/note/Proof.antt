@@ -4,12 +4,12 @@
 use mathlib.Core.Path.{sym, ap, _∙_}
 use mathlib.Core.Logic.{⊎-elim}
 use mathlib.Core.Bool.{Bool, cond, _||_}
-use Prim.Native.Nat.{_+_, _-_}
+use Prim.Native.Nat.{_+_}
 use native.Mathlib.Nat.{add-zero}
 use borrow.Author.Needs.{needs}
 use borrow.Author.Tests.{eq-eqb, ne-eqb}
 use Rattle.scores.specs.Scores.{unordered}
-use Rattle.scores.proofs.Nearing.{or-true, or-false}
+use Rattle.lists.proofs.Truths.{or-true, or-false}
 use Rattle.scores.proofs.note.Statement.{statement}
 use Rattle.scores.proofs.note.Tie as tie
 

@@ -7,7 +7,7 @@ use borrow.Author.Needs.{needs}
 use lib.ListN.{length}
 use lib.Seq.{length-take-le}
 use lib.Ieee.{Float}
-use Rattle.jacobi.proofs.Extra.{length-second, put-second}
+use Rattle.lists.proofs.Parts.{length-second, put-second}
 use Rattle.topeigs.proofs.Whole.{leading-part, length-leading}
 use Rattle.topeigs.proofs.copy_leading.Statement.{statement}
 use Rattle.topeigs.proofs.copy_leading.Tie as tie

@@ -3,9 +3,10 @@ use mathlib.Core.Path.{sym}
 use native.Mathlib.Omega.{arith}
 use borrow.Author.Needs.{needs}
 use lib.Seq.{length-take-le}
-use Rattle.topeigs.proofs.Whole.{take-zeros}
+use Rattle.lists.proofs.Parts.{take-replicate}
 use Rattle.topeigs.proofs.settle_in.Statement.{statement}
 use Rattle.topeigs.proofs.settle_in.Tie as tie
+use Rattle.float.specs.Floats.{zero⁺}
 
 array-borrow-prefix-before : tie.Need-array-borrow-prefix-before
 array-borrow-prefix-before c = search needs
@@ -35,7 +36,7 @@ settle-requires : tie.Need-settle-requires
 settle-requires c κs =
     let at-start = c .before .before .before .before .before .before .before .before in
     let a = at-start .args in (
-      (at-start .pre .0, at-start .pre .1, take-zeros (a .k) 16 (at-start .pre .6), length-take-le _ _ (omega (arith, at-start .pre .5)), length-take-le _ _ (omega (arith, at-start .pre .5))),
+      (at-start .pre .0, at-start .pre .1, take-replicate (a .k) 16 zero⁺ (at-start .pre .6), length-take-le _ _ (omega (arith, at-start .pre .5)), length-take-le _ _ (omega (arith, at-start .pre .5))),
       (at-start .pre .2, at-start .pre .3, at-start .pre .4),
     )
 

@@ -8,7 +8,7 @@ use lib.Dec.{ltb}
 use Rattle.lists.specs.Filters.{any}
 use Rattle.gram.specs.Lines.{tooShort}
 use Rattle.outcome.specs.Refusals.{short}
-use Rattle.gram.proofs.Extra.{or-false}
+use Rattle.lists.proofs.Truths.{or-false}
 use borrow.Author.Needs.{needs}
 use Rattle.gram.proofs.lines.too_short.Statement.{statement}
 use Rattle.gram.proofs.lines.too_short.Tie as tie

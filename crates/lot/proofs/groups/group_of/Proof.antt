@@ -1,10 +1,9 @@
 -- `lot::groups::group_of` meets its contract. A place before the end is where the label stands, and at the end it does not stand. Assumes nothing.
-use Prim.Native.Nat.{_-_}
 use native.Mathlib.Omega.{arith}
 use borrow.Author.Needs.{needs}
 use lib.Dec.{eqb}
 use Rattle.lists.specs.Numbers.{stands, position}
-use Rattle.lot.proofs.Extra.{any-found, any-missing}
+use Rattle.lists.proofs.Searches.{any-found, any-missing}
 use Rattle.lot.proofs.groups.group_of.Statement.{statement}
 use Rattle.lot.proofs.groups.group_of.Tie as tie
 

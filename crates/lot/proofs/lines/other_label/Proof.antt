@@ -12,7 +12,7 @@ use Rattle.lists.specs.Filters.{firstAt}
 use Rattle.lists.proofs.Filters.{first-here, first-later, first-none}
 use Rattle.lot.specs.Lot.{none}
 use Rattle.lot.specs.Kept.{twice}
-use Rattle.lot.proofs.Extra.{getD-either}
+use Rattle.lists.proofs.Parts.{getD-either}
 use Rattle.lot.proofs.Few.{otherThan}
 use Rattle.lot.proofs.lines.other_label.Statement.{statement}
 use Rattle.lot.proofs.lines.other_label.Tie as tie

@@ -7,7 +7,7 @@ use borrow.Author.Needs.{needs}
 use lib.Dec.{eqb}
 use lib.ListN.{length, getD}
 use Rattle.lists.specs.Numbers.{position}
-use Rattle.lot.proofs.Extra.{first-within}
+use Rattle.lists.proofs.Searches.{first-within}
 use Rattle.lot.proofs.Numbering.{length-named, Numbering, numbering-none, next-fits, numbering-alone, numbering-named, numbering-all, numbering-count}
 use Rattle.lot.proofs.strata.number_by.Statement.{statement}
 use Rattle.lot.proofs.strata.number_by.Tie as tie

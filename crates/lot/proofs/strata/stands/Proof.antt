@@ -1,11 +1,11 @@
 -- `lot::strata::stands` meets its contract. A place before the end is where the number stands. Assumes nothing.
 use mathlib.Core.Path.{sym, ap, _∙_}
-use Prim.Native.Nat.{ℕ, _-_}
+use Prim.Native.Nat.{ℕ}
 use borrow.Author.Needs.{needs}
 use lib.Dec.{eqb, ltb}
 use lib.ListN.{length}
 use Rattle.lists.specs.Numbers.{stands, position}
-use Rattle.lot.proofs.Extra.{any-first}
+use Rattle.lists.proofs.Searches.{any-first}
 use Rattle.lot.proofs.strata.stands.Statement.{statement}
 use Rattle.lot.proofs.strata.stands.Tie as tie
 

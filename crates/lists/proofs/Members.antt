@@ -1,17 +1,18 @@
--- What is a member of a list: of a range, of those kept, and what a member does to a count or a test of the whole. Names nothing of a lot. Assumes nothing.
-use mathlib.Core.Path.{_≡_, refl, sym, ap, ap₂, _∙_}
+-- What is a member of a list: of a range, of rows, of those kept, and what a member does to a count or a test of the whole. Assumes nothing.
+use mathlib.Core.Path.{_≡_, refl, sym, ap, _∙_, ap₂}
 use mathlib.Core.Bool.{Bool, true, false, _||_, cond, true≢false}
 use mathlib.Core.Logic.{_⊎_, inl, inr, ⊎-elim}
-use mathlib.Core.List.{List, [], _∷_, _++_, map, foldl, List·Memᴰ as Member, List·Memᴰ·head as here, List·Memᴰ·tail as there, List·Memᴰ·cases-cons as cases-cons, List·Memᴰ·not-nil as not-nil, Memᴰ·append-left, Memᴰ·append-right, Memᴰ·cast}
+use mathlib.Core.List.{List, [], _∷_, _++_, map, List·Memᴰ as Member, List·Memᴰ·head as here, List·Memᴰ·tail as there, List·Memᴰ·cases-cons as cases-cons, List·Memᴰ·append-cases as append-cases, List·Memᴰ·not-nil as not-nil, Memᴰ·append-left, Memᴰ·append-right, Memᴰ·cast, foldl}
 use Prim.Native.Nat.{ℕ, zero, suc, _+_, _-_, _<_, _≤_, suc-le-suc}
-use native.Mathlib.Omega.{arith}
+use native.Mathlib.Nat.{le-refl}
 use native.Mathlib.Decide.{ℕ-discrete}
-use borrow.Author.Tests.{eq-eqb, eqb-true}
+use native.Mathlib.Omega.{arith}
+use borrow.Author.Tests.{eqb-true, eq-eqb}
 use lib.Dec.{eqb}
 use lib.ListN.{length, getD}
-use Rattle.lists.specs.Ranges.{upFrom, range}
-use Rattle.lists.specs.Filters.{keep, countIf, any}
-use Rattle.lists.specs.Numbers.{howMany, stands, firsts, Below}
+use Rattle.lists.specs.Filters.{keep, any, countIf}
+use Rattle.lists.specs.Numbers.{Below, stands, howMany, firsts}
+use Rattle.lists.specs.Ranges.{upFrom, range, rows}
 
 -- ---- ranges
 
@@ -105,16 +106,6 @@ module _ {A : Type 0} (p q : A → Bool) where
   keep-cong [] h = refl
   keep-cong (x ∷ xs) h = λ i. cond (h x (here refl) i) (x ∷ keep-cong xs (λ y m. h y (there m)) i) (keep-cong xs (λ y m. h y (there m)) i)
 
-  pub countIf-cong : (xs : List A) → ((x : A) → Member x xs → p x ≡ q x) → countIf p xs ≡ countIf q xs
-  unfolding countIf
-  countIf-cong [] h = refl
-  countIf-cong (x ∷ xs) h = ap₂ _+_ (ap (λ (b : Bool). cond b 1 0) (h x (here refl))) (countIf-cong xs (λ y m. h y (there m)))
-
-pub countIf-map : {A B : Type 0} (p : B → Bool) (f : A → B) (xs : List A) → countIf p (map f xs) ≡ countIf (λ x. p (f x)) xs
-unfolding countIf
-countIf-map p f [] = refl
-countIf-map p f (x ∷ xs) = ap (λ (k : ℕ). cond (p (f x)) 1 0 + k) (countIf-map p f xs)
-
 -- ---- numbers below g
 
 pub below-map : {A : Type 0} (g : ℕ) (f : A → ℕ) (xs : List A) → ((x : A) → Member x xs → f x < g) → Below g (map f xs)
@@ -182,3 +173,51 @@ firsts-enter (x ∷ xs) seen z m = ⊎-elim
 pub member-firsts : (xs : List ℕ) (z : ℕ) → Member z xs → Member z (firsts xs)
 unfolding firsts
 member-firsts xs z m = firsts-enter xs [] z m
+
+-- ---- rows
+
+module _ {A : Type 0} where
+  pub member-rows : (n : ℕ) (f : ℕ → List A) (x : A) → Member x (rows n f) → (i : ℕ) × (i < n) × Member x (f i)
+  unfolding rows
+  member-rows zero f x m = absurd (not-nil m)
+  member-rows (suc n) f x m = ⊎-elim
+      (λ l. let r = member-rows n f x l in (r .0, omega arith, r .2))
+      (λ r. (n, le-refl _, r))
+      (append-cases (rows n f) m)
+
+  pub rows-member : (n : ℕ) (f : ℕ → List A) (x : A) (i : ℕ) → i < n → Member x (f i) → Member x (rows n f)
+  unfolding rows
+  rows-member zero f x i l m = absurd (omega arith)
+  rows-member (suc n) f x i l m = elim (ℕ-discrete i n) [
+    | yes e ↦ Memᴰ·append-right (rows n f) (rw e at m)
+    | no d ↦ Memᴰ·append-left (f n) (rows-member n f x i (omega arith) m)
+  ]
+
+-- ---- what is kept of a range is below its end
+
+below-cons : (m a : ℕ) (l : List ℕ) → a < m → Below m l → Below m (a ∷ l)
+below-cons m a l h b zero k = h
+below-cons m a l h b (suc x) k = b x (omega arith)
+
+below-upFrom : (p : ℕ → Bool) (m lo n : ℕ) → lo + n ≤ m → Below m (keep p (upFrom lo n))
+unfolding upFrom keep
+below-upFrom p m lo zero h = λ x b. absurd (omega arith)
+below-upFrom p m lo (suc n) h = one (p lo) (below-upFrom p m (suc lo) n (omega arith))
+  where
+    rest : List ℕ
+    rest = keep p (upFrom (suc lo) n)
+
+    one : (b : Bool) → Below m rest → Below m (cond b (lo ∷ rest) rest)
+    one true r = below-cons m lo rest (omega arith) r
+    one false r = r
+
+-- what is kept of a range is below its end
+pub keep-below : (p : ℕ → Bool) (m : ℕ) → Below m (keep p (range 0 m))
+unfolding range
+keep-below p m = below-upFrom p m 0 (m - 0) (omega arith)
+
+-- ---- equal rules, equal images
+
+pub map-cong : {A B : Type 0} (f h : A → B) (xs : List A) → ((x : A) → Member x xs → f x ≡ h x) → map f xs ≡ map h xs
+map-cong f h [] e = refl
+map-cong f h (x ∷ xs) e = ap₂ _∷_ (e x (here refl)) (map-cong f h xs (λ y m. e y (there m)))

@@ -1,96 +1,76 @@
--- Laws of the shared words that stand in no crate below. Assumes nothing.
-use mathlib.Core.Path.{_≡_, refl, sym, ap, ap₂, subst, _∙_}
-use mathlib.Core.Bool.{Bool, true, false, _||_}
-use mathlib.Core.List.{List, [], _∷_, _++_}
-use Prim.Native.Nat.{ℕ, zero, suc, _+_, _-_, _*_, _/_, _%_, _<_, _≤_}
+-- Rows and grids: rows put, parts put back, entries of a grid. Assumes nothing.
+use mathlib.Core.Path.{_≡_, refl, sym, ap, _∙_, subst}
+use mathlib.Core.Logic.{⊎-elim}
+use mathlib.Core.List.{List, _++_, append-assoc}
+use Prim.Native.Nat.{ℕ, zero, suc, _+_, _-_, _<_, _≤_, _*_, _/_, _%_}
 use native.Mathlib.Nat.{add-sub-cancel-left, mul-zero, div-add-mod', mod-lt, div-lt-iff-lt-mul}
-use native.Mathlib.Numerals.{add-one}
 use native.Mathlib.Decide.{ℕ-discrete, decLt}
 use native.Mathlib.Omega.{arith}
-use lib.ListN.{length, getD, take, drop, set, replicate, length-drop, length-replicate, getD-replicate, replicate-append-replicate, List·getD-append}
-use lib.Seq.{length-take-le, getD-take, getD-drop, getD-append-add, getD-set-same, getD-set-other, take-at, drop-at, ext-getD}
-use lib.Ieee.{Float, nan}
 use borrow.Rule.Slice.PartMut.{putMid}
-use Rattle.lists.specs.Ranges.{range, table, rows, grid}
-use Rattle.lists.specs.Loops.{inTurn, fromTo}
-use Rattle.lists.specs.Filters.{any}
-use Rattle.lists.specs.Rows.{entry, row}
-use Rattle.lists.proofs.Ranges.{range-none, range-last, table-ext, length-rows, rows-ext, length-grid}
+use lib.ListN.{length, getD, take, drop, take-append-drop, length-drop, set, replicate, getD-replicate, List·getD-append}
+use lib.Seq.{length-take-le, ext-getD, take-at, drop-at, take-append-le, drop-append-le, getD-set-same, getD-set-other, getD-take, getD-drop, getD-append-add}
+use lib.Ieee.{Float, nan}
+use Rattle.lists.specs.Ranges.{table, rows, grid}
+use Rattle.lists.specs.Rows.{row, putRow, entry}
+use Rattle.lists.specs.Writes.{over}
+use Rattle.lists.proofs.Parts.{take-replicate, drop-replicate}
+use Rattle.lists.proofs.Ranges.{table-ext, rows-ext, length-rows, length-grid}
 use Rattle.lists.proofs.Rows.{row-end, cell-below, entry-grid}
-use Rattle.lists.proofs.Writes.{Filling, drop-over}
+use Rattle.lists.proofs.Truths.{order}
+use Rattle.lists.proofs.Writes.{drop-over, Filling}
 
--- ---- loops
+-- ---- rows of a list that is put together
 
-module _ {A : Type 0} where
-  -- a loop carries a fact from turn to turn
-  pub inTurn-carries : (P : ℕ → A → Type 0) (step : ℕ → A → A) (n : ℕ) (a : A) → P 0 a → ((k : ℕ) (b : A) → k < n → P k b → P (k + 1) (step k b)) → P n (inTurn step n a)
-  unfolding inTurn
-  inTurn-carries P step zero a p carries = p
-  inTurn-carries P step (suc n) a p carries =
-      subst (λ (k : ℕ). P k (step n (inTurn step n a))) (add-one n)
-      (carries n (inTurn step n a) (omega arith) (inTurn-carries P step n a p (λ k b h. carries k b (omega arith))))
+module _ {A : Type 0} (w : ℕ) where
+  -- the row after what lies before it, and another put in its place
+  pub row-at : (i : ℕ) (p r s : List A) → length p ≡ i * w → length r ≡ w → row w i (p ++ (r ++ s)) ≡ r
+  unfolding row
+  row-at i p r s e f = ap (take w) (drop-at p (r ++ s) (i * w) e) ∙ take-at r s w f
 
-  pub fromTo-carries : (P : ℕ → A → Type 0) (step : ℕ → A → A) (lo hi : ℕ) (a : A) → lo ≤ hi → P lo a
-      → ((k : ℕ) (b : A) → lo ≤ k → k < hi → P k b → P (k + 1) (step k b)) → P hi (fromTo step lo hi a)
-  unfolding fromTo
-  fromTo-carries P step lo hi a h p carries =
-      let start : lo ≡ lo + 0 = omega arith in
-      let end : lo + (hi - lo) ≡ hi = omega arith in
-      subst (λ (k : ℕ). P k (inTurn (λ j. step (lo + j)) (hi - lo) a)) end
-      (inTurn-carries (λ j b. P (lo + j) b) (λ j. step (lo + j)) (hi - lo) a (subst (λ (k : ℕ). P k a) start p)
-      (λ j b g q. let next : lo + j + 1 ≡ lo + (j + 1) = omega arith in subst (λ (k : ℕ). P k (step (lo + j) b)) next (carries (lo + j) b (omega arith) (omega arith) q)))
+  pub put-at : (i : ℕ) (p r s r′ : List A) → length p ≡ i * w → length r ≡ w → putRow w i r′ (p ++ (r ++ s)) ≡ p ++ (r′ ++ s)
+  unfolding putRow
+  put-at i p r s r′ e f = rw (take-at p (r ++ s) (i * w) e, drop-at p (r ++ s) (i * w) e, drop-at r s w f)
 
-  -- equal steps, equal loops
-  pub inTurn-ext : (f h : ℕ → A → A) (n : ℕ) (a : A) → ((k : ℕ) (b : A) → k < n → f k b ≡ h k b) → inTurn f n a ≡ inTurn h n a
-  unfolding inTurn
-  inTurn-ext f h zero a e = refl
-  inTurn-ext f h (suc n) a e = ap (f n) (inTurn-ext f h n a (λ k b g. e k b (omega arith))) ∙ e n (inTurn h n a) (omega arith)
+  -- a row that lies in the front
+  pub row-front : (i : ℕ) (p t : List A) → i * w + w ≤ length p → row w i (p ++ t) ≡ row w i p
+  unfolding row
+  row-front i p t h =
+      ap (take w) (drop-append-le (i * w) p t (omega arith)) ∙ take-append-le w (drop (i * w) p) t (rw length-drop (omega arith))
 
--- ---- a search through a range, one more at its end
+  pub row-taken : (i m : ℕ) (l t : List A) → i * w + w ≤ m → m ≤ length l → row w i (take m l ++ t) ≡ row w i l
+  row-taken i m l t h g =
+      let fits : i * w + w ≤ length (take m l) = omega (arith, length-take-le m l g) in
+      row-front i (take m l) t fits ∙ sym (row-front i (take m l) (drop m l) fits) ∙ ap (row w i) (take-append-drop m l)
 
-any-append : {A : Type 0} (p : A → Bool) (xs ys : List A) → any p (xs ++ ys) ≡ (any p xs || any p ys)
-unfolding any
-any-append p [] ys = refl
-any-append p (x ∷ xs) ys = ap (λ (b : Bool). p x || b) (any-append p xs ys) ∙ assoc (p x) (any p xs) (any p ys)
-  where
-    assoc : (a b c : Bool) → (a || (b || c)) ≡ ((a || b) || c)
-    assoc true b c = refl
-    assoc false b c = refl
+  -- the row that was put, one before it, one put over it, and the row itself put back
+  module _ (i : ℕ) (l r : List A) (fits : i * w ≤ length l) (long : length r ≡ w) where
+    pub row-put : row w i (putRow w i r l) ≡ r
+    unfolding putRow
+    row-put = row-at i (take (i * w) l) r (drop w (drop (i * w) l)) (length-take-le (i * w) l fits) long
 
-pub any-more : (p : ℕ → Bool) (i : ℕ) {b : Bool} → p i ≡ b → any p (range 0 (i + 1)) ≡ (any p (range 0 i) || b)
-unfolding any
-any-more p i {b} e = ap (any p) (range-last 0 i (omega arith)) ∙ any-append p (range 0 i) (i ∷ []) ∙ ap (λ (t : Bool). any p (range 0 i) || t) (last (p i) ∙ e)
-  where
-    last : (t : Bool) → (t || false) ≡ t
-    last true = refl
-    last false = refl
+    pub put-put : (r′ : List A) → putRow w i r′ (putRow w i r l) ≡ putRow w i r′ l
+    unfolding putRow
+    put-put r′ = put-at i (take (i * w) l) r (drop w (drop (i * w) l)) r′ (length-take-le (i * w) l fits) long
 
-pub any-same : (p q : ℕ → Bool) (n : ℕ) → ((i : ℕ) → i < n → p i ≡ q i) → any p (range 0 n) ≡ any q (range 0 n)
-unfolding any
-any-same p q zero e = ap (any p) (range-none 0 0 (omega arith)) ∙ ap (any q) (sym (range-none 0 0 (omega arith)))
-any-same p q (suc n) e =
-    let one : n + 1 ≡ suc n = add-one n in
-    ap (λ (k : ℕ). any p (range 0 k)) (sym one)
-    ∙ any-more p n refl
-    ∙ ap₂ (λ (a b : Bool). a || b) (any-same p q n (λ i h. e i (omega arith))) (e n (omega arith))
-    ∙ sym (any-more q n refl)
-    ∙ ap (λ (k : ℕ). any q (range 0 k)) one
+  pub row-before-put : (k i : ℕ) (l r : List A) → k < i → i * w ≤ length l → row w k (putRow w i r l) ≡ row w k l
+  unfolding putRow
+  row-before-put k i l r h fits = row-taken k (i * w) l (r ++ drop w (drop (i * w) l)) (row-end w k i h) fits
 
--- ---- one value everywhere
+  pub put-same : (i : ℕ) (l : List A) → putRow w i (row w i l) l ≡ l
+  unfolding row putRow
+  put-same i l = ap (λ (t : List A). take (i * w) l ++ t) (take-append-drop w (drop (i * w) l)) ∙ take-append-drop (i * w) l
 
-pub take-replicate : {A : Type 0} (k n : ℕ) (v : A) → k ≤ n → take k (replicate n v) ≡ replicate k v
-take-replicate {A} k n v h =
-    let split : k + (n - k) ≡ n = omega arith in
-    ap (λ (t : ℕ). take k (replicate t v)) (sym split)
-    ∙ ap (take k) (sym (replicate-append-replicate k (n - k) v))
-    ∙ take-at (replicate k v) (replicate (n - k) v) k (length-replicate k v)
-
-drop-replicate : {A : Type 0} (k n : ℕ) (v : A) → k ≤ n → drop k (replicate n v) ≡ replicate (n - k) v
-drop-replicate {A} k n v h =
-    let split : k + (n - k) ≡ n = omega arith in
-    ap (λ (t : ℕ). drop k (replicate t v)) (sym split)
-    ∙ ap (drop k) (sym (replicate-append-replicate k (n - k) v))
-    ∙ drop-at (replicate k v) (replicate (n - k) v) k (length-replicate k v)
+-- row i of rows of w entries each, whatever follows them
+pub row-rows : {A : Type 0} (w : ℕ) (f : ℕ → List A) → ((i : ℕ) → length (f i) ≡ w) → (k i : ℕ) (rest : List A) → i < k → row w i (rows k f ++ rest) ≡ f i
+unfolding row rows
+row-rows w f each zero i rest h = absurd (omega arith)
+row-rows w f each (suc k) i rest h =
+    ⊎-elim
+    (λ (p : k ≤ i).
+    let same : i ≡ k = omega arith in
+    rw (same, append-assoc (rows k f) (f k) rest, drop-at (rows k f) (f k ++ rest) (k * w) (length-rows w f k (λ j _. each j))) (take-at (f k) rest w (each k)))
+    (λ (p : i < k). ap (λ (l : List _). take w (drop (i * w) l)) (append-assoc (rows k f) (f k) rest) ∙ row-rows w f each k i (f k ++ rest) p)
+    (order k i)
 
 -- ---- the first k entries of row i, as the check has the part `&m[i * w..i * w + k]`
 

@@ -1,14 +1,12 @@
--- Laws of lists that no section owns. Assumes nothing.
+-- Two lists of one length, entry by entry. Assumes nothing.
 use mathlib.Core.Path.{_≡_, refl, sym, ap, _∙_, subst}
 use mathlib.Core.List.{List, [], _∷_, zipWith}
 use Prim.Native.Nat.{ℕ, zero, suc, _<_}
 use native.Mathlib.Nat.{not-suc-le-zero, le-of-suc-le-suc, suc-inj}
 use lib.ListN.{length, getD}
 use lib.Seq.{ext-getD}
 use Rattle.lists.specs.Ranges.{table}
 use Rattle.lists.proofs.Ranges.{length-table, getD-table}
-
--- ---- two lists of one length, entry by entry
 
 module _ {A B C : Type 0} (f : A → B → C) where
   pub length-zipWith : (xs : List A) (ys : List B) → length xs ≡ length ys → length (zipWith f xs ys) ≡ length xs
