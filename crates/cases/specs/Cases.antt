@@ -13,6 +13,7 @@ use Rattle.outcome.specs.declared.Check.the-variants.{Passed, Refused}
 use Rattle.outcome.specs.Refusals.{number, first}
 use Rattle.outcome.specs.Outcome.{Outcome, answered, refused}
 use Rattle.lot.specs.Lot.{Lot, lotOf}
+use Rattle.lot.specs.Cases.{example, zeros, three}
 use Rattle.lot.specs.Kept.{groups}
 use Rattle.lot.specs.Lines.{testLines}
 use Rattle.statistics.specs.Statistics.{totalOf, withinOf, locationF}
@@ -28,24 +29,9 @@ use Rattle.exhaustive.specs.Call.{Slices, outcomeOf}
 
 -- ---- lots
 
--- the example of section 7, with these labels
-abbrev pub example : List ℕ → Lot
-example labels = lotOf 4 (map num (
-    0 ∷ 2 ∷ 8 ∷ 10
-    ∷ 2 ∷ 0 ∷ 6 ∷ 8
-    ∷ 8 ∷ 6 ∷ 0 ∷ 2
-    ∷ 10 ∷ 8 ∷ 2 ∷ 0 ∷ [])) labels false [] false []
-
--- labels 0, 0, 1, 1 at distance 0: without strata, and with strata 0, 0, 1, 1
-abbrev pub zeros : Lot
-zeros = lotOf 4 (replicate 16 zero⁺) (0 ∷ 0 ∷ 1 ∷ 1 ∷ []) false [] false []
-
+-- case (f) with strata 0, 0, 1, 1
 abbrev pub apart : Lot
 apart = lotOf 4 (replicate 16 zero⁺) (0 ∷ 0 ∷ 1 ∷ 1 ∷ []) true (0 ∷ 0 ∷ 1 ∷ 1 ∷ []) false []
-
--- labels 0, 0, 1
-abbrev pub three : Lot
-three = lotOf 3 (replicate 9 zero⁺) (0 ∷ 0 ∷ 1 ∷ []) false [] false []
 
 -- k samples of label 0 and k of label 1 in one stratum
 abbrev pub halves : ℕ → Lot
@@ -108,7 +94,7 @@ cases =
     -- (g) labels 0, 0, 1, 1 with strata 0, 0, 1, 1: M 1
     ∷ sample (wayCount apart ∷ []) (1 ∷ [])
     -- (h) labels 0, 0, 1: 5
-    ∷ sample (told (first (testLines three false false)) ∷ []) (5 ∷ [])
+    ∷ sample (told (first (testLines (three (replicate 9 zero⁺)) false false)) ∷ []) (5 ∷ [])
     -- (i) 8 and 8 in one stratum: M 12,870; 9 and 9: 48,620, so 8
     ∷ sample (wayCount (halves 8) ∷ wayCount (halves 9) ∷ outcomeTold (outcomeOf (halves 9) lent) ∷ []) (12870 ∷ 48620 ∷ 8 ∷ [])
     -- (j) sets {5}, {5}, {}, {}: Gram entries 0.25, but -0.25 between the first two and the last two

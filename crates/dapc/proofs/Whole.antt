@@ -14,7 +14,7 @@ use Rattle.outcome.specs.declared.Check.the-variants as check
 use Rattle.outcome.specs.Refusals.{Line, first}
 use Rattle.outcome.specs.Outcome.{andThen}
 use Rattle.outcome.specs.Slices.{output, untouched}
-use Rattle.lot.specs.declared.groups.Sizes.{Sizes}
+use Rattle.lot.specs.declared.Sizes.{Sizes}
 use Rattle.lot.specs.Kept.{groupEach, keptCount, groupCount}
 use Rattle.lot.specs.Described.{Grouped}
 use Rattle.lot.proofs.Samples.{kept-few}

@@ -457,7 +457,7 @@ fn misfits(n: usize, columns: usize, x: usize, labels: usize, out: usize, assign
 pub fn beyond(x: &[f64]) -> bool
     ensures { λ r. ⌜ r ≡ any badCoordinate (now (x .entry)) ⌝ }
 {
-    lot::lines::any_outside(-1099511627776.0, 1099511627776.0, x)
+    lines::any_outside(-1099511627776.0, 1099511627776.0, x)
 }
 
 // Lines 1 to 3, for slices of these lengths.
@@ -527,7 +527,7 @@ fn assess(
 {
     let n = labels.len();
     let p = leading_of(columns, m, g);
-    lot::groups::fill_group_each(labels, ns, each);
+    kept::groups::fill_group_each(labels, ns, each);
     discriminate(out, assigned, x, &each[..n], columns, p, m, g)
 }
 
@@ -545,7 +545,7 @@ fn judge(
     requires { ⌜ Sized columns (now x) (now labels) (length (now out)) (length (now assigned)) (length (now gs)) × (length (now labels) ≤ length (now ks)) × (length (now labels) ≤ length (now ns)) ⌝ }
     ensures { λ r. ⌜ called r (now (out .exit)) (now (assigned .exit)) ≡ groupsCall (length (now (labels .entry))) columns (now (x .entry)) (now (labels .entry)) (now (out .entry)) (now (assigned .entry)) ⌝ }
 {
-    let s = lot::groups::group(labels, ks, ns, gs);
+    let s = kept::groups::group(labels, ks, ns, gs);
     let m = s.kept;
     let g = s.groups;
     let c = check_groups(columns, m, g);

@@ -31,7 +31,7 @@ use Rattle.dispersion.specs.Anova.{grandMean, groupMean, groupMeans, squared, s
 use Rattle.statistics.specs.Statistics.{totalOf, withinOf, locationF, zOf, dispersionF}
 use Rattle.statistics.specs.Statistics as statistics
 use Rattle.statistics.specs.Hits.{statistic, hit}
-use Rattle.permanova.proofs.Cases.{example, zeros}
+use Rattle.lot.specs.Cases.{example, zeros}
 use Rattle.ways.specs.Ways.{spend, deal, waysOf, ways, sizeFactorials, labelFactorials, wayCountOf, wayCount}
 use Rattle.ways.proofs.Cases as ways-cases
 use Rattle.exhaustive.specs.Exhaustive.{locationOf, dispersionOf, hits, locationHits, dispersionHits}

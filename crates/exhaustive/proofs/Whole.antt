@@ -45,7 +45,7 @@ use Rattle.statistics.specs.Statistics.{totalOf, withinOf, locationF, rSquaredO
 use Rattle.statistics.specs.Statistics as statistics
 use Rattle.statistics.specs.Warnings.{uninformed, sizesOf, warned}
 use Rattle.observation.specs.Observed.{located, spread, observed}
-use Rattle.permanova.proofs.Lots.{named-few}
+use Rattle.lot.proofs.Numbering.{named-few}
 use Rattle.coordinates.specs.Finish.{Coordinates}
 use Rattle.coordinates.specs.Pcoa.{pcoa}
 use Rattle.dapc.specs.Dapc.{leading}

@@ -382,7 +382,7 @@ fn judge_lot(
         ≡ exhaustiveCall (lotOf n (now (distances .entry)) (now (labels .entry)) stratified (now (strata .entry)) weighted (now (weights .entry)))
         (slicesOf (now (names .entry)) (now (counts .entry)) (now (means .entry)) (now (terms .entry)) (now (pulls .entry)) (now (coords .entry)) (now (room .entry)) (now (vectors .entry)) (now (rows .entry))) ⌝ }
 {
-    let shape = lot::describe(labels, stratified, strata, ks, ns, gs, ss);
+    let shape = description::describe(labels, stratified, strata, ks, ns, gs, ss);
     let m = shape.kept;
     let g = shape.groups;
     judge_few(
@@ -544,7 +544,7 @@ pub fn exhaustive(
         vectors.len(),
         rows.len(),
     );
-    let c = lot::lines::check_lot(
+    let c = lines::check_lot(
         n,
         distances,
         labels,

@@ -1,7 +1,7 @@
 -- Judged samples of the trade: case h. Labels 0,0,1 are turned away with 5, whatever the distances allowed. Assumes nothing.
 use mathlib.Core.Path.{_≡_, refl}
 use mathlib.Core.Bool.{false}
-use mathlib.Core.List.{List, [], _∷_}
+use mathlib.Core.List.{List}
 use lib.ListN.{length, replicate}
 use lib.Ieee.{Float, le, ofBits}
 use Rattle.float.specs.Floats.{zero⁺}
@@ -11,13 +11,9 @@ use Rattle.lists.specs.Numbers.{howMany, insertUp, upward}
 use Rattle.outcome.specs.declared.Refusal.the-variants.{Labels}
 use Rattle.outcome.specs.declared.Check.the-variants.{Refused}
 use Rattle.outcome.specs.Refusals.{number, first}
-use Rattle.lot.specs.Lot.{Lot, lotOf}
+use Rattle.lot.specs.Cases.{three}
 use Rattle.lot.specs.Kept.{twice, kept, gathered, keptLabels, names, groupCount}
 use Rattle.lot.specs.Lines.{badDistance, misfits, testLines}
-
--- three samples with labels 0, 0, 1
-abbrev pub three : List Float → Lot
-three d = lotOf 3 d (0 ∷ 0 ∷ 1 ∷ []) false [] false []
 
 pub case-h : (d : List Float) → length d ≡ 9 → any badDistance d ≡ false → first (testLines (three d) false false) ≡ Refused Labels
 unfolding first testLines misfits groupCount names keptLabels gathered kept twice howMany countIf keep range upFrom upward insertUp

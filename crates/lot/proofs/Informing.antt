@@ -2,7 +2,7 @@
 use mathlib.Core.Path.{_≡_, refl, sym, ap, _∙_}
 use mathlib.Core.Bool.{Bool, true, false, not, _&&_}
 use mathlib.Core.List.{List, List·Memᴰ as Member}
-use Prim.Native.Nat.{ℕ, _<_}
+use Prim.Native.Nat.{ℕ, _<_, _≤_}
 use native.Mathlib.Omega.{arith}
 use borrow.Author.Tests.{eqb-true, eqb-false, eq-eqb, ne-eqb, not-true, not-false}
 use lib.Dec.{eqb}
@@ -10,11 +10,13 @@ use lib.ListN.{length, getD}
 use Rattle.lists.specs.Ranges.{range}
 use Rattle.lists.specs.Filters.{any}
 use Rattle.lists.specs.Numbers.{inGroup, members}
-use Rattle.lot.specs.Strata.{informs}
+use Rattle.lot.specs.Strata.{informs, informative}
 use Rattle.lot.specs.Way.{tally}
 use Rattle.lot.proofs.Tallies.{Counted, tally-own, tally-some}
 use Rattle.lists.proofs.Truths.{and-both}
 use Rattle.lists.proofs.Members.{member-range, range-member, member-keep, keep-member, member-any, any-member, none-any, any-fails}
+use Rattle.lists.proofs.Filters.{countIf-below}
+use Rattle.lists.proofs.Ranges.{length-range}
 
 -- the sample b is of stratum s and not in group g
 abbrev pub other : List ℕ → List ℕ → ℕ → ℕ → ℕ → Bool
@@ -131,3 +133,8 @@ pub informs-same : (ss gs hs : List ℕ) (m : ℕ) → length ss ≡ m → lengt
 informs-same ss gs hs m fits fit-g fit-h same s = both-ways (informs ss hs m s) (informs ss gs m s)
     (λ e. differing-informs ss gs m s (differing-same ss hs gs m s fits fit-h fit-g same (informs-differing ss hs m s e)))
     (λ e. differing-informs ss hs m s (differing-same ss gs hs m s fits fit-g fit-h (λ s j. sym (same s j)) (informs-differing ss gs m s e)))
+
+-- the samples that inform are at most all
+pub informing-few : (ss gs : List ℕ) (m : ℕ) {a : ℕ} → a ≡ informative ss gs m → a ≤ m
+unfolding informative
+informing-few ss gs m e = omega (arith, e, countIf-below (λ k. informs ss gs m (getD ss k 0)) (range 0 m), length-range 0 m)

@@ -5,7 +5,7 @@ use mathlib.Core.List.{List, [], _∷_, _++_, map, foldl}
 use Prim.Native.Nat.{ℕ, zero, _+_, _<_, _≤_}
 use native.Mathlib.Nat.{add-zero}
 use native.Mathlib.Omega.{arith}
-use borrow.Author.Tests.{eq-eqb, ne-eqb}
+use borrow.Author.Tests.{eq-eqb, ne-eqb, eqb-true, eqb-false}
 use lib.Dec.{eqb}
 use lib.ListN.{length, getD, take, drop, set, replicate, length-append, length-map}
 use lib.Seq.{length-take-le, take-all}
@@ -16,13 +16,13 @@ use Rattle.lists.specs.Writes.{over, cleared}
 use Rattle.lists.proofs.Ranges.{length-table}
 use Rattle.lists.proofs.Filters.{keep-last-yes, keep-last-no, length-keep, countIf-below, countIf-append, countIf-yes, countIf-no}
 use Rattle.lists.proofs.Writes.{Writing, writing-none, writing-next, writing-here, writing-all}
-use Rattle.lot.specs.Lot.{none}
+use Rattle.lot.specs.Lot.{none, Lot}
 use Rattle.lot.specs.Filled.{Filled}
-use Rattle.lot.specs.Kept.{gathered}
-use Rattle.lot.specs.Strata.{named, noted, numbered}
+use Rattle.lot.specs.Kept.{gathered, kept, keptCount}
+use Rattle.lot.specs.Strata.{named, noted, numbered, heldStrata, strataCount}
 use Rattle.lot.specs.Described.{Stratified}
 use Rattle.lists.proofs.Parts.{over-lent, over-back, getD-either, take-more}
-use Rattle.lists.proofs.Members.{see}
+use Rattle.lists.proofs.Members.{see, keep-member, keep-cong}
 use Rattle.lot.proofs.Fills.{filled-none, filled-take, filled-as, filled-more, filled-over, filled-front}
 use Rattle.lot.proofs.Samples.{front-gathered, length-gathered}
 
@@ -185,3 +185,36 @@ module _ (given ks out : List ℕ) {stratified : Bool} {r : List ℕ} where
       zeros-map : (l : List ℕ) → map {B = ℕ} (λ (i : ℕ). 0) l ≡ replicate (length l) 0
       zeros-map [] = refl
       zeros-map (x ∷ l) = ap (λ (t : List ℕ). 0 ∷ t) (zeros-map l)
+
+-- ---- strata are at most as many as the samples
+
+keep-all : {A : Type 0} (xs : List A) → keep (λ x. true) xs ≡ xs
+unfolding keep
+keep-all [] = refl
+keep-all (x ∷ xs) = ap (λ t. x ∷ t) (keep-all xs)
+
+-- those that are named and those that are none are all
+named-none : (held : List ℕ) → countIf (λ s. not (eqb s none)) held + howMany none held ≡ length held
+unfolding countIf howMany
+named-none [] = refl
+named-none (s ∷ held) = by (eqb s none) refl (named-none held)
+  where
+    by : (b : Bool) → eqb s none ≡ b → countIf (λ s. not (eqb s none)) held + countIf (eqb none) held ≡ length held
+        → (cond (not (eqb s none)) 1 0 + countIf (λ s. not (eqb s none)) held) + (cond (eqb none s) 1 0 + countIf (eqb none) held) ≡ length (s ∷ held)
+    by true e h = rw (e, eq-eqb none s (sym (eqb-true s none e))) (omega (arith, h))
+    by false e h = rw (e, ne-eqb none s (λ f. eqb-false s none e (sym f))) (omega (arith, h))
+
+pub named-few : (held : List ℕ) → length (named held) + howMany none held ≤ length held
+unfolding named
+named-few held =
+    let p : ℕ → Bool = λ s. not (eqb s none) in
+    let again : keep p (keep p held) ≡ keep p held = keep-cong p (λ s. true) (keep p held) (λ s m. keep-member p held s m .0) ∙ keep-all (keep p held) in
+    omega (arith, length-named (keep p held), ap (λ l. length (firsts l)) again, length-keep p held, named-none held)
+
+pub strata-few : (lot : Lot) → keptCount (lot .labels) ≤ 256 → strataCount lot ≤ 256
+unfolding strataCount heldStrata keptCount
+strata-few lot h = by (lot .stratified)
+  where
+    by : (b : Bool) → cond b (length (named (heldStrata lot)) + howMany none (heldStrata lot)) 1 ≤ 256
+    by true = omega (arith, named-few (heldStrata lot), length-gathered (lot .strata) (kept (lot .labels)))
+    by false = omega arith

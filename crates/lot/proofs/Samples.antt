@@ -6,17 +6,17 @@ use Prim.Native.Nat.{ℕ, _+_, _≤_}
 use native.Mathlib.Omega.{arith}
 use lib.ListN.{length, getD, take, drop, length-map}
 use lib.Ieee.{Float}
-use Rattle.lists.specs.Ranges.{range}
-use Rattle.lists.specs.Numbers.{howMany, position, upward, Below}
+use Rattle.lists.specs.Ranges.{range, table}
+use Rattle.lists.specs.Numbers.{howMany, position, upward, Below, members}
 use Rattle.lists.specs.Writes.{over}
-use Rattle.lists.proofs.Ranges.{length-range}
+use Rattle.lists.proofs.Ranges.{length-range, length-table}
 use Rattle.lists.proofs.Filters.{length-keep, countIf-below}
 use Rattle.lists.proofs.Writes.{take-over}
 use Rattle.lot.specs.Lot.{none, lotOf}
 use Rattle.lot.specs.Filled.{Filled}
-use Rattle.lot.specs.Kept.{twice, kept, gathered, keptLabels, names, groups}
+use Rattle.lot.specs.Kept.{twice, kept, gathered, keptLabels, names, groups, sizes}
 use Rattle.lot.specs.Strata.{named, numbered, heldStrata, strata, strataCount}
-use Rattle.lot.specs.declared.groups.Sizes.{Sizes}
+use Rattle.lot.specs.declared.Sizes.{Sizes}
 use Rattle.lot.specs.Described.{samplesOf, Grouped, Stratified, Described}
 use Rattle.lists.proofs.Members.{keep-below}
 use Rattle.lists.proofs.Parts.{over-back}
@@ -106,6 +106,12 @@ module _ (labels given : List ℕ) (stratified : Bool) {sizes : Sizes} {ks ns gs
     stratified = t .numbers ∙ ap (λ (l : List ℕ). over (cond stratified (numbered (gathered given l)) (map (λ i. 0) l)) ss) front-kept;
     strataMany = t .count ∙ ap (λ (l : List ℕ). cond stratified (length (named (gathered given l)) + howMany none (gathered given l)) 1) front-kept;
   }
+
+-- ---- the front of the counts
+
+pub front-sizes : (gs old : List ℕ) (m g : ℕ) {l : List ℕ} → l ≡ over (sizes gs m g) old → take g l ≡ sizes gs m g
+unfolding sizes
+front-sizes gs old m g e = ap (take g) e ∙ take-over (table g (λ j. length (members gs m j))) old g (length-table (λ j. length (members gs m j)) g)
 
 -- ---- what is told of the samples is told of the lot
 

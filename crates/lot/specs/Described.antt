@@ -6,7 +6,7 @@ use mathlib.Core.List.{List, [], map}
 use lib.ListN.{length}
 use Rattle.lists.specs.Numbers.{howMany}
 use Rattle.lists.specs.Writes.{over}
-use Rattle.lot.specs.declared.groups.Sizes.{Sizes}
+use Rattle.lot.specs.declared.Sizes.{Sizes}
 use Rattle.lot.specs.declared.Shape.{Shape}
 use Rattle.lot.specs.Lot.{Lot, none, lotOf}
 use Rattle.lot.specs.Filled.{Filled}

@@ -6,3 +6,4 @@ pub mod Strata
 pub mod Described
 pub mod Way
 pub mod Lines
+pub mod Cases

@@ -1,14 +1,8 @@
-// Section 2: a lot's kept samples, groups and strata, and the lines of the table that both tests share.
-pub mod groups;
-mod kept;
-pub mod lines;
-pub mod strata;
-
+// Section 2: a lot, its kept samples, groups and strata, and the lines of the table that both tests share: what they mean.
 ghost use mathlib.Core.Path.{_≡_};
 ghost use Prim.Native.Nat.{_<_};
 ghost use lib.ListN.{length};
 ghost use Rattle.lists.specs.Numbers.{howMany};
-ghost use Rattle.lot.specs.Described.{samplesOf, Room, Described};
 
 // No label, no stratum, no group.
 pub const NONE: u16 = 65535;
@@ -27,33 +21,15 @@ pub fn how_many(labels: &[u16], l: u16) -> u16
     count
 }
 
+// How many samples are kept, and how many groups they are in.
+pub struct Sizes {
+    pub kept: usize,
+    pub groups: usize,
+}
+
 // How many samples are kept, how many groups they are in, and how many strata.
 pub struct Shape {
     pub kept: usize,
     pub groups: usize,
     pub strata: usize,
-}
-
-// The kept samples go to `ks`, the groups' labels to `ns`, and the group and the stratum of each kept sample to `gs` and `ss`.
-pub fn describe(
-    labels: &[u16],
-    stratified: bool,
-    given: &[u16],
-    ks: &mut [u16],
-    ns: &mut [u16],
-    gs: &mut [u16],
-    ss: &mut [u16],
-) -> Shape
-    requires { ⌜ Room (samplesOf (now labels) stratified (now given)) (now ks) (now ns) (now gs) (now ss) ⌝ }
-    ensures { λ r. ⌜ Described (samplesOf (now (labels .entry)) stratified (now (given .entry))) r
-        (now (ks .entry)) (now (ns .entry)) (now (gs .entry)) (now (ss .entry)) (now (ks .exit)) (now (ns .exit)) (now (gs .exit)) (now (ss .exit)) ⌝ }
-{
-    let sizes = groups::group(labels, ks, ns, gs);
-    let m = sizes.kept;
-    let s = strata::stratify(stratified, given, &ks[..m], ss);
-    Shape {
-        kept: m,
-        groups: sizes.groups,
-        strata: s,
-    }
 }

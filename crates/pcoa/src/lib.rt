@@ -201,7 +201,7 @@ fn check(
     requires { ⌜ k ≡ min components n ⌝ }
     ensures { λ r. ⌜ r ≡ first (pcoaLines components n (now (d .entry)) out b w m v) ⌝ }
 {
-    if !lot::lines::is_square(d.len(), n) {
+    if !lines::is_square(d.len(), n) {
         return Check::Refused(Refusal::Length);
     }
     if too_short(n, k, out, b, w, m, v) {
@@ -213,7 +213,7 @@ fn check(
     if bad_components(components) {
         return Check::Refused(Refusal::Limit);
     }
-    if lot::lines::any_outside(0.0, 1048576.0, d) {
+    if lines::any_outside(0.0, 1048576.0, d) {
         return Check::Refused(Refusal::Value);
     }
     if n < 3 {

@@ -5,16 +5,12 @@ use mathlib.Core.List.{List, _++_, map}
 use Prim.Native.Nat.{ℕ, _≤_}
 use lib.Dec.{eqb}
 use native.Mathlib.Omega.{arith}
-use lib.ListN.{length, getD, take, drop, replicate, length-append, length-drop}
+use lib.ListN.{length, take, drop, replicate, length-append, length-drop}
 use lib.Seq.{length-take-le}
 use lib.Ieee.{Float}
-use Rattle.lists.specs.Ranges.{table}
-use Rattle.lists.specs.Numbers.{members}
 use Rattle.lists.specs.Writes.{over, cleared}
-use Rattle.lists.proofs.Ranges.{length-table}
-use Rattle.lists.proofs.Writes.{take-over}
 use Rattle.lot.specs.Kept.{sizes}
-use Rattle.lot.specs.Strata.{informs, informative}
+use Rattle.lot.specs.Strata.{informative}
 use Rattle.location.specs.Squares.{weightAt, terms, pulls}
 use Rattle.dispersion.specs.Dispersion.{zOf}
 use Rattle.dispersion.specs.Anova.{meanZ}
@@ -22,17 +18,6 @@ use Rattle.permanova.specs.declared.TestResult.{TestResult}
 use Rattle.permanova.specs.declared.Measured.{Measured}
 use Rattle.permanova.specs.Measured.{measured, concluded}
 use Rattle.permanova.specs.Answered.{answerFor, meansFor}
-use Rattle.chances.proofs.Chances.{hits-few}
-
--- the samples that inform are at most all
-pub informing-few : (ss gs : List ℕ) (m : ℕ) {a : ℕ} → a ≡ informative ss gs m → a ≤ m
-unfolding informative
-informing-few ss gs m e = hits-few (λ k. informs ss gs m (getD ss k 0)) m e
-
--- the front of the counts
-pub front-sizes : (gs old : List ℕ) (m g : ℕ) {l : List ℕ} → l ≡ over (sizes gs m g) old → take g l ≡ sizes gs m g
-unfolding sizes
-front-sizes gs old m g e = ap (take g) e ∙ take-over (table g (λ j. length (members gs m j))) old g (length-table (λ j. length (members gs m j)) g)
 
 module _ (d : List Float) (n : ℕ) (labels ks gs ss : List ℕ) (stratified weighted : Bool) (weights : List Float) (m g s seed k : ℕ)
     {w t p : List Float} (weighed : w ≡ map (weightAt weighted weights) ks) (termed : t ≡ terms d n ks (map (weightAt weighted weights) ks) m)

@@ -1,11 +1,10 @@
 -- Judged samples of the trade: cases (c) to (f), as far as they speak of the sampled test. Assumes nothing.
 use mathlib.Core.Path.{_≡_, refl}
-use mathlib.Core.Bool.{false}
-use mathlib.Core.List.{List, [], _∷_, map}
+use mathlib.Core.List.{[], _∷_}
 use Prim.Native.Nat.{ℕ, _≤_}
 use borrow.Author.Tests.{le-ltb}
-use lib.ListN.{length, replicate}
-use lib.Ieee.{Float, add, sub, mul, div, neg, lt, le, ofBits, ofInt, odd, size}
+use lib.ListN.{length}
+use lib.Ieee.{add, sub, mul, div, neg, lt, le, ofBits, ofInt, odd, size}
 use Rattle.float.specs.Floats.{f64, num, zero⁺}
 use Rattle.float.specs.Order.{larger}
 use Rattle.float.specs.Root.{root}
@@ -16,7 +15,7 @@ use Rattle.lists.specs.Sums.{sumFrom}
 use Rattle.lists.specs.Rows.{entry}
 use Rattle.outcome.specs.declared.Check.the-variants.{Passed}
 use Rattle.outcome.specs.Refusals.{first, short}
-use Rattle.lot.specs.Lot.{Lot, lotOf}
+use Rattle.lot.specs.Cases.{example, zeros}
 use Rattle.lot.specs.Kept.{twice, kept, gathered, keptLabels, names, groups, keptCount, groupCount}
 use Rattle.lot.specs.Lines.{misfits, testLines}
 use Rattle.location.specs.Squares.{squareAt, weightAt, termAt, pullAt, terms, pulls, weightsOf, termsOf, pullsOf}
@@ -31,18 +30,6 @@ use Rattle.chances.specs.declared.Chance.the-variants.{NoP}
 use Rattle.chances.specs.Chances.{chance}
 use Rattle.permanova.specs.Sampled.{chanceOf, locationChance, dispersionChance}
 use Rattle.permanova.specs.Call.{Slices, tooShort, testCheck, tested}
-
--- ---- the example of section 7, with these labels
-
-abbrev pub distances : List ℕ
-distances =
-    0 ∷ 2 ∷ 8 ∷ 10
-    ∷ 2 ∷ 0 ∷ 6 ∷ 8
-    ∷ 8 ∷ 6 ∷ 0 ∷ 2
-    ∷ 10 ∷ 8 ∷ 2 ∷ 0 ∷ []
-
-abbrev pub example : List ℕ → Lot
-example labels = lotOf 4 (map num distances) labels false [] false []
 
 -- (c) the example: total 68, within 4, F 32
 pub case-c-total : totalOf (example (0 ∷ 0 ∷ 1 ∷ 1 ∷ [])) ≡ num 68
@@ -75,9 +62,6 @@ example-passes n s h a b c d e =
     rw (le-ltb _ _ a, le-ltb _ _ b, le-ltb _ _ c, le-ltb _ _ d, le-ltb _ _ e, le-ltb _ _ h)
 
 -- ---- (f) all distances 0: neither F is finite, and neither has a p, whatever the seed and however many shuffles
-
-abbrev pub zeros : Lot
-zeros = lotOf 4 (replicate 16 zero⁺) (0 ∷ 0 ∷ 1 ∷ 1 ∷ []) false [] false []
 
 location-unbounded : statistic (locationF zeros (groups (zeros .labels))) ≡ Unbounded
 unfolding statistic add sub mul div neg lt ofBits ofInt odd size larger locationF pseudoF fRatio totalOf total rowsSum rowSum withinOf within groupWithin groupWeight pairSum pairs members entry sumFrom weightsOf termsOf terms termAt weightAt squareAt grid rows table range upFrom groups position firstAt keptCount groupCount names keptLabels gathered kept twice howMany countIf keep upward insertUp

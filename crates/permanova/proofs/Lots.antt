@@ -1,69 +1,34 @@
 -- What is known of a lot that no line turns away, and of its description. Assumes nothing.
-use mathlib.Core.Path.{_≡_, refl, sym, ap, _∙_, subst}
-use mathlib.Core.Bool.{Bool, true, false, not, cond}
-use mathlib.Core.List.{List, [], _∷_}
-use Prim.Native.Nat.{ℕ, _+_, _*_, _<_, _≤_}
+use mathlib.Core.Path.{_≡_, sym, ap, _∙_, subst}
+use mathlib.Core.Bool.{true, false}
+use mathlib.Core.List.{List}
+use Prim.Native.Nat.{ℕ, _*_, _<_, _≤_}
 use native.Mathlib.Nat.{mul-le-mul}
 use native.Mathlib.Omega.{arith}
-use borrow.Author.Tests.{eq-eqb, ne-eqb, eqb-true, eqb-false, lt-ltb, le-ltb, ltb-false}
-use lib.Dec.{eqb, ltb}
+use borrow.Author.Tests.{lt-ltb, le-ltb, ltb-false}
+use lib.Dec.{ltb}
 use lib.ListN.{length, take}
-use Rattle.lists.specs.Filters.{keep, countIf, any}
-use Rattle.lists.specs.Numbers.{howMany, firsts, Below}
+use Rattle.lists.specs.Filters.{any}
+use Rattle.lists.specs.Numbers.{Below}
 use Rattle.lists.specs.Writes.{over}
-use Rattle.lists.proofs.Filters.{length-keep}
 use Rattle.lists.proofs.Writes.{take-over}
 use Rattle.outcome.specs.declared.Check.the-variants.{Passed}
 use Rattle.outcome.specs.Refusals.{short}
 use Rattle.lot.specs.declared.Shape.{Shape}
-use Rattle.lot.specs.Lot.{Lot, none}
+use Rattle.lot.specs.Lot.{Lot}
 use Rattle.lot.specs.Kept.{kept, keptLabels, names, groups, keptCount, groupCount}
-use Rattle.lot.specs.Strata.{named, heldStrata, strata, strataCount}
+use Rattle.lot.specs.Strata.{heldStrata, strata, strataCount}
 use Rattle.lot.specs.Described.{samplesOf, Described}
 use Rattle.lot.specs.Described as lots
 use Rattle.lists.proofs.Truths.{or-neither, or-false}
-use Rattle.lists.proofs.Members.{keep-member, keep-cong}
-use Rattle.lot.proofs.Numbering.{length-named}
+use Rattle.lot.proofs.Numbering.{strata-few}
 use Rattle.lot.proofs.Inserts.{length-upward}
-use Rattle.lot.proofs.Samples.{length-gathered, kept-below, kept-few, length-keptLabels, length-groups}
+use Rattle.lot.proofs.Samples.{kept-below, kept-few, length-keptLabels, length-groups}
 use Rattle.lot.proofs.Within.{groups-below, length-strata}
 use Rattle.lot.proofs.Fills.{filled-front}
 use Rattle.lot.proofs.Checks.{Passes, passes, passes-room}
 use Rattle.permanova.specs.Room.{Kept}
 use Rattle.permanova.specs.Call.{Slices, tooShort, testCheck}
-
--- ---- strata are at most as many as the samples
-
-keep-all : {A : Type 0} (xs : List A) → keep (λ x. true) xs ≡ xs
-unfolding keep
-keep-all [] = refl
-keep-all (x ∷ xs) = ap (λ t. x ∷ t) (keep-all xs)
-
--- those that are named and those that are none are all
-named-none : (held : List ℕ) → countIf (λ s. not (eqb s none)) held + howMany none held ≡ length held
-unfolding countIf howMany
-named-none [] = refl
-named-none (s ∷ held) = by (eqb s none) refl (named-none held)
-  where
-    by : (b : Bool) → eqb s none ≡ b → countIf (λ s. not (eqb s none)) held + countIf (eqb none) held ≡ length held
-        → (cond (not (eqb s none)) 1 0 + countIf (λ s. not (eqb s none)) held) + (cond (eqb none s) 1 0 + countIf (eqb none) held) ≡ length (s ∷ held)
-    by true e h = rw (e, eq-eqb none s (sym (eqb-true s none e))) (omega (arith, h))
-    by false e h = rw (e, ne-eqb none s (λ f. eqb-false s none e (sym f))) (omega (arith, h))
-
-pub named-few : (held : List ℕ) → length (named held) + howMany none held ≤ length held
-unfolding named
-named-few held =
-    let p : ℕ → Bool = λ s. not (eqb s none) in
-    let again : keep p (keep p held) ≡ keep p held = keep-cong p (λ s. true) (keep p held) (λ s m. keep-member p held s m .0) ∙ keep-all (keep p held) in
-    omega (arith, length-named (keep p held), ap (λ l. length (firsts l)) again, length-keep p held, named-none held)
-
-strata-few : (lot : Lot) → keptCount (lot .labels) ≤ 256 → strataCount lot ≤ 256
-unfolding strataCount heldStrata keptCount
-strata-few lot h = by (lot .stratified)
-  where
-    by : (b : Bool) → cond b (length (named (heldStrata lot)) + howMany none (heldStrata lot)) 1 ≤ 256
-    by true = omega (arith, named-few (heldStrata lot), length-gathered (lot .strata) (kept (lot .labels)))
-    by false = omega arith
 
 -- ---- line 1, by the tests that the code makes
 

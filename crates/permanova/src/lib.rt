@@ -113,7 +113,7 @@ fn conclude(
     requires { ⌜ (length (now labels) < 65536) × (informing < 65536) × (m < 65536) ⌝ }
     ensures { λ r. ⌜ r ≡ concluded (now (labels .entry)) stratified weighted m g informing (now (counts .entry)) x ⌝ }
 {
-    let fraction = lot::strata::fraction(informing, m);
+    let fraction = strata::fraction(informing, m);
     let left = chances::left_out(labels);
     let none = chances::uninformed(stratified, informing);
     let few = chances::few_inform(fraction, informing);
@@ -167,7 +167,7 @@ fn run_with(
         × (now (means .exit) ≡ over (meansFor (now (d .entry)) n (now (ks .entry)) (now (gs .entry)) weighted (now (weights .entry)) m g) (now (means .entry))) ⌝ }
 {
     observation::weigh(d, n, ks, m, weighted, weights, w, t, p);
-    let informing = lot::strata::informative(ss, gs);
+    let informing = strata::informative(ss, gs);
     let none = chances::uninformed(stratified, informing);
     let x = measure(
         p,
@@ -361,7 +361,7 @@ fn run_lot(
     ensures { λ r. ⌜ called r (slicesOf (now (names .exit)) (now (counts .exit)) (now (means .exit)) (now (terms .exit)) (now (pulls .exit)))
         ≡ accepted (lotOf n (now (distances .entry)) (now (labels .entry)) stratified (now (strata .entry)) weighted (now (weights .entry))) seed «n_perm» (slicesOf (now (names .entry)) (now (counts .entry)) (now (means .entry)) (now (terms .entry)) (now (pulls .entry))) ⌝ }
 {
-    let shape = lot::describe(labels, stratified, strata, ks, names, gs, ss);
+    let shape = description::describe(labels, stratified, strata, ks, names, gs, ss);
     let r = run_front(
         counts,
         means,
@@ -459,7 +459,7 @@ pub fn test(
         terms.len(),
         pulls.len(),
     );
-    let c = lot::lines::check_lot(
+    let c = lines::check_lot(
         n,
         distances,
         labels,

@@ -162,8 +162,8 @@ fn conclude(
     requires { ⌜ (length (now labels) < 65536) × (length (now gs) ≡ length (now ss)) × (length (now ss) ≡ m) × (m < 65536) ⌝ }
     ensures { λ r. ⌜ r ≡ concluded (now (labels .entry)) stratified m g ways (informative (now (ss .entry)) (now (gs .entry)) m) (now (counts .entry)) o c ⌝ }
 {
-    let informing = lot::strata::informative(ss, gs);
-    let fraction = lot::strata::fraction(informing, m);
+    let informing = strata::informative(ss, gs);
+    let fraction = strata::fraction(informing, m);
     let warnings = warn(labels, stratified, informing, fraction, counts, o.negative);
     let seen = c.seen;
     let hits = c.hits;

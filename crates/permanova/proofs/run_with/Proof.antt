@@ -7,7 +7,9 @@ use native.Mathlib.Omega.{arith}
 use borrow.Author.Needs.{needs}
 use Rattle.location.specs.Squares.{terms, pulls}
 use lib.Seq.{length-take-le}
-use Rattle.permanova.proofs.Answers.{informing-few, front-sizes, answer-is, means-are}
+use Rattle.lot.proofs.Informing.{informing-few}
+use Rattle.lot.proofs.Samples.{front-sizes}
+use Rattle.permanova.proofs.Answers.{answer-is, means-are}
 use Rattle.permanova.proofs.run_with.Statement.{statement}
 use Rattle.permanova.proofs.run_with.Tie as tie
 

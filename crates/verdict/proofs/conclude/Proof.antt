@@ -4,7 +4,7 @@ use Prim.Native.Nat.{_-_}
 use native.Mathlib.Omega.{arith}
 use borrow.Author.Needs.{needs}
 use lib.ListN.{length}
-use Rattle.permanova.proofs.Answers.{informing-few}
+use Rattle.lot.proofs.Informing.{informing-few}
 use Rattle.verdict.proofs.Answers.{concluded-is}
 use Rattle.verdict.proofs.conclude.Statement.{statement}
 use Rattle.verdict.proofs.conclude.Tie as tie

@@ -5,7 +5,7 @@ use Prim.Native.Nat.{_-_}
 use native.Mathlib.Omega.{arith}
 use borrow.Author.Needs.{needs}
 use lib.Seq.{length-take-le}
-use Rattle.permanova.proofs.Answers.{front-sizes}
+use Rattle.lot.proofs.Samples.{front-sizes}
 use Rattle.verdict.proofs.Answers.{kept-weighed, kept-ways, answer-is, means-are}
 use Rattle.verdict.proofs.judge_with.Statement.{statement}
 use Rattle.verdict.proofs.judge_with.Tie as tie

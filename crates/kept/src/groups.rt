@@ -1,0 +1,63 @@
+// The groups of a lot: kept samples, the groups' labels, and each sample's group (section 2).
+ghost use mathlib.Core.Path.{_≡_};
+ghost use Prim.Native.Nat.{_<_, _≤_};
+ghost use mathlib.Core.Bool.{cond};
+ghost use mathlib.Core.List.{map};
+ghost use lib.ListN.{length};
+ghost use Rattle.lists.specs.Numbers.{stands, position, upward};
+ghost use Rattle.lists.specs.Writes.{over};
+ghost use Rattle.lot.specs.Lot.{none};
+ghost use Rattle.lot.specs.Filled.{Filled};
+ghost use Rattle.lot.specs.Described.{Grouped};
+ghost use Rattle.lot.specs.Kept as spec;
+
+// Each label gives way to its group, and the groups' labels go to the front of `ns`. Returns how many they are.
+fn number_labels(labels: &mut [u16], ns: &mut [u16]) -> usize
+    requires { ⌜ (length (now labels) < 65536) × (length (now labels) ≤ length (now ns)) ⌝ }
+    ensures { λ r. ⌜ Filled (upward (now (labels .entry))) (now (ns .entry)) (now (ns .exit)) r
+        × (now (labels .exit) ≡ map (λ l. position l (upward (now (labels .entry)))) (now (labels .entry))) ⌝ }
+{
+    let g = crate::fill_upward(labels, ns);
+    crate::number_by(&ns[..g], labels);
+    g
+}
+
+// The groups' labels go to `ns`, and the group of each kept sample to `gs`. Returns how many groups there are.
+fn name_groups(labels: &[u16], ks: &[u16], ns: &mut [u16], gs: &mut [u16]) -> usize
+    requires { ⌜ (length (now labels) < 65536) × (now ks ≡ spec.kept (now labels)) × (length (now labels) ≤ length (now ns)) × (length (now labels) ≤ length (now gs)) ⌝ }
+    ensures { λ r. ⌜ Filled (spec.names (now (labels .entry))) (now (ns .entry)) (now (ns .exit)) r
+        × (now (gs .exit) ≡ over (spec.groups (now (labels .entry))) (now (gs .entry))) ⌝ }
+{
+    let m = ks.len();
+    crate::gather(labels, ks, gs);
+    number_labels(&mut gs[..m], ns)
+}
+
+// The kept samples go to `ks`, the groups' labels to `ns`, and the group of each kept sample to `gs`.
+pub fn group(labels: &[u16], ks: &mut [u16], ns: &mut [u16], gs: &mut [u16]) -> lot::Sizes
+    requires { ⌜ (length (now labels) < 65536) × (length (now labels) ≤ length (now ks)) × (length (now labels) ≤ length (now ns)) × (length (now labels) ≤ length (now gs)) ⌝ }
+    ensures { λ r. ⌜ Grouped (now (labels .entry)) r (now (ks .entry)) (now (ns .entry)) (now (gs .entry)) (now (ks .exit)) (now (ns .exit)) (now (gs .exit)) ⌝ }
+{
+    let m = crate::fill_kept(labels, ks);
+    let g = name_groups(labels, &ks[..m], ns, gs);
+    lot::Sizes { kept: m, groups: g }
+}
+
+// The place of l among the groups' labels, or none.
+fn group_of(ns: &[u16], l: u16) -> u16
+    requires { ⌜ length (now ns) < 65536 ⌝ }
+    ensures { λ r. ⌜ r ≡ cond (stands l (now (ns .entry))) (position l (now (ns .entry))) none ⌝ }
+{
+    let p = crate::place_of(ns, l);
+    if p < ns.len() { p as u16 } else { lot::NONE }
+}
+
+// The group of each of the n samples, or none, goes to the front of `out`. `ns` are the groups' labels.
+pub fn fill_group_each(labels: &[u16], ns: &[u16], out: &mut [u16])
+    requires { ⌜ (length (now labels) < 65536) × (now ns ≡ spec.names (now labels)) × (length (now labels) ≤ length (now out)) ⌝ }
+    ensures { λ _. ⌜ now (out .exit) ≡ over (spec.groupEach (now (labels .entry))) (now (out .entry)) ⌝ }
+{
+    for i in 0..labels.len() {
+        out[i] = group_of(ns, labels[i]);
+    }
+}
