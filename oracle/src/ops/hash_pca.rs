@@ -1,6 +1,6 @@
 //! `ordination::hash_pca`.
 
-use super::{ordination, Operation};
+use super::{large, ordination, Operation};
 use crate::inputs::sets;
 use crate::splitmix::SplitMix;
 use crate::words::Reader;
@@ -17,7 +17,7 @@ pub struct Input {
 fn size(at: usize, draw: &mut SplitMix) -> (usize, usize) {
     match at % 40 {
         0 => (at / 40 % 3, 8),
-        13 => (draw.within(129, 256), draw.within(16, 40)),
+        13 if large(at / 40) => (draw.within(129, 256), draw.within(16, 40)),
         22 if at < 40 => (64, 900),
         x if x % 10 == 4 => (64, draw.within(30, 90)),
         x if x % 4 == 3 => (draw.within(65, 90), draw.within(16, 50)),

@@ -29,6 +29,11 @@ pub trait Operation {
     fn refusal(input: &Self::Input) -> u64;
 }
 
+/// Whether this turn has a sample of more than 128 sets or items. The Rust takes seconds for one, so after twenty turns one in ten has it.
+pub fn large(turn: usize) -> bool {
+    turn < 20 || turn % 10 == 0
+}
+
 /// Document 01's refusal where the Rust panics on a NaN among values to be ordered.
 const NAN_AMONG_VALUES: u64 = 11;
 

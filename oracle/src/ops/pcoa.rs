@@ -1,6 +1,6 @@
 //! `ordination::pcoa`.
 
-use super::{ordination, Operation};
+use super::{large, ordination, Operation};
 use crate::inputs::distances;
 use crate::matrix::Matrix;
 use crate::splitmix::SplitMix;
@@ -17,7 +17,7 @@ pub struct Input {
 fn size(at: usize, draw: &mut SplitMix) -> usize {
     match at % 50 {
         0 => at / 50 % 3,
-        24 => draw.within(129, 255),
+        24 if large(at / 50) => draw.within(129, 255),
         25 if at < 50 => 256,
         x if x % 10 == 4 => 64,
         x if x % 4 == 3 => draw.within(65, 90),
