@@ -16,7 +16,10 @@ use Rattle.jacobi.proofs.Cases.{diagonal-1-3}
 use Rattle.dapc.proofs.Cases.{case-l-nine, case-l-passes}
 use Rattle.exhaustive.specs.Settled.{Long}
 use Rattle.exhaustive.proofs.Cases as every
-use Rattle.cases.specs.Cases.{told, outcomeTold, given, lent, cases, Hold}
+use Rattle.outcome.specs.Refusals.{codeOf}
+use Rattle.outcome.specs.Outcome.{code}
+use Rattle.chances.specs.Chances.{given}
+use Rattle.cases.specs.Cases.{lent, cases, Hold}
 
 long : Long 18 lent
 long = record {
@@ -31,9 +34,9 @@ long = record {
   rows = omega arith;
 }
 
-case-i : outcomeTold (Rattle.exhaustive.specs.Call.outcomeOf (Rattle.cases.specs.Cases.halves 9) lent) ≡ 8
-unfolding any le ofBits
-case-i = ap outcomeTold (every.case-i (replicate 324 zero⁺) lent refl refl long)
+case-i : code (Rattle.exhaustive.specs.Call.outcomeOf (Rattle.cases.specs.Cases.halves 9) lent) ≡ 8
+unfolding any le ofBits code
+case-i = ap code (every.case-i (replicate 324 zero⁺) lent refl refl long)
 
 pub judged : Hold cases
 judged = (
@@ -51,7 +54,7 @@ judged = (
             (
               (λ i. getD (ways.cases (replicate 16 zero⁺) i) 0 0 ∷ []),
               (
-                (ap (λ c. told c ∷ []) lot.case-h-zero),
+                (ap (λ c. codeOf c ∷ []) lot.case-h-zero),
                 (
                   (λ i. getD (ways.cases (replicate 324 zero⁺) i) 2 0 ∷ getD (ways.cases (replicate 324 zero⁺) i) 3 0 ∷ case-i i ∷ []),
                   (
@@ -59,7 +62,7 @@ judged = (
                     (
                       (ap (λ c. map bits (take 2 (c .out))) diagonal-1-3),
                       (
-                        (λ i. told (case-l-nine 2 i) ∷ told (case-l-passes i) ∷ []),
+                        (λ i. codeOf (case-l-nine 2 i) ∷ codeOf (case-l-passes i) ∷ []),
                         tt,
                       ),
                     ),

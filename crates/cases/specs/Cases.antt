@@ -1,24 +1,19 @@
 -- Judged samples of the trade (document 01): cases (a) to (l) as one list, each as the numbers that are computed and the numbers expected. Definitions only.
-use Prim.Native.Nat.{ℕ, _+_, _*_}
+use Prim.Native.Nat.{ℕ, _+_}
 use mathlib.Core.Path.{_≡_}
 use mathlib.Core.Bool.{true, false}
 use mathlib.Core.List.{List, [], _∷_, _++_, map}
 use lib.IntN.{negsuc}
-use lib.ListN.{getD, take, replicate}
-use lib.Ieee.{Float, fin}
+use lib.ListN.{take, replicate}
+use lib.Ieee.{fin}
 use Rattle.float.specs.Floats.{zero⁺, 1·0, 2·0, 3·0, num, f64, bits}
 use Rattle.float.specs.Root.{root}
-use Rattle.outcome.specs.declared.Check.{Check}
-use Rattle.outcome.specs.declared.Check.the-variants.{Passed, Refused}
-use Rattle.outcome.specs.Refusals.{number, first}
-use Rattle.outcome.specs.Outcome.{Outcome, answered, refused}
+use Rattle.outcome.specs.Refusals.{first}
 use Rattle.lot.specs.Lot.{Lot, lotOf}
 use Rattle.lot.specs.Cases.{example, zeros, three}
 use Rattle.lot.specs.Kept.{groups}
 use Rattle.lot.specs.Lines.{testLines}
 use Rattle.statistics.specs.Statistics.{totalOf, withinOf, locationF}
-use Rattle.chances.specs.declared.Chance.{Chance}
-use Rattle.chances.specs.declared.Chance.the-variants.{P, NoP}
 use Rattle.permanova.specs.Call.{tested}
 use Rattle.jacobi.specs.Call.{jacobiCall}
 use Rattle.gram.specs.Gram.{gram}
@@ -26,6 +21,8 @@ use Rattle.dapc.specs.Call.{groupLines}
 use Rattle.ways.specs.Ways.{wayCount}
 use Rattle.exhaustive.specs.Exhaustive.{locationHits, dispersionHits}
 use Rattle.exhaustive.specs.Call.{Slices, outcomeOf}
+use Rattle.lotjudge_c.specs.Exported.{codeOf, code}
+use Rattle.pcoa.specs.Given.{given}
 
 -- ---- lots
 
@@ -51,22 +48,6 @@ lent =
       vectors = replicate 324 zero⁺;
       rows = replicate 324 0;
     }
-
--- ---- what is read off an outcome
-
--- 0, or the number of the refusal
-abbrev pub told : Check → ℕ
-told Passed = 0
-told (Refused r) = number r
-
-abbrev pub outcomeTold : {A : Type 0} → Outcome A → ℕ
-outcomeTold (answered a) = 0
-outcomeTold (refused r) = number r
-
--- whether there is a p
-abbrev pub given : Chance → ℕ
-given (P p) = 1
-given NoP = 0
 
 -- ---- the list
 
@@ -94,9 +75,9 @@ cases =
     -- (g) labels 0, 0, 1, 1 with strata 0, 0, 1, 1: M 1
     ∷ sample (wayCount apart ∷ []) (1 ∷ [])
     -- (h) labels 0, 0, 1: 5
-    ∷ sample (told (first (testLines (three (replicate 9 zero⁺)) false false)) ∷ []) (5 ∷ [])
+    ∷ sample (codeOf (first (testLines (three (replicate 9 zero⁺)) false false)) ∷ []) (5 ∷ [])
     -- (i) 8 and 8 in one stratum: M 12,870; 9 and 9: 48,620, so 8
-    ∷ sample (wayCount (halves 8) ∷ wayCount (halves 9) ∷ outcomeTold (outcomeOf (halves 9) lent) ∷ []) (12870 ∷ 48620 ∷ 8 ∷ [])
+    ∷ sample (wayCount (halves 8) ∷ wayCount (halves 9) ∷ code (outcomeOf (halves 9) lent) ∷ []) (12870 ∷ 48620 ∷ 8 ∷ [])
     -- (j) sets {5}, {5}, {}, {}: Gram entries 0.25, but -0.25 between the first two and the last two
     ∷ sample (map bits (gram 4 (5 ∷ 5 ∷ []) (0 ∷ 1 ∷ 2 ∷ 2 ∷ 2 ∷ []))) (let p : ℕ = 0x3fd0_0000_0000_0000 in let q : ℕ = 0xbfd0_0000_0000_0000 in
     p ∷ p ∷ q ∷ q
@@ -106,7 +87,7 @@ cases =
     -- (k) diagonal 1, 3: values 3, 1
     ∷ sample (map bits (take 2 (jacobiCall 2 (1·0 ∷ zero⁺ ∷ zero⁺ ∷ 3·0 ∷ []) (replicate 7 2·0) (replicate 4 2·0) (replicate 5 2·0) .out))) (bits 3·0 ∷ bits 1·0 ∷ [])
     -- (l) m = 4, g = 2: 9; m = 5 with 2 columns passes
-    ∷ sample (told (first (groupLines 2 4 2)) ∷ told (first (groupLines 2 5 2)) ∷ []) (9 ∷ 0 ∷ [])
+    ∷ sample (codeOf (first (groupLines 2 4 2)) ∷ codeOf (first (groupLines 2 5 2)) ∷ []) (9 ∷ 0 ∷ [])
     ∷ []
 
 -- every case of a list computes what is expected

@@ -11,3 +11,8 @@ use Rattle.chances.specs.declared.Chance.the-variants.{P, NoP}
 unfoldable pub chance : Bool → Statistic → ℕ → ℕ → Chance
 chance none Unbounded hits n = NoP
 chance none (Finite f) hits n = cond none NoP (P (num (1 + hits) ⊘ num (1 + n)))
+
+-- 1 where there is a p
+abbrev pub given : Chance → ℕ
+given (P p) = 1
+given NoP = 0

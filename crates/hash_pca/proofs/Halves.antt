@@ -16,7 +16,7 @@ use Rattle.outcome.specs.declared.Refusal.{Refusal}
 use Rattle.outcome.specs.declared.Check.{Check}
 use Rattle.outcome.specs.declared.Check.the-variants.{Passed, Refused}
 use Rattle.outcome.specs.Refusals.{first}
-use Rattle.outcome.specs.Outcome.{Outcome, answered, refused, judged, andThen}
+use Rattle.outcome.specs.Outcome.{Outcome, answered, refused, judged, andThen, checkOf}
 use Rattle.outcome.specs.Slices.{untouched, output, work}
 use Rattle.gram.specs.declared.Answer.{Answer}
 use Rattle.gram.specs.declared.Answer.the-variants as answer
@@ -32,7 +32,7 @@ use Rattle.coordinates.specs.Finish.{Coordinates}
 use Rattle.coordinates.specs.Pcoa.{ordinate, hashPca}
 use Rattle.pcoa.specs.Given.{written}
 use Rattle.pcoa.specs.Call as of-pcoa
-use Rattle.pcoa.specs.Call.{tooShort, badComponents, checkOf}
+use Rattle.pcoa.specs.Call.{tooShort, badComponents}
 use Rattle.pcoa.proofs.Late.{Late, late-work}
 use Rattle.pcoa.proofs.Call.{late-ordinate, leaves-same}
 use Rattle.pcoa.proofs.Lines.{long-enough}

@@ -32,3 +32,8 @@ asRight (Right r) (Right r′) = leb r r′
 unfoldable pub isGiven : Assignment → Bool
 isGiven (Right r) = true
 isGiven Withheld = false
+
+-- how many are right, 0 where none is given
+abbrev pub rightOf : Assignment → ℕ
+rightOf (Right r) = r
+rightOf Withheld = 0

@@ -26,6 +26,11 @@ number Pivot = 10
 number Unordered = 11
 number Frame = 12
 
+-- 0, or the number of the line
+abbrev pub codeOf : Check → ℕ
+codeOf Passed = 0
+codeOf (Refused r) = number r
+
 -- a line: what is returned when its condition holds
 pub record Line : Type 0 where
   pub returned : Refusal

@@ -14,7 +14,7 @@ use Rattle.outcome.specs.declared.Refusal.{Refusal}
 use Rattle.outcome.specs.declared.Check.{Check}
 use Rattle.outcome.specs.declared.Check.the-variants.{Passed, Refused}
 use Rattle.outcome.specs.Refusals.{first}
-use Rattle.outcome.specs.Outcome.{Outcome, answered, refused, judged, andThen}
+use Rattle.outcome.specs.Outcome.{Outcome, answered, refused, judged, andThen, checkOf}
 use Rattle.outcome.specs.Slices.{untouched, output, work}
 use Rattle.outcome.proofs.Table.{first-untouched}
 use Rattle.topeigs.specs.TopEigs.{topEigs}
@@ -23,7 +23,7 @@ use Rattle.coordinates.specs.Finish.{Coordinates, finish, laid}
 use Rattle.coordinates.specs.Centred.{trace, centred}
 use Rattle.coordinates.specs.Pcoa.{ordinate, pcoa}
 use Rattle.pcoa.specs.Given.{written, coordinatesOf, Given, given, gives}
-use Rattle.pcoa.specs.Call.{pcoaLines, checkOf, Called, called, leaves, pcoaCall}
+use Rattle.pcoa.specs.Call.{pcoaLines, Called, called, leaves, pcoaCall}
 use Rattle.pcoa.proofs.Late.{Late, late-then, late-top, late-work, output-front}
 
 check-read : (k : ℕ) (r : Check) (out : List Float) → r ≡ checkOf (coordinatesOf k r out)

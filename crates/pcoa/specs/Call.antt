@@ -11,7 +11,7 @@ use Rattle.outcome.specs.declared.Refusal.the-variants.{Length, Limit, Value, O
 use Rattle.outcome.specs.declared.Check.{Check}
 use Rattle.outcome.specs.declared.Check.the-variants.{Passed, Refused}
 use Rattle.outcome.specs.Refusals.{Line, _when_, first, unfit, _of_, short}
-use Rattle.outcome.specs.Outcome.{Outcome, answered, refused, judged}
+use Rattle.outcome.specs.Outcome.{Outcome, answered, refused, judged, checkOf}
 use Rattle.outcome.specs.Slices.{work}
 use Rattle.lot.specs.Lines.{badDistance}
 use Rattle.coordinates.specs.Finish.{Coordinates}
@@ -34,11 +34,6 @@ pcoaLines components n d out b w m v =
     ∷ (Value when any badDistance d)
     ∷ (Ordination when ltb n 3)
     ∷ []
-
--- what is returned, of what is found
-abbrev pub checkOf : Outcome Coordinates → Check
-checkOf (answered c) = Passed
-checkOf (refused r) = Refused r
 
 -- the answer, and the slices afterwards
 pub record Called : Type 0 where

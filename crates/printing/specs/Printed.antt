@@ -11,6 +11,7 @@ use Rattle.statistics.specs.declared.Statistic.{Statistic}
 use Rattle.statistics.specs.declared.Statistic.the-variants.{Finite, Unbounded}
 use Rattle.judging.specs.declared.Assignment.{Assignment}
 use Rattle.judging.specs.declared.Assignment.the-variants.{Right, Withheld}
+use Rattle.judging.specs.Assignments.{rightOf}
 use Rattle.verdict.specs.declared.Judgement.{Judgement}
 use Rattle.printing.specs.Hex.{hex, feed}
 
@@ -23,14 +24,10 @@ abbrev pub patternOf : Statistic → ℕ
 patternOf (Finite f) = bits f
 patternOf Unbounded = 0
 
--- 01 given, 02 none; how many are right, 0 if none is given
+-- 01 given, 02 none
 abbrev pub givenOf : Assignment → ℕ
 givenOf (Right r) = 1
 givenOf Withheld = 2
-
-abbrev pub rightOf : Assignment → ℕ
-rightOf (Right r) = r
-rightOf Withheld = 0
 
 -- a line of a statistic: state, F bits, hits
 unfoldable pub testedLine : ℕ → Statistic → ℕ → List ℕ

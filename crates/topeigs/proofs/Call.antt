@@ -17,7 +17,7 @@ use Rattle.outcome.specs.declared.Refusal.the-variants.{Length, Limit, Value}
 use Rattle.outcome.specs.declared.Check.{Check}
 use Rattle.outcome.specs.declared.Check.the-variants.{Passed, Refused}
 use Rattle.outcome.specs.Refusals.{first, short}
-use Rattle.outcome.specs.Outcome.{Outcome, answered, refused, judged}
+use Rattle.outcome.specs.Outcome.{Outcome, answered, refused, judged, checkOf}
 use Rattle.outcome.specs.Slices.{output, work, untouched}
 use Rattle.outcome.proofs.Table.{first-holds, first-passes, first-passed, first-untouched}
 use Rattle.jacobi.specs.Call.{notFinite}
@@ -26,7 +26,7 @@ use Rattle.lists.proofs.Truths.{or-neither}
 use Rattle.ritz.specs.Ritz.{Pairs}
 use Rattle.ritz.specs.Given.{written, pairsOf, Given, given, gives}
 use Rattle.topeigs.specs.TopEigs.{topEigs}
-use Rattle.topeigs.specs.Call.{misfits, beyond, topLines, checkOf, Called, called, leaves, topCall}
+use Rattle.topeigs.specs.Call.{misfits, beyond, topLines, Called, called, leaves, topCall}
 use Rattle.topeigs.proofs.Whole.{top-min, top-work}
 
 -- ---- on slices that may be longer, with the work cleared

@@ -11,7 +11,7 @@ use Rattle.outcome.specs.declared.Refusal.the-variants.{Length, Limit, Value}
 use Rattle.outcome.specs.declared.Check.{Check}
 use Rattle.outcome.specs.declared.Check.the-variants.{Passed, Refused}
 use Rattle.outcome.specs.Refusals.{Line, _when_, first, _of_, short}
-use Rattle.outcome.specs.Outcome.{Outcome, answered, refused, judged}
+use Rattle.outcome.specs.Outcome.{Outcome, answered, refused, judged, checkOf}
 use Rattle.outcome.specs.Slices.{work}
 use Rattle.jacobi.specs.Call.{notFinite}
 use Rattle.ritz.specs.Ritz.{Pairs}
@@ -33,11 +33,6 @@ topLines components n a out w m v =
     ∷ (Limit when beyond n components)
     ∷ (Value when any notFinite a)
     ∷ []
-
--- what is returned, of what is found
-abbrev pub checkOf : Outcome Pairs → Check
-checkOf (answered p) = Passed
-checkOf (refused r) = Refused r
 
 -- the answer, and the slices afterwards
 pub record Called : Type 0 where

@@ -17,8 +17,9 @@ use Rattle.lists.proofs.Rows.{row-end}
 use Rattle.lot.specs.Way.{mark, tally}
 use Rattle.ways.specs.Ways.{spend, deal, waysOf}
 use Rattle.ways.specs.Onward.{leftIn, HasRows, tallies, onward}
-use Rattle.ways.proofs.Dealt.{mark-same, mark-stratum, mark-label, mark-cases, deal-cong}
+use Rattle.ways.proofs.Dealt.{deal-cong}
 use Rattle.ways.proofs.Number.{tally-step, tally-end, tally-le}
+use Rattle.lot.proofs.Tallies.{mark-same, mark-stratum, mark-label, mark-cases}
 
 -- two places of the rows are one only where stratum and label are the same
 place-one : (g s s₀ j j₀ : ℕ) → j < g → j₀ < g → s * g + j ≡ s₀ * g + j₀ → (s ≡ s₀) × (j ≡ j₀)

@@ -1,12 +1,12 @@
 -- What `deal` lists, over plain lists of strata and labels: the ways, each once, and how many there are. Assumes nothing.
 use mathlib.Core.Path.{_≡_, refl, sym, ap, ap₂, _∙_}
 use mathlib.Core.Bool.{Bool, true, false, cond}
-use mathlib.Core.Logic.{_⊎_, inl, inr, ⊎-elim}
+use mathlib.Core.Logic.{⊎-elim}
 use mathlib.Core.List.{List, [], _∷_, map, head-eq-of-cons-eq, tail-eq-of-cons-eq, List·Memᴰ as Member, List·Memᴰ·head as here, List·Memᴰ·tail as there, List·Memᴰ·not-nil as not-nil, List·Memᴰ·eq-of-singleton as eq-of-singleton, Memᴰ·map, Memᴰ·of-map}
 use Prim.Native.Nat.{ℕ, zero, suc, _+_, _-_, _*_, _≤_, _<_, suc-le-suc}
-use native.Mathlib.Nat.{mul-comm, mul-left-comm, zero-mul, mul-zero, one-mul}
+use native.Mathlib.Nat.{mul-comm, mul-left-comm, zero-mul, one-mul}
 use native.Mathlib.Omega.{arith}
-use native.Mathlib.Decide.{ℕ-discrete, decLt}
+use native.Mathlib.Decide.{decLt}
 use lib.Dec.{ltb}
 use lib.ListN.{length, length-map}
 use borrow.Author.Tests.{lt-ltb, le-ltb, ltb-true}
@@ -19,27 +19,10 @@ use Rattle.ways.specs.Ways.{spend, deal}
 use Rattle.ways.specs.Every.{Distinct}
 use Rattle.lists.proofs.Members.{map-cong, member-upFrom, upFrom-member, member-rows, rows-member}
 use Rattle.lists.proofs.Tallies.{addUp-add, addUp-mul, addUp-zeros, addUp-term, multiply-ones, multiply-pos, factorial-pos, factorial-less, length-rows-sum}
-use Rattle.ways.proofs.Distinct.{distinct-rows, distinct-map, distinct-upFrom, δ-same, δ-other, addUp-δ, multiply-scale}
+use Rattle.ways.proofs.Distinct.{distinct-rows, distinct-map, distinct-upFrom, addUp-δ, multiply-scale}
+use Rattle.lot.proofs.Tallies.{δ-same, δ-other, mark-same, mark-stratum, mark-label, mark-cases}
 
 -- ---- `mark`: one sample in the counts
-
-pub mark-same : (s₀ j₀ s j : ℕ) → s ≡ s₀ → j ≡ j₀ → mark s₀ j₀ s j ≡ 1
-unfolding mark
-mark-same s₀ j₀ s j p q = ap₂ _*_ (δ-same s s₀ p) (δ-same j j₀ q)
-
-pub mark-stratum : (s₀ j₀ s j : ℕ) → (s ≡ s₀ → ⊥) → mark s₀ j₀ s j ≡ 0
-unfolding mark
-mark-stratum s₀ j₀ s j d = ap (λ (k : ℕ). k * δ j j₀) (δ-other s s₀ d) ∙ zero-mul _
-
-pub mark-label : (s₀ j₀ s j : ℕ) → (j ≡ j₀ → ⊥) → mark s₀ j₀ s j ≡ 0
-unfolding mark
-mark-label s₀ j₀ s j d = ap (λ (k : ℕ). δ s s₀ * k) (δ-other j j₀ d) ∙ mul-zero _
-
-pub mark-cases : (s₀ j₀ s j : ℕ) → ((s ≡ s₀) × (j ≡ j₀) × (mark s₀ j₀ s j ≡ 1)) ⊎ (mark s₀ j₀ s j ≡ 0)
-mark-cases s₀ j₀ s j = elim (ℕ-discrete s s₀) [
-  | yes p ↦ elim (ℕ-discrete j j₀) [ yes q ↦ inl (p, q, mark-same s₀ j₀ s j p q) | no d ↦ inr (mark-label s₀ j₀ s j d) ]
-  | no d ↦ inr (mark-stratum s₀ j₀ s j d)
-]
 
 -- a sample's label is counted once in its stratum
 addUp-mark : (g s₀ j₀ s : ℕ) → j₀ < g → addUp (table g (mark s₀ j₀ s)) ≡ δ s s₀

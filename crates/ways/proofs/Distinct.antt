@@ -17,6 +17,7 @@ use Rattle.ways.specs.Every.{Distinct}
 use Rattle.lists.proofs.Upward.{Upward, upward-upward}
 use Rattle.lists.proofs.Members.{map-cong, member-upFrom, member-rows}
 use Rattle.lists.proofs.Tallies.{addUp-zeros, multiply-ones}
+use Rattle.lot.proofs.Tallies.{δ-same, δ-other}
 
 module _ {A : Type 0} where
   pub distinct-append : (xs ys : List A) → Distinct xs → Distinct ys → ((x : A) → Member x xs → Member x ys → ⊥) → Distinct (xs ++ ys)
@@ -58,14 +59,6 @@ pub distinct-upward : (xs : List ℕ) → Distinct (upward xs)
 distinct-upward xs = upward-distinct (upward xs) (upward-upward xs)
 
 -- ---- sums and products
-
-pub δ-same : (a b : ℕ) → a ≡ b → δ a b ≡ 1
-unfolding δ
-δ-same a b e = ap (λ (t : Bool). cond t 1 0) (eq-eqb a b e)
-
-pub δ-other : (a b : ℕ) → (a ≡ b → ⊥) → δ a b ≡ 0
-unfolding δ
-δ-other a b d = ap (λ (t : Bool). cond t 1 0) (ne-eqb a b d)
 
 -- k stands once in the list
 pub addUp-δ : (k : ℕ) (xs : List ℕ) → Distinct xs → Member k xs → addUp (map (λ i. δ i k) xs) ≡ 1

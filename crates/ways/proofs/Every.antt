@@ -22,7 +22,8 @@ use Rattle.lists.proofs.Members.{map-cong, upFrom-member}
 use Rattle.lists.proofs.Tallies.{addUp-add, addUp-mul, addUp-zeros}
 use Rattle.lists.proofs.Upward.{member-upward, upward-member}
 use Rattle.ways.proofs.Distinct.{distinct-upFrom, distinct-upward, addUp-δ, multiply-more, any-order}
-use Rattle.ways.proofs.Dealt.{mark-same, mark-label, howMany-cons, deal-cong, deal-distinct, balanced-tally, deal-sound, deal-complete, counts!, sizes!, counts!-pos, deal-count}
+use Rattle.ways.proofs.Dealt.{howMany-cons, deal-cong, deal-distinct, balanced-tally, deal-sound, deal-complete, counts!, sizes!, counts!-pos, deal-count}
+use Rattle.lot.proofs.Tallies.{mark-same, mark-label}
 
 -- ---- counts of labels
 

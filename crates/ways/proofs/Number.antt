@@ -17,8 +17,9 @@ use Rattle.lot.specs.Way.{mark, tally}
 use Rattle.ways.specs.Ways.{spend, deal, waysOf, sizeFactorials, labelFactorials, wayCountOf, mostWays, capped}
 use Rattle.lists.proofs.Upward.{member-upward}
 use Rattle.ways.proofs.Distinct.{distinct-upward}
-use Rattle.ways.proofs.Dealt.{mark-same, mark-cases, balanced-tally, balanced-le, counts!, sizes!, counts!-pos, counts!-cong, counts!-spend, sizes!-cons, deal-count}
+use Rattle.ways.proofs.Dealt.{balanced-tally, balanced-le, counts!, sizes!, counts!-pos, counts!-cong, counts!-spend, sizes!-cons, deal-count}
 use Rattle.ways.proofs.Every.{ways-count}
+use Rattle.lot.proofs.Tallies.{mark-same, mark-cases}
 
 -- ---- the cap
 

@@ -5,10 +5,10 @@ use Prim.Native.Nat.{_+_, _≤_, _-_}
 use native.Mathlib.Omega.{arith}
 use lib.ListN.{length, getD, drop}
 use Rattle.lot.specs.Way.{tally}
-use Rattle.ways.proofs.Dealt.{mark-same, mark-stratum, mark-label}
 use Rattle.ways.proofs.Number.{tally-step, tally-end}
 use Rattle.ways.proofs.label_from.Statement.{statement}
 use Rattle.ways.proofs.label_from.Tie as tie
+use Rattle.lot.proofs.Tallies.{mark-same, mark-stratum, mark-label}
 
 abbrev Inv-loop : tie.InvT-loop
 Inv-loop strata groups from s j n₀ i₀ i-end n i =
