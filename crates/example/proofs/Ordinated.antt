@@ -2,7 +2,6 @@
 use mathlib.Core.Path.{_≡_, refl}
 use mathlib.Core.Bool.{Bool, true, false}
 use mathlib.Core.List.{zipWith}
-use Prim.Native.Nat.{ℕ}
 use lib.Ieee.{add, sub, mul, div, lt, eq, isNan, ofBits, ofInt, neg, odd, size}
 use Rattle.float.specs.Order.{magnitude, signum}
 use Rattle.float.specs.Root.{isqrt, rootOf, root}

@@ -1,7 +1,7 @@
 -- What is found of the example's lot: no line of the table holds, and the verdict, its statistics and hits evaluated. Assumes nothing.
 use mathlib.Core.Path.{_≡_, refl, sym, ap, _∙_}
 use mathlib.Core.Bool.{Bool, true, false, true≢false}
-use mathlib.Core.List.{List, [], _∷_, _++_}
+use mathlib.Core.List.{List, [], _∷_}
 use Prim.Native.Nat.{ℕ}
 use lib.ListN.{length, replicate}
 use lib.Ieee.{Float, add, sub, mul, div, neg, lt, le, ofBits, ofInt, odd, size}
@@ -17,7 +17,7 @@ use Rattle.lists.specs.Rows.{entry}
 use Rattle.outcome.specs.declared.Refusal.the-variants.{Length, Limit, Value, Labels, Columns}
 use Rattle.outcome.specs.declared.Check.{Check}
 use Rattle.outcome.specs.declared.Check.the-variants.{Passed}
-use Rattle.outcome.specs.Refusals.{first, short, _when_}
+use Rattle.outcome.specs.Refusals.{first, _when_}
 use Rattle.outcome.specs.Outcome as outcome
 use Rattle.outcome.specs.Outcome.{Outcome, answered, refused, andThen}
 use Rattle.lot.specs.Kept.{twice, kept, gathered, keptLabels, names, groups, keptCount, groupCount, sizes}
@@ -38,9 +38,8 @@ use Rattle.sorting.proofs.Extra.{count-no}
 use Rattle.dapc.specs.Dapc.{leading}
 use Rattle.dapc.specs.Call.{misfits, badCoordinate, shapeLines, groupLines, dapcLines, leaves, callBy, dapcCall}
 use Rattle.ways.specs.Ways.{spend, deal, waysOf, ways, sizeFactorials, labelFactorials, wayCountOf, wayCount}
-use Rattle.judging.specs.declared.Assignment.{Assignment}
 use Rattle.judging.specs.declared.Assignment.the-variants.{Withheld}
-use Rattle.judging.specs.Assignments.{rightCount, assignment, asRight}
+use Rattle.judging.specs.Assignments.{rightCount, assignment}
 use Rattle.judging.proofs.Cases.{none-seen}
 use Rattle.verdict.specs.declared.Judgement.{Judgement}
 use Rattle.exhaustive.specs.Exhaustive as every
@@ -102,11 +101,11 @@ location-hits = refl
 -- ---- dispersion: unbounded in every way
 
 unbounded : dispersionOf lot observed ≡ Unbounded
-unfolding lot distances dispersionOf statistics.dispersionOf dispersionF statistic anovaF residual residualAt between share squared groupMeans groupMean grandMean fRatio zOf dispersion.zOf distanceOf root rootOf isqrt values value valueOf pullSum inside orderedPairs groupWeight pullsOf pulls pullAt le lt add sub mul div neg ofBits ofInt odd size larger magnitude members pairs pairSum entry sumFrom weightsOf termsOf terms termAt weightAt squareAt grid rows table range upFrom groups position firstAt keptCount groupCount names keptLabels gathered kept twice howMany countIf keep upward insertUp
+unfolding lot distances dispersionOf statistics.dispersionOf dispersionF statistic anovaF residual residualAt between share squared groupMeans groupMean grandMean fRatio zOf dispersion.zOf distanceOf root rootOf isqrt values value valueOf pullSum inside orderedPairs groupWeight pullsOf pulls pullAt lt add sub mul div neg ofBits ofInt odd size larger members entry sumFrom weightsOf termsOf terms termAt weightAt squareAt grid rows table range upFrom groups position firstAt keptCount groupCount names keptLabels gathered kept twice howMany countIf keep upward insertUp
 unbounded = refl
 
 dispersion-hits : dispersionHits lot ≡ 6
-unfolding lot distances dispersionHits hits dispersionOf statistics.dispersionOf dispersionF statistic hit anovaF residual residualAt between share squared groupMeans groupMean grandMean fRatio zOf dispersion.zOf distanceOf root rootOf isqrt values value valueOf pullSum inside orderedPairs groupWeight pullsOf pulls pullAt le lt add sub mul div neg ofBits ofInt odd size larger members entry sumFrom weightsOf termsOf terms termAt weightAt squareAt grid rows table range upFrom groups position firstAt keptCount groupCount names keptLabels gathered kept twice howMany countIf keep upward insertUp ways waysOf deal spend tally mark δ strata
+unfolding lot distances dispersionHits hits dispersionOf statistics.dispersionOf dispersionF statistic hit anovaF residual residualAt between share squared groupMeans groupMean grandMean fRatio zOf dispersion.zOf distanceOf root rootOf isqrt values value valueOf pullSum inside orderedPairs groupWeight pullsOf pulls pullAt lt add sub mul div neg ofBits ofInt odd size larger members entry sumFrom weightsOf termsOf terms termAt weightAt squareAt grid rows table range upFrom groups position firstAt keptCount groupCount names keptLabels gathered kept twice howMany countIf keep upward insertUp ways waysOf deal spend tally mark δ strata
 dispersion-hits = refl
 
 -- ---- assignment: 4 samples in 2 groups leave 1 column, so `dapc` refuses, whatever the coordinates
@@ -133,7 +132,7 @@ unfolding lot fraction informativeCount informative informs members strata group
 fraction-1 = refl
 
 warnings-8 : warned lot ≡ 8
-unfolding lot distances warned addUp leftOut uninformed sizesOf sizes statistics.someNegative dispersion.someNegative fraction informativeCount informative informs values value valueOf pullSum inside pairSum pairs orderedPairs groupWeight pullsOf pulls pullAt lt add sub mul div neg ofBits ofInt odd size larger members entry sumFrom weightsOf termsOf terms termAt weightAt squareAt grid rows table range upFrom strata groups position firstAt keptCount groupCount names keptLabels gathered kept twice howMany countIf keep any upward insertUp
+unfolding lot distances warned addUp leftOut uninformed sizesOf sizes statistics.someNegative dispersion.someNegative fraction informativeCount informative informs values value valueOf pullSum inside orderedPairs groupWeight pullsOf pulls pullAt lt add sub mul div neg ofBits ofInt odd size larger members entry sumFrom weightsOf termsOf terms termAt weightAt squareAt grid rows table range upFrom strata groups position firstAt keptCount groupCount names keptLabels gathered kept twice howMany countIf keep any upward insertUp
 warnings-8 = refl
 
 -- ---- all of it
