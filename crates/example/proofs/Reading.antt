@@ -1,0 +1,42 @@
+-- Section 7's example: the lot that its input describes, in either case of the digits and with or without the last line feed. Assumes nothing.
+use mathlib.Core.Path.{_≡_, refl}
+use mathlib.Core.Bool.{false}
+use mathlib.Core.List.{List, [], _∷_, _++_, map}
+use lib.ListN.{replicate}
+use lib.Ieee.{Float}
+use Rattle.float.specs.Floats.{f64}
+use Rattle.lists.specs.Ranges.{upFrom, table, rows, grid}
+use Rattle.lists.specs.Filters.{any}
+use Rattle.outcome.specs.declared.Refusal.the-variants.{Frame}
+use Rattle.outcome.specs.Outcome.{answered, refused, andThen}
+use Rattle.lot.specs.Lot.{Lot, none, lotOf}
+use Rattle.reader.specs.Hex.{spelled, fieldAt}
+use Rattle.reader.specs.Frame.{withFields, frameOf, ofKind, frame}
+use Rattle.frames.specs.Lines.{lines}
+use Rattle.frames.specs.Frames.{isHeader, isSample, joins, isPair, isEnd, head, tail, several, distance, described, lotIn, readLot}
+use Rattle.example.specs.Text.{bytes}
+use Rattle.example.specs.Example.{input, upper}
+
+-- samples at 0, 2, 8 and 10 on a line
+unfoldable pub distances : List Float
+distances = map f64 (
+    0 ∷ 0x4000000000000000 ∷ 0x4020000000000000 ∷ 0x4024000000000000
+    ∷ 0x4000000000000000 ∷ 0 ∷ 0x4018000000000000 ∷ 0x4020000000000000
+    ∷ 0x4020000000000000 ∷ 0x4018000000000000 ∷ 0 ∷ 0x4000000000000000
+    ∷ 0x4024000000000000 ∷ 0x4020000000000000 ∷ 0x4000000000000000 ∷ 0
+    ∷ [])
+
+unfoldable pub lot : Lot
+lot = lotOf 4 distances (0 ∷ 0 ∷ 1 ∷ 1 ∷ []) false (replicate 4 none) false []
+
+pub the-input : readLot input ≡ answered lot
+unfolding bytes input distances lot readLot lotIn described distance joins several isSample isPair isHeader isEnd head tail frame frameOf ofKind withFields lines fieldAt spelled any grid rows table upFrom andThen
+the-input = refl
+
+pub in-upper-case : readLot upper ≡ answered lot
+unfolding bytes upper distances lot readLot lotIn described distance joins several isSample isPair isHeader isEnd head tail frame frameOf ofKind withFields lines fieldAt spelled any grid rows table upFrom andThen
+in-upper-case = refl
+
+pub after-the-end : readLot (input ++ (10 ∷ [])) ≡ refused Frame
+unfolding bytes input readLot lotIn described distance joins several isSample isPair isHeader isEnd head tail frame frameOf ofKind withFields lines fieldAt spelled any grid rows table upFrom andThen
+after-the-end = refl

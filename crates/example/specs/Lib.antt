@@ -1,0 +1,3 @@
+-- Section 7's example (document 01).
+pub mod Text
+pub mod Example
