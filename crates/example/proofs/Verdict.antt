@@ -34,7 +34,7 @@ use Rattle.statistics.specs.Statistics.{totalOf, withinOf, locationF, rSquaredO
 use Rattle.statistics.specs.Hits.{statistic, hit}
 use Rattle.statistics.specs.Warnings.{leftOut, uninformed, sizesOf, warned}
 use Rattle.coordinates.specs.Finish.{Coordinates}
-use Rattle.sorting.proofs.Extra.{count-no}
+use Rattle.lists.proofs.Counts.{count-no}
 use Rattle.dapc.specs.Dapc.{leading}
 use Rattle.dapc.specs.Call.{misfits, badCoordinate, shapeLines, groupLines, dapcLines, leaves, callBy, dapcCall}
 use Rattle.ways.specs.Ways.{spend, deal, waysOf, ways, sizeFactorials, labelFactorials, wayCountOf, wayCount}
