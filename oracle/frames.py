@@ -1,6 +1,6 @@
 #!/usr/bin/env python3
 """Writes the texts of `frames_run` and what is expected of them: its own reader of section 7, by a regular expression for each kind of line, and
-its own exhaustive test, for lots where no way has an assignment.
+its own exhaustive test.
     python3 oracle/frames.py > crates/frames_run/stdin
     python3 oracle/frames.py expected > crates/frames_run/stdout"""
 import itertools
@@ -9,6 +9,8 @@ import random
 import re
 import struct
 import sys
+
+from discriminant import added, coordinates, right_count
 
 FIRST = ["a10400", "a2000000ffff", "a2010000ffff", "a2020001ffff", "a2030001ffff", "a300014000000000000000", "a300024020000000000000",
          "a300034024000000000000", "a301024018000000000000", "a301034020000000000000", "a302034000000000000000", "af"]
@@ -36,6 +38,15 @@ def four(labels, strata=None, value=None, more=()):
     samples = ["a2%02x%04x%04x" % (k, labels[k], strata[k]) for k in range(n)]
     pairs = ["a3%02x%02x%s" % (i, j, value or near.get((i, j), "4008000000000000")) for i in range(n) for j in range(i + 1, n)]
     return text(["a1%02x%02x" % (n, given)] + samples + pairs + ["af"])
+
+
+def scattered(labels, strata=None, apart=0):
+    """Enough samples for discriminant scores: uneven distances, longer between labels by `apart`."""
+    bits = lambda i, j: "%016x" % struct.unpack(">Q", struct.pack(">d", 1 + (31 * i + 17 * j) % 23 / 7 + apart * (labels[i] != labels[j])))
+    frames = lot(len(labels), int(strata is not None), bits)
+    for k, label in enumerate(labels):
+        frames[1 + k] = "a2%02x%04x%04x" % (k, label, strata[k] if strata else 0xffff)
+    return text(frames)
 
 
 def two(bits):
@@ -157,8 +168,17 @@ def texts():
     yield "a label held once, no label, strata", four((0, 0, 1, 1), (1, 1, 1, 2, 2, 2), more=(7, 65535))
     yield "a distance of a sample not kept is NaN", four((0, 0, 1, 1), more=(7,)).replace("a303044008000000000000", "a303047ff8000000000000")
     yield "NaN, and af missing", two("7ff8000000000000").replace("af\n", "")
+    yield "an assignment", scattered((0, 0, 0, 1, 1, 1))
+    yield "an assignment, strata, no label", scattered((0, 1, 0, 65535, 1, 0, 1), (4, 4, 4, 4, 4, 2, 2), 2)
+    yield "an assignment to three groups", scattered((0, 0, 1, 1, 2, 2, 0, 1))
     yield "9 and 9", four([k % 2 for k in range(18)])
     yield "9 and 9, a negative distance", four([k % 2 for k in range(18)]).replace("a310114008", "a31011c008")
+
+
+def large():
+    """Texts that `frames_run` makes itself."""
+    yield "1 MiB of the byte 0", "\0" * 2**20
+    yield "1 MiB of the digit 0", "0" * 2**20
 
 
 KINDS = {"a1": r"a1(..)(..)", "a2": r"a2(..)(....)(....)", "a3": r"a3(..)(..)(.{16})", "af": r"af"}
@@ -234,7 +254,6 @@ def judged(t):
             count //= math.factorial(sum(own[k] == x for k in ks))
     if count > 20000:
         return "bf08\n"
-    assert min(8, n, m - (g + 1)) < 2, "an assignment is not worked out here"
     square = [[d[a * n + b] * d[a * n + b] for b in held] for a in held]
     f, z, below = statistics(own, square, m, g)
     ways = set()
@@ -246,18 +265,15 @@ def judged(t):
         ways.add(tuple(way))
     assert len(ways) == count
     each = [statistics(way, square, m, g) for way in ways]
+    xs = coordinates(d, n, 8)
+    xs = [xs[k] for k in held]
+    rights = [right_count(xs, way, g) for way in ways]
     informs = sum(len(ks) for ks in groups if len({own[k] for k in ks}) > 1)
     once = any(x != 65535 and labels.count(x) == 1 for x in labels)
     small = min(own.count(x) for x in range(g)) < 5
     warnings = once + 2 * (given and informs == 0) + 4 * (informs / m < 0.5 and informs > 0) + 8 * small + 16 * below
     return ("b1%02x%02x%08x\n" % (m, g, count) + tested("b2", f, hits(f, [w[0] for w in each])) + tested("b3", z, hits(z, [w[1] for w in each]))
-            + "b4%02x\n" % warnings + "b5020000000000\n")
-
-
-def added(xs, start=-0.0):
-    for x in xs:
-        start += x
-    return start
+            + "b4%02x\n" % warnings + assigned(right_count(xs, own, g), rights))
 
 
 def quotient(a, b):
@@ -271,11 +287,11 @@ def statistics(way, square, m, g):
     """Location F, dispersion F, None where not finite, and whether some dispersion value is below 0. Weights are 1."""
     groups = [[k for k in range(m) if way[k] == x] for x in range(g)]
     total = added(added(square[a][b] for b in range(a + 1, m)) for a in range(m)) / m
-    within = added(added(added(square[a][b] for b in ks if b > a) for a in ks) / len(ks) for ks in groups)
+    within = added(added((square[a][b] for a in ks for b in ks if b > a), 0.0) / len(ks) for ks in groups)
     f = quotient((total - within) / (g - 1), within / (m - g))
     z, below = [0.0] * m, False
     for ks in groups:
-        inside = added(added(square[a][b] for b in ks) for a in ks)
+        inside = added((square[a][b] for a in ks for b in ks), 0.0)
         for a in ks:
             v = added(square[a][b] for b in ks) / len(ks) - inside / (2.0 * len(ks) * len(ks))
             below = below or v < 0
@@ -283,7 +299,7 @@ def statistics(way, square, m, g):
     grand = added(z) / m
     means = [added(z[k] for k in ks) / len(ks) for ks in groups]
     between = added(len(ks) * ((mean - grand) * (mean - grand)) for ks, mean in zip(groups, means))
-    inner = added(added((z[k] - mean) * (z[k] - mean) for k in ks) for ks, mean in zip(groups, means))
+    inner = added((z[k] - means[way[k]]) * (z[k] - means[way[k]]) for k in range(m))
     return f, quotient(between / (g - 1), inner / (m - g)), below
 
 
@@ -296,17 +312,21 @@ def tested(kind, f, hits):
     return "%s%02x%016x%08x\n" % (kind, state, b, hits)
 
 
-def verdict(kept, ways, f, hits, right, right_hits):
-    state = (2, 0) if right is None else (1, right)
-    return ("b1%02x02%08x\n" % (kept, ways) + tested("b2", f, hits) + tested("b3", None, ways) + "b408\n"
-            + "b5%02x%02x%08x\n" % (state + (right_hits,)))
+def assigned(right, others):
+    if right is None:
+        return "b5020000000000\n"
+    return "b501%02x%08x\n" % (right, sum(o is not None and o >= right for o in others))
+
+
+def verdict(kept, ways, f, hits, assigned):
+    return "b1%02x02%08x\n" % (kept, ways) + tested("b2", f, hits) + tested("b3", None, ways) + "b408\n" + assigned
 
 
 if sys.argv[1:] == ["expected"]:
-    for name, t in texts():
+    for name, t in itertools.chain(texts(), large()):
         print(name + told(t))
         sys.stdout.write(judged(t))
-    print(verdict(4, 6, 32.0, 2, None, 0) + verdict(32, 20000, -0.0, 10, 31, 19999) + "bf01\nbf0b\nbf0c")
+    print(verdict(4, 6, 32.0, 2, assigned(None, [])) + verdict(32, 20000, -0.0, 10, assigned(31, [31] * 19999)) + "bf01\nbf0b\nbf0c")
 else:
     for name, t in texts():
         assert "|" not in name + t and "#" not in name + t

@@ -1,8 +1,7 @@
 -- After a call of `read_lot`: the lot is what the fronts of the slices hold, or the text is refused. Assumes nothing.
 use Prim.Native.Nat.{ℕ, _*_, _≤_}
 use mathlib.Core.Path.{_≡_, refl, sym, ap, _∙_}
-use mathlib.Core.Bool.{false}
-use mathlib.Core.List.{List, []}
+use mathlib.Core.List.{List}
 use native.Mathlib.Omega.{arith}
 use lib.ListN.{length, take}
 use lib.Ieee.{Float}
@@ -12,15 +11,11 @@ use Rattle.outcome.specs.declared.Refusal.{Refusal}
 use Rattle.outcome.specs.Outcome.{Outcome, answered, refused, andThen}
 use Rattle.lot.specs.Lot.{Lot, lotOf}
 use Rattle.frames.specs.Frames.{readLot}
-use Rattle.frames.specs.Call.{noNumbers, noDistances, Called, held, headerOf, leaves, readCall, called}
+use Rattle.frames.specs.Call.{noNumbers, noDistances, Called, held, headerOf, leaves, readCall, called, fronts}
 use Rattle.frames.specs.Fits.{Fits}
 use Rattle.frames.specs.declared.Header.{Header}
 use Rattle.frames.specs.declared.Answer.the-variants.{Read, Refused}
 use Rattle.frames.proofs.Fits.{read-fits}
-
--- the lot that the fronts of three slices hold
-abbrev pub fronts : Header → List ℕ → List ℕ → List Float → Lot
-fronts h l s d = lotOf (h .n) (take (h .n * h .n) d) (take (h .n) l) (h .stratified) (take (h .n) s) false []
 
 front : {A : Type 0} (part old : List A) {l : List A} {k n : ℕ} → l ≡ over part old → length part ≡ k → n ≡ k → part ≡ take n l
 front part old {l} {k} {n} e len same = sym (ap (take n) e ∙ take-over part old n (len ∙ sym same))

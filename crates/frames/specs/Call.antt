@@ -1,12 +1,13 @@
 -- Section 7: a whole call of `read_lot`, its answer and what the slices hold afterwards. Definitions only.
-use Prim.Native.Nat.{ℕ}
-use mathlib.Core.List.{List}
-use lib.ListN.{replicate}
+use Prim.Native.Nat.{ℕ, _*_}
+use mathlib.Core.Bool.{false}
+use mathlib.Core.List.{List, []}
+use lib.ListN.{take, replicate}
 use lib.Ieee.{Float}
 use Rattle.float.specs.Floats.{zero⁺}
 use Rattle.lists.specs.Writes.{over}
 use Rattle.outcome.specs.Outcome.{Outcome, answered, refused, andThen}
-use Rattle.lot.specs.Lot.{Lot}
+use Rattle.lot.specs.Lot.{Lot, lotOf}
 use Rattle.frames.specs.Frames.{readLot}
 use Rattle.frames.specs.declared.Header.{Header}
 use Rattle.frames.specs.declared.Answer.{Answer}
@@ -55,3 +56,7 @@ outcomeOf (Refused r) = refused r
 
 abbrev pub called : Answer → List ℕ → List ℕ → List Float → Called
 called r labels strata distances = record { answer = outcomeOf r; labels = labels; strata = strata; distances = distances }
+
+-- the lot that the fronts of three slices hold, after a call that read it
+abbrev pub fronts : Header → List ℕ → List ℕ → List Float → Lot
+fronts h l s d = lotOf (h .n) (take (h .n * h .n) d) (take (h .n) l) (h .stratified) (take (h .n) s) false []

@@ -1,6 +1,7 @@
 // Reads texts as `lotjudge` does and writes a line for each: n, whether strata are given, the labels and strata of the first two samples, the first
 // four distances and a sum over all that is held; or the refusal's number; then what `judge` prints. Last it prints verdicts and refusals.
-// Standard input has the texts, each as NAME|TEXT#. The file `stdout` was made by oracle/frames.py, which reads them by its own rules.
+// Standard input has the texts, each as NAME|TEXT#; two of 1 MiB are made here. The file `stdout` was made by oracle/frames.py, which reads them by
+// its own rules.
 ghost use mathlib.Core.Path.{_≡_};
 ghost use Prim.Native.Nat.{_+_, _<_, _≤_, min};
 ghost use lib.ListN.{length};
@@ -160,6 +161,25 @@ fn replay(input: &[u8]) {
     }
 }
 
+// ---- longer than any text that describes a lot
+
+fn show_large(text: &[u8; 1048576]) {
+    show(text);
+    show_judged(text);
+}
+
+fn zero_bytes() {
+    io::write_all(STDOUT_FILENO, b"1 MiB of the byte 0");
+    let text = [0u8; 1048576];
+    show_large(&text);
+}
+
+fn zero_digits() {
+    io::write_all(STDOUT_FILENO, b"1 MiB of the digit 0");
+    let text = [b'0'; 1048576];
+    show_large(&text);
+}
+
 // ---- printing
 
 fn print_on(a: Answer, out: &mut [u8])
@@ -217,6 +237,8 @@ fn main() {
     let mut input = io::large_buffer();
     let n = io::read_full(STDIN_FILENO, &mut input);
     replay(&input[..n]);
+    zero_bytes();
+    zero_digits();
     verdicts();
     refusals();
 }

@@ -24,12 +24,12 @@ use Rattle.exhaustive.specs.Exhaustive.{exhaustive}
 use Rattle.exhaustive.specs.Call as test
 use Rattle.frames.specs.Frames.{readLot}
 use Rattle.frames.specs.Fits.{Fits}
-use Rattle.frames.specs.Call.{readCall, called}
+use Rattle.frames.specs.Call.{readCall, called, fronts}
 use Rattle.frames.specs.declared.Header.{Header}
 use Rattle.frames.specs.declared.Answer as frames
 use Rattle.frames.specs.declared.Answer.the-variants.{Read, Refused}
 use Rattle.frames.proofs.Fits.{read-fits, fits-well}
-use Rattle.frames.proofs.Fronts.{fronts, read-fronts, read-refused}
+use Rattle.frames.proofs.Fronts.{read-fronts, read-refused}
 use Rattle.frames.proofs.Longest.{front-tells}
 use Rattle.printing.specs.Printed.{printed, Page, page, onto}
 use Rattle.judge.specs.Judge.{lines, judgement, judgeText}
