@@ -1,4 +1,3 @@
--- Laws of blocks, of their columns and of the rounds.
-pub mod Entries
-pub mod Columns
+-- Laws of the rounds.
+pub mod Settling
 pub mod Fuel

@@ -1,23 +1,16 @@
--- Section 4: the power steps that bound the spectral radius, and the rounds of the block iteration. Definitions only.
+-- Section 4: the rounds of the block iteration. Definitions only.
 use Prim.Native.Nat.{ℕ, zero, suc}
 use mathlib.Core.Bool.{Bool, true, false}
 use mathlib.Core.List.{List, zipWith}
-use lib.Ieee.{Float, eq, le}
-use Rattle.float.specs.Floats.{_⊖_, _⊗_, zero⁺, 1e-10, 1e-12}
+use lib.Ieee.{Float, le}
+use Rattle.float.specs.Floats.{_⊖_, _⊗_, 1e-10, 1e-12}
 use Rattle.float.specs.Order.{magnitude, larger}
 use Rattle.lists.specs.Ranges.{table}
 use Rattle.lists.specs.Filters.{all}
 use Rattle.lists.specs.Rows.{row}
-use Rattle.vectors.specs.Vectors.{dot, norm, plusTimes, divided}
-use Rattle.block.specs.Block.{times, timesBlock, orthonormal}
-
--- at most so many power steps more on x: the length of the last product, at once where it is 0
-unfoldable pub powerBound : ℕ → ℕ → List Float → Float → List Float → Float
-powerBound zero n a rho x = rho
-powerBound (suc more) n a rho x =
-    let y = times n a x in
-    let r = norm y in
-    elim (eq r zero⁺) as (λ b. Float) [ true ↦ r | false ↦ powerBound more n a r (divided r y) ]
+use Rattle.vectors.specs.Vectors.{dot, plusTimes}
+use Rattle.products.specs.Products.{timesBlock}
+use Rattle.orthonormal.specs.Orthonormal.{orthonormal}
 
 -- one step of the block: (a + shift) q made orthonormal
 unfoldable pub blockStep : ℕ → List Float → ℕ → Float → List Float → List Float

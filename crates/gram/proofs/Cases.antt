@@ -14,8 +14,10 @@ use Rattle.lists.specs.Writes.{over, cleared}
 use Rattle.outcome.specs.Refusals.{first, short}
 use Rattle.outcome.specs.Outcome.{answered}
 use Rattle.outcome.specs.Slices.{output, work}
-use Rattle.gram.specs.Gram.{setAt, sets, selected, frequency, meanSum, shared, gram}
-use Rattle.gram.specs.Lines.{falls, badOffsets, tooShort, earlyLines, lateLines, gramLines}
+use Rattle.sets.specs.Sets.{setAt, sets}
+use Rattle.hashes.specs.Selected.{selected, frequency}
+use Rattle.gram.specs.Gram.{meanSum, shared, gram}
+use Rattle.sets.specs.Lines.{falls, badOffsets, tooShort, earlyLines, lateLines, gramLines}
 use Rattle.gram.specs.Call.{features, leaves, gramCall}
 
 -- ---- case (j): sets {5}, {5}, {}, {}

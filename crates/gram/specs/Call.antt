@@ -11,9 +11,10 @@ use Rattle.outcome.specs.Outcome.{Outcome, answered, refused, judged}
 use Rattle.outcome.specs.Slices.{output, work}
 use Rattle.gram.specs.declared.Answer.{Answer}
 use Rattle.gram.specs.declared.Answer.the-variants.{Features, Refused}
-use Rattle.gram.specs.Gram.{selected, frequency, gram}
-use Rattle.gram.specs.Columns.{columnOf}
-use Rattle.gram.specs.Lines.{tooShort, gramLines}
+use Rattle.hashes.specs.Selected.{selected, frequency}
+use Rattle.gram.specs.Gram.{gram}
+use Rattle.hashes.specs.Columns.{columnOf}
+use Rattle.sets.specs.Lines.{tooShort, gramLines}
 
 -- the answer for any arguments: the number of selected hashes, or a refusal
 unfoldable pub features : ℕ → List ℕ → List ℕ → Bool → Bool → Outcome ℕ

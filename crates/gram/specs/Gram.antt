@@ -1,34 +1,16 @@
 -- Section 4: the centred Gram matrix of sets of hashes, each a list in which repeats count. Definitions only.
-use Prim.Native.Nat.{ℕ, _+_, _-_, min, max}
-use mathlib.Core.Bool.{Bool, _&&_}
+use Prim.Native.Nat.{ℕ, min, max}
+use mathlib.Core.Bool.{_&&_}
 use mathlib.Core.List.{List, [], map}
-use lib.Dec.{leb, ltb}
-use lib.ListN.{getD, take, drop}
+use lib.ListN.{getD}
 use lib.Ieee.{Float, nan}
-use Rattle.float.specs.Floats.{_⊕_, _⊖_, _⊗_, _⊘_, num}
-use Rattle.lists.specs.Ranges.{table, grid}
+use Rattle.float.specs.Floats.{_⊕_, _⊖_, _⊗_, num}
+use Rattle.lists.specs.Ranges.{grid}
 use Rattle.lists.specs.Filters.{keep, countIf}
-use Rattle.lists.specs.Numbers.{howMany, stands, upward}
+use Rattle.lists.specs.Numbers.{stands}
 use Rattle.lists.specs.Sums.{sum⁻}
-
--- the set i, from the hashes of all one after the other and the n + 1 offsets at which they begin and end
-unfoldable pub setAt : List ℕ → List ℕ → ℕ → List ℕ
-setAt hashes offsets i = take (getD offsets (i + 1) 0 - getD offsets i 0) (drop (getD offsets i 0) hashes)
-
-unfoldable pub sets : ℕ → List ℕ → List ℕ → List (List ℕ)
-sets n hashes offsets = table n (setAt hashes offsets)
-
--- a frequency of 2 to n - 1
-abbrev pub within : ℕ → ℕ → Bool
-within n f = leb 2 f && ltb f n
-
--- the hashes with such a frequency, upward; every occurrence counts
-unfoldable pub selected : ℕ → List ℕ → List ℕ
-selected n hashes = upward (keep (λ h. within n (howMany h hashes)) hashes)
-
--- the mean of a hash over the samples
-unfoldable pub frequency : ℕ → List ℕ → ℕ → Float
-frequency n hashes h = num (howMany h hashes) ⊘ num n
+use Rattle.hashes.specs.Selected.{selected, frequency}
+use Rattle.sets.specs.Sets.{sets}
 
 -- the sum of the means over a set's selected hashes, in the set's order, repeats included
 unfoldable pub meanSum : ℕ → List ℕ → List ℕ → List ℕ → Float

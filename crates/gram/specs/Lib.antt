@@ -1,6 +1,3 @@
 -- `gram_matrix` (document 01, section 4): the centred Gram matrix of sets of hashes, and a call of it.
 pub mod Gram
-pub mod Lines
 pub mod Call
-pub mod Bits
-pub mod Columns

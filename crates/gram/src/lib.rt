@@ -1,22 +1,14 @@
 // `gram_matrix` (document 01, section 4): the centred Gram matrix of sets of hashes. It asks nothing of its arguments, and its contract equates the
-// whole outcome, the answer and the final contents of both lent slices, with `gramCall` of specs/Call.antt. `check_gram` and `fill_gram` are its two
-// halves, for an operation that goes on with the matrix.
+// whole outcome, the answer and the final contents of both lent slices, with `gramCall` of specs/Call.antt. `check_gram` and `columns::fill_gram`
+// are its two halves, for an operation that goes on with the matrix.
 use outcome::Check;
 use outcome::Refusal;
-
-mod choose;
-mod fill;
-mod lines;
-mod rows;
-
 ghost use mathlib.Core.Path.{_≡_};
-ghost use Prim.Native.Nat.{_*_, _≤_, min};
+ghost use Prim.Native.Nat.{_≤_, min};
 ghost use lib.ListN.{length};
-ghost use Rattle.lists.specs.Writes.{over, cleared};
 ghost use Rattle.outcome.specs.Refusals.{first};
 ghost use Rattle.outcome.specs.Outcome.{answered, judged};
-ghost use Rattle.gram.specs.Lines.{earlyLines, lateLines};
-ghost use Rattle.gram.specs.Columns.{Offsets, columnGram};
+ghost use Rattle.sets.specs.Lines.{lateLines};
 ghost use Rattle.gram.specs.Call.{outcomeOf, Checked, gramCall, called};
 
 // The number of selected hashes, or why the sets are turned away.
@@ -25,42 +17,15 @@ pub enum Answer {
     Refused(Refusal),
 }
 
-// The lines that do not look at the hashes.
-fn early(offsets: &[usize], n: usize, hashes: usize, short: bool, beyond: bool) -> Check
-    ensures { λ r. ⌜ r ≡ first (earlyLines n hashes (now (offsets .entry)) short beyond) ⌝ }
-{
-    if lines::bad_offsets(offsets, n, hashes) {
-        return Check::Refused(Refusal::Length);
-    }
-    if short {
-        return Check::Refused(Refusal::Length);
-    }
-    if n > 256 {
-        return Check::Refused(Refusal::Limit);
-    }
-    if hashes > 65536 {
-        return Check::Refused(Refusal::Limit);
-    }
-    if beyond {
-        return Check::Refused(Refusal::Limit);
-    }
-    if n < 3 {
-        return Check::Refused(Refusal::Ordination);
-    }
-    Check::Passed
-}
-
-// The lines that look at the hashes, by the number of selected ones.
-fn late(m: usize) -> Answer
+// The number of selected hashes, where no line turns it away.
+fn counted(m: usize) -> Answer
     ensures { λ r. ⌜ outcomeOf r ≡ judged (first (lateLines m)) (answered m) ⌝ }
 {
-    if m == 0 {
-        return Answer::Refused(Refusal::Ordination);
+    let c = sets::late(m);
+    match c {
+        Check::Refused(r) => Answer::Refused(r),
+        Check::Passed => Answer::Features(m),
     }
-    if m > 4096 {
-        return Answer::Refused(Refusal::Hashes);
-    }
-    Answer::Features(m)
 }
 
 // Lines 1, 2, 6 and 7. `short` says that a slice of the operation is short, `beyond` that another of its arguments is beyond its limit. `order`,
@@ -78,39 +43,15 @@ pub fn check_gram(
     requires { ⌜ (min (length (now hashes)) 65536 ≤ length (now order)) × (min (length (now hashes)) 65536 ≤ length (now columns)) × (4096 ≤ length (now means)) ⌝ }
     ensures { λ r. ⌜ Checked n (now (hashes .entry)) (now (offsets .entry)) short beyond r (now (columns .exit)) (now (means .exit)) ⌝ }
 {
-    let e = early(offsets, n, hashes.len(), short, beyond);
+    let e = sets::early(offsets, n, hashes.len(), short, beyond);
     match e {
         Check::Refused(r) => Answer::Refused(r),
         Check::Passed => {
             let k = hashes.len();
-            let m = choose::choose(&mut order[..k], &mut columns[..k], means, hashes, n);
-            late(m)
+            let m = hashes::choose(&mut order[..k], &mut columns[..k], means, hashes, n);
+            counted(m)
         }
     }
-}
-
-// The matrix of sets of columns, in front of `out`. `words` lends 64 words for each set, and is cleared; `sums` lends a number for each.
-pub fn fill_gram(
-    out: &mut [f64],
-    words: &mut [u64],
-    sums: &mut [f64],
-    columns: &[u16],
-    means: &[f64],
-    offsets: &[usize],
-    n: usize,
-)
-    requires { ⌜ Offsets n (now offsets) (length (now columns)) × (length (now means) ≤ 4096) ⌝ }
-    requires { ⌜ (n * n ≤ length (now out)) × (n * 64 ≤ length (now words)) × (n ≤ length (now sums)) ⌝ }
-    ensures { λ _. ⌜ (now (out .exit) ≡ over (columnGram n (now (columns .entry)) (now (offsets .entry)) (now (means .entry))) (now (out .entry)))
-        × (now (words .exit) ≡ cleared 0 (now (words .entry))) ⌝ }
-{
-    let m = means.len();
-    let w = (m + 63) / 64;
-    rows::mean_sums(sums, columns, offsets, n, means);
-    rows::mark_sets(words, columns, offsets, n, m, w);
-    let t = rows::square_sum(means);
-    fill::fill(out, n, words, w, sums, t);
-    rows::clear(words);
 }
 
 // The whole operation, with room lent.
@@ -130,13 +71,13 @@ fn gram_in(
     ensures { λ r. ⌜ called r (now (out .exit)) (now (words .exit))
         ≡ gramCall n (now (hashes .entry)) (now (offsets .entry)) (now (out .entry)) (now (words .entry)) ⌝ }
 {
-    let short = lines::too_short(n, out.len(), words.len());
+    let short = sets::too_short(n, out.len(), words.len());
     let a = check_gram(order, columns, means, hashes, offsets, n, short, false);
     let Answer::Features(m) = a else {
         return a;
     };
     let k = hashes.len();
-    fill_gram(out, words, sums, &columns[..k], &means[..m], offsets, n);
+    columns::fill_gram(out, words, sums, &columns[..k], &means[..m], offsets, n);
     a
 }
 

@@ -20,13 +20,15 @@ use Rattle.outcome.specs.Outcome.{Outcome, answered, refused, judged, andThen, 
 use Rattle.outcome.specs.Slices.{untouched, output, work}
 use Rattle.gram.specs.declared.Answer.{Answer}
 use Rattle.gram.specs.declared.Answer.the-variants as answer
-use Rattle.gram.specs.Gram.{selected, gram}
-use Rattle.gram.specs.Columns.{columnGram}
-use Rattle.gram.specs.Lines.{gramLines, earlyLines, lateLines}
+use Rattle.hashes.specs.Selected.{selected}
+use Rattle.gram.specs.Gram.{gram}
+use Rattle.columns.specs.Columns.{columnGram}
+use Rattle.sets.specs.Lines.{gramLines, earlyLines, lateLines}
 use Rattle.gram.specs.Call as of-gram
 use Rattle.gram.specs.Call.{features, outcomeOf, Checked}
-use Rattle.gram.proofs.Tables.{refusal-untouched, judged-passes, judged-refused}
-use Rattle.gram.proofs.Accepted.{Accepted, accepted, checked-gram}
+use Rattle.sets.proofs.Tables.{refusal-untouched, judged-passes, judged-refused}
+use Rattle.sets.proofs.Accepted.{Accepted, accepted}
+use Rattle.gram.proofs.Answers.{checked-gram}
 use Rattle.lists.proofs.Truths.{or-neither}
 use Rattle.coordinates.specs.Finish.{Coordinates}
 use Rattle.coordinates.specs.Pcoa.{ordinate, hashPca}

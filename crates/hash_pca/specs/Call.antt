@@ -10,8 +10,8 @@ use Rattle.outcome.specs.Refusals.{first}
 use Rattle.outcome.specs.Outcome.{Outcome, answered, judged, andThen}
 use Rattle.outcome.specs.Slices.{work}
 use Rattle.gram.specs.declared.Answer.{Answer}
-use Rattle.gram.specs.Gram.{selected}
-use Rattle.gram.specs.Lines.{gramLines}
+use Rattle.hashes.specs.Selected.{selected}
+use Rattle.sets.specs.Lines.{gramLines}
 use Rattle.gram.specs.Call.{outcomeOf}
 use Rattle.coordinates.specs.Finish.{Coordinates}
 use Rattle.coordinates.specs.Pcoa.{hashPca}

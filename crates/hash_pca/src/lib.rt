@@ -36,7 +36,7 @@ fn matrix_in(
         return a;
     };
     let k = hashes.len();
-    gram::fill_gram(b, words, sums, &columns[..k], &means[..m], offsets, n);
+    columns::fill_gram(b, words, sums, &columns[..k], &means[..m], offsets, n);
     a
 }
 

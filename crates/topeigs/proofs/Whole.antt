@@ -16,8 +16,10 @@ use Rattle.lists.specs.Writes.{cleared}
 use Rattle.outcome.specs.Outcome.{Outcome, answered, refused, andThen}
 use Rattle.outcome.specs.Slices.{work}
 use Rattle.jacobi.specs.Eigen.{Eigen, jacobi}
-use Rattle.block.specs.Block.{timesBlock, firstBlock}
-use Rattle.block.specs.Rounds.{powerBound, iterate}
+use Rattle.products.specs.Products.{timesBlock}
+use Rattle.orthonormal.specs.Orthonormal.{firstBlock}
+use Rattle.power.specs.Power.{powerBound}
+use Rattle.block.specs.Rounds.{iterate}
 use Rattle.ritz.specs.Ritz.{Pairs, symmetrised, smallMatrix, combined, rayleighRitz}
 use Rattle.ritz.proofs.Found.{only-unordered}
 use Rattle.topeigs.specs.TopEigs.{leading, shiftOf, lastBlock, byBlock, topEigs}

@@ -9,8 +9,10 @@ use Rattle.float.specs.Floats.{_⊗_, zero⁺, 1·05}
 use Rattle.lists.specs.Rows.{row}
 use Rattle.outcome.specs.Outcome.{Outcome, answered, andThen}
 use Rattle.jacobi.specs.Eigen.{jacobi}
-use Rattle.block.specs.Block.{timesBlock, firstBlock}
-use Rattle.block.specs.Rounds.{powerBound, iterate}
+use Rattle.products.specs.Products.{timesBlock}
+use Rattle.orthonormal.specs.Orthonormal.{firstBlock}
+use Rattle.power.specs.Power.{powerBound}
+use Rattle.block.specs.Rounds.{iterate}
 use Rattle.ritz.specs.Ritz.{rayleighRitz}
 -- k values, and k vectors as rows of n
 pub use Rattle.ritz.specs.Ritz.{Pairs}

@@ -9,7 +9,8 @@ ghost use Rattle.float.specs.Floats.{zero⁺};
 ghost use Rattle.lists.specs.Filters.{any};
 ghost use Rattle.outcome.specs.Refusals.{first};
 ghost use Rattle.jacobi.specs.Call.{notFinite};
-ghost use Rattle.block.specs.Block.{timesBlock, firstBlock};
+ghost use Rattle.products.specs.Products.{timesBlock};
+ghost use Rattle.orthonormal.specs.Orthonormal.{firstBlock};
 ghost use Rattle.ritz.specs.Given.{given, gives};
 ghost use Rattle.topeigs.specs.TopEigs.{leading, shiftOf, lastBlock, byBlock, topEigs};
 ghost use Rattle.topeigs.specs.Call as Call;
@@ -84,9 +85,9 @@ fn prepare(
     requires { ⌜ (length (now q) ≡ b * n) × (length (now z) ≡ b * n) × (length (now x) ≡ n) × (length (now y) ≡ n) × (length (now a) ≡ n * n) × (n ≤ b * n) ⌝ }
     ensures { λ r. ⌜ (now (q .exit) ≡ firstBlock n b) × (r ≡ shiftOf n (now (a .entry)) (firstBlock n b)) ⌝ }
 {
-    block::first_block(q, z, n, b);
+    orthonormal::first_block(q, z, n, b);
     lists::copy(x, &q[..n]);
-    block::power_bound(x, y, a, n) * 1.05
+    power::power_bound(x, y, a, n) * 1.05
 }
 
 // The block at the end of the rounds goes to q, its product to aq. `before` takes the Ritz values that are watched; x and y are work.
@@ -106,7 +107,7 @@ fn settle(
     ensures { λ _. ⌜ (now (q .exit) ≡ lastBlock k b n (now (a .entry))) × (now (aq .exit) ≡ timesBlock n (now (a .entry)) b (now (q .exit))) ⌝ }
 {
     let shift = prepare(q, aq, x, y, a, n, b);
-    block::matvec_block(aq, a, n, q, b);
+    products::matvec_block(aq, a, n, q, b);
     block::iterate(q, aq, before, a, n, b, shift);
 }
 

@@ -5,7 +5,7 @@ use borrow.Author.Needs.{needs}
 use denote.Ref.{now}
 use lib.Ieee.{Float}
 use Rattle.vectors.specs.Vectors.{plusTimes}
-use Rattle.block.specs.Block.{orthonormal}
+use Rattle.orthonormal.specs.Orthonormal.{orthonormal}
 use Rattle.block.specs.Rounds.{blockStep}
 use Rattle.block.proofs.block_step.Statement.{statement}
 use Rattle.block.proofs.block_step.Tie as tie

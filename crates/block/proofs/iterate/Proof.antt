@@ -6,7 +6,7 @@ use native.Mathlib.Omega.{arith}
 use denote.Ref.{now}
 use lib.ListN.{length}
 use lib.Ieee.{Float}
-use Rattle.block.specs.Block.{timesBlock}
+use Rattle.products.specs.Products.{timesBlock}
 use Rattle.block.specs.Rounds.{ritz, iterate}
 use Rattle.block.proofs.Fuel.{rounds-none, rounds-end, rounds-on}
 use Rattle.block.proofs.iterate.Statement.{statement}

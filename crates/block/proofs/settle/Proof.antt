@@ -10,7 +10,7 @@ use Rattle.lists.proofs.Rows.{row-end}
 use Rattle.lists.proofs.Writes.{writing-all}
 use Rattle.vectors.specs.Vectors.{dot}
 use Rattle.block.specs.Rounds.{ritz}
-use Rattle.block.proofs.Entries.{Settling, settling-none, settling-next, settling-all}
+use Rattle.block.proofs.Settling.{Settling, settling-none, settling-next, settling-all}
 use Rattle.block.proofs.settle.Statement.{statement}
 use Rattle.block.proofs.settle.Tie as tie
 

@@ -4,7 +4,8 @@ use Prim.Native.Nat.{_≤_}
 use native.Mathlib.Omega.{arith}
 use lib.ListN.{length}
 use lib.Seq.{length-take-le, take-at}
-use Rattle.gram.proofs.Accepted.{early-passed, checked-early, checked-late}
+use Rattle.sets.proofs.Accepted.{early-passed}
+use Rattle.gram.proofs.Answers.{checked-early, checked-late}
 use borrow.Author.Needs.{needs}
 use Rattle.gram.proofs.check_gram.Statement.{statement}
 use Rattle.gram.proofs.check_gram.Tie as tie
@@ -49,8 +50,8 @@ choose-requires c κs =
     let p = passed (c .before .before .before) in
     (p .0, p .1, length-take-le k (a .order .now) (omega arith), length-take-le k (a .columns .now) (omega arith))
 
-late-requires : tie.Need-late-requires
-late-requires c κs = search needs
+counted-requires : tie.Need-counted-requires
+counted-requires c κs = search needs
 
 returns : tie.Need-returns
 returns c =
@@ -75,7 +76,7 @@ returns-2 c =
     let asked = sym (c .before .before .before .before .before .before .before .before .before .before .before .enum-told .given .1) ∙ c .before .before .before .before .before .before .before .before .before .before .before .before .before .early .ensures in
     let call = c .before .before .before .before .before .before .before .choose in
     let long = call .kept .1 .0 ∙ length-take-le k (a .columns .now) (omega arith) in
-    checked-late (a .n) (a .hashes .now) (a .offsets .now) (a .short) (a .beyond) asked (call .ensures) (c .late .ensures) (take-at (call .last .1 .0) _ k long) (s .pre .2)
+    checked-late (a .n) (a .hashes .now) (a .offsets .now) (a .short) (a .beyond) asked (call .ensures) (c .counted .ensures) (take-at (call .last .1 .0) _ k long) (s .pre .2)
 
 pub check-gram-spec : {M : Type 1} → statement M
 check-gram-spec =
@@ -89,7 +90,7 @@ check-gram-spec =
     slice-relend-prefix-choose-2
     slice-aggregate-choose-2
     choose-requires
-    late-requires
+    counted-requires
     returns
     same-length
     same-length-2

@@ -5,10 +5,11 @@ use Prim.Native.Nat.{_≤_}
 use native.Mathlib.Omega.{arith}
 use lib.ListN.{length}
 use lib.Seq.{length-take-le}
-use Rattle.gram.specs.Columns.{Offsets}
+use Rattle.sets.specs.Sets.{Offsets}
 use Rattle.gram.specs.declared.Answer.{Answer}
 use Rattle.gram.specs.Call.{features, Checked, called}
-use Rattle.gram.proofs.Accepted.{Accepted, checked-answer, long-enough, call-refused, call-answered}
+use Rattle.sets.proofs.Accepted.{Accepted, long-enough}
+use Rattle.gram.proofs.Answers.{checked-answer, call-refused, call-answered}
 use borrow.Author.Needs.{needs}
 use Rattle.gram.proofs.gram_in.Statement.{statement}
 use Rattle.gram.proofs.gram_in.Tie as tie

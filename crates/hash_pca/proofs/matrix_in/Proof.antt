@@ -8,8 +8,8 @@ use borrow.Author.Needs.{needs}
 use lib.ListN.{length}
 use lib.Seq.{length-take-le}
 use Rattle.gram.specs.declared.Answer.{Answer}
-use Rattle.gram.specs.Columns.{Offsets}
-use Rattle.gram.proofs.Accepted.{checked-answer}
+use Rattle.sets.specs.Sets.{Offsets}
+use Rattle.gram.proofs.Answers.{checked-answer}
 use Rattle.hash_pca.proofs.Halves.{matrix-refused, matrix-answered}
 use Rattle.hash_pca.proofs.matrix_in.Statement.{statement}
 use Rattle.hash_pca.proofs.matrix_in.Tie as tie

@@ -1,0 +1,2 @@
+-- The matrix of sets of columns.
+pub mod Columns

@@ -1,0 +1,120 @@
+// The centred matrix of sets of columns: from the sets' bits, their sums of means and the sum of squared means.
+ghost use mathlib.Core.Path.{_≡_};
+ghost use mathlib.Core.List.{map, _++_};
+ghost use Prim.Native.Nat.{_+_, _*_, _<_, _≤_, min, max};
+ghost use lib.ListN.{length, getD, take, set};
+ghost use lib.Ieee.{nan};
+ghost use Rattle.lists.specs.Ranges.{range, table, grid};
+ghost use Rattle.lists.specs.Loops.{inTurn};
+ghost use Rattle.lists.specs.Sums.{sum⁻};
+ghost use Rattle.lists.specs.Writes.{over, cleared};
+ghost use Rattle.sets.specs.Sets.{setAt, Offsets};
+ghost use Rattle.columns.specs.Columns.{square, columnSum, entryAt, columnGram};
+
+// The sum of squared means.
+fn square_sum(means: &[f64]) -> f64
+    ensures { λ r. ⌜ r ≡ sum⁻ (map square (now (means .entry))) ⌝ }
+{
+    let mut s = -0.0;
+    for i in 0..means.len() {
+        s = s + means[i] * means[i];
+    }
+    s
+}
+
+// The sum of the means of a set's columns.
+fn mean_sum(set: &[u16], means: &[f64]) -> f64
+    ensures { λ r. ⌜ r ≡ columnSum (now (means .entry)) (now (set .entry)) ⌝ }
+{
+    let mut s = -0.0;
+    let mut i: usize = 0;
+    while i < set.len() {
+        let c = set[i] as usize;
+        if c < means.len() {
+            s = s + means[c];
+            i += 1;
+        } else {
+            i += 1;
+        }
+    }
+    s
+}
+
+// The sums of the n sets.
+fn mean_sums(sums: &mut [f64], columns: &[u16], offsets: &[usize], n: usize, means: &[f64])
+    requires { ⌜ Offsets n (now offsets) (length (now columns)) × (n ≤ length (now sums)) ⌝ }
+    ensures { λ _. ⌜ now (sums .exit)
+        ≡ over (table n (λ i. columnSum (now (means .entry)) (setAt (now (columns .entry)) (now (offsets .entry)) i))) (now (sums .entry)) ⌝ }
+{
+    for i in 0..n {
+        let a = offsets[i];
+        let e = offsets[i + 1];
+        sums[i] = mean_sum(&columns[a..e], means);
+    }
+}
+
+// The entry of the sets i and j.
+fn entry(words: &[u64], w: usize, sums: &[f64], t: f64, i: usize, j: usize) -> f64
+    requires { ⌜ (i * w + w ≤ length (now words)) × (j * w + w ≤ length (now words)) × (w ≤ 64) × (i < length (now sums)) × (j < length (now sums)) ⌝ }
+    ensures { λ r. ⌜ r ≡ entryAt w (now (words .entry)) (now (sums .entry)) t i j ⌝ }
+{
+    let c = bitsets::common_bits(&words[i * w..i * w + w], &words[j * w..j * w + w]);
+    c as f64 - sums[i] - sums[j] + t
+}
+
+// Row i from the diagonal on.
+fn fill_row(row: &mut [f64], i: usize, words: &[u64], w: usize, sums: &[f64], t: f64)
+    requires { ⌜ (i < length (now row)) × (length (now row) * w ≤ length (now words)) × (w ≤ 64) × (length (now row) ≤ length (now sums)) ⌝ }
+    ensures { λ _. ⌜ now (row .exit)
+        ≡ take i (now (row .entry)) ++ map (entryAt w (now (words .entry)) (now (sums .entry)) t i) (range i (length (now (row .entry)))) ⌝ }
+{
+    for j in i..row.len() {
+        row[j] = entry(words, w, sums, t, i, j);
+    }
+}
+
+// Row i before the diagonal: what the rows above have in column i.
+fn mirror_row(out: &mut [f64], n: usize, i: usize)
+    requires { ⌜ (i < n) × (n * n ≤ length (now out)) ⌝ }
+    ensures { λ _. ⌜ now (out .exit) ≡ inTurn (λ j l. set l (i * n + j) (getD l (j * n + i) nan)) i (now (out .entry)) ⌝ }
+{
+    for j in 0..i {
+        out[i * n + j] = out[j * n + i];
+    }
+}
+
+// The n by n entries, in front of `out`.
+fn fill(out: &mut [f64], n: usize, words: &[u64], w: usize, sums: &[f64], t: f64)
+    requires { ⌜ (n * n ≤ length (now out)) × (n * w ≤ length (now words)) × (w ≤ 64) × (n ≤ length (now sums)) ⌝ }
+    ensures { λ _. ⌜ now (out .exit)
+        ≡ over (grid n n (λ i j. entryAt w (now (words .entry)) (now (sums .entry)) t (min i j) (max i j))) (now (out .entry)) ⌝ }
+{
+    for i in 0..n {
+        mirror_row(out, n, i);
+        fill_row(&mut out[i * n..i * n + n], i, words, w, sums, t);
+    }
+}
+
+// The matrix of sets of columns, in front of `out`. `words` lends 64 words for each set, and is cleared; `sums` lends a number for each.
+pub fn fill_gram(
+    out: &mut [f64],
+    words: &mut [u64],
+    sums: &mut [f64],
+    columns: &[u16],
+    means: &[f64],
+    offsets: &[usize],
+    n: usize,
+)
+    requires { ⌜ Offsets n (now offsets) (length (now columns)) × (length (now means) ≤ 4096) ⌝ }
+    requires { ⌜ (n * n ≤ length (now out)) × (n * 64 ≤ length (now words)) × (n ≤ length (now sums)) ⌝ }
+    ensures { λ _. ⌜ (now (out .exit) ≡ over (columnGram n (now (columns .entry)) (now (offsets .entry)) (now (means .entry))) (now (out .entry)))
+        × (now (words .exit) ≡ cleared 0 (now (words .entry))) ⌝ }
+{
+    let m = means.len();
+    let w = (m + 63) / 64;
+    mean_sums(sums, columns, offsets, n, means);
+    bitsets::mark_sets(words, columns, offsets, n, m, w);
+    let t = square_sum(means);
+    fill(out, n, words, w, sums, t);
+    bitsets::clear(words);
+}

@@ -1,0 +1,3 @@
+-- Section 4 of document 01: the selected hashes, and their columns.
+pub mod Selected
+pub mod Columns

@@ -1,0 +1,2 @@
+-- Laws of power steps.
+pub mod Fuel

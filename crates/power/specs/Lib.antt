@@ -1,0 +1,2 @@
+-- Section 4 of document 01: the bound of the spectral radius.
+pub mod Power

@@ -1,0 +1,2 @@
+-- A matrix times a block.
+pub mod Products

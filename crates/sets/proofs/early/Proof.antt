@@ -1,0 +1,60 @@
+-- `sets::early` meets its contract: each answer rewrites with the tests that led there. Assumes nothing.
+use mathlib.Core.Path.{sym, _∙_}
+use borrow.Author.Tests.{lt-ltb, le-ltb}
+use Rattle.sets.specs.Lines.{earlyLines}
+use Rattle.outcome.specs.Refusals.{first}
+use borrow.Author.Needs.{needs}
+use Rattle.sets.proofs.early.Statement.{statement}
+use Rattle.sets.proofs.early.Tie as tie
+
+bad-offsets-requires : tie.Need-bad-offsets-requires
+bad-offsets-requires c κs = search needs
+
+returns : tie.Need-returns
+unfolding first earlyLines
+returns c = rw (sym (c .before .bad-offsets .ensures) ∙ c .if1 .taken)
+
+returns-2 : tie.Need-returns-2
+unfolding first earlyLines
+returns-2 c = rw (sym (c .before .before .bad-offsets .ensures) ∙ c .before .if1 .left, c .if2 .taken)
+
+returns-3 : tie.Need-returns-3
+unfolding first earlyLines
+returns-3 c = rw (sym (c .before .before .before .bad-offsets .ensures) ∙ c .before .before .if1 .left, c .before .if2 .left, lt-ltb _ _ (c .if3 .taken))
+
+returns-4 : tie.Need-returns-4
+unfolding first earlyLines
+returns-4 c =
+    let bad = sym (c .before .before .before .before .bad-offsets .ensures) ∙ c .before .before .before .if1 .left in
+    rw (bad, c .before .before .if2 .left, le-ltb _ _ (c .before .if3 .left), lt-ltb _ _ (c .if4 .taken))
+
+returns-5 : tie.Need-returns-5
+unfolding first earlyLines
+returns-5 c =
+    let bad = sym (c .before .before .before .before .before .bad-offsets .ensures) ∙ c .before .before .before .before .if1 .left in
+    rw (bad, c .before .before .before .if2 .left, le-ltb _ _ (c .before .before .if3 .left), le-ltb _ _ (c .before .if4 .left), c .if5 .taken)
+
+returns-6 : tie.Need-returns-6
+unfolding first earlyLines
+returns-6 c =
+    let bad = sym (c .before .before .before .before .before .before .bad-offsets .ensures) ∙ c .before .before .before .before .before .if1 .left in
+    rw (bad, c .before .before .before .before .if2 .left, le-ltb _ _ (c .before .before .before .if3 .left), le-ltb _ _ (c .before .before .if4 .left), c .before .if5 .left, lt-ltb _ _ (c .if6 .taken))
+
+returns-7 : tie.Need-returns-7
+unfolding first earlyLines
+returns-7 c =
+    let bad = sym (c .before .before .before .before .before .before .bad-offsets .ensures) ∙ c .before .before .before .before .before .if1 .left in
+    rw (bad, c .before .before .before .before .if2 .left, le-ltb _ _ (c .before .before .before .if3 .left), le-ltb _ _ (c .before .before .if4 .left), c .before .if5 .left, le-ltb _ _ (c .if6 .left))
+
+pub early-spec : {M : Type 1} → statement M
+early-spec =
+    tie.close
+    (tie.spec
+    bad-offsets-requires
+    returns
+    returns-2
+    returns-3
+    returns-4
+    returns-5
+    returns-6
+    returns-7)
