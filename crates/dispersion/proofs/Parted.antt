@@ -13,7 +13,8 @@ use Rattle.lists.specs.Writes.{over}
 use Rattle.lists.proofs.Ranges.{table-ext, length-table, getD-table}
 use Rattle.lists.proofs.Writes.{getD-over, take-over}
 use Rattle.members.specs.Members.{part, Grouped}
-use Rattle.location.specs.Location.{at, groupWeight}
+use Rattle.pair_sums.specs.PairSums.{at}
+use Rattle.location.specs.Location.{groupWeight}
 use Rattle.dispersion.specs.Dispersion.{inside, pullSum, valueOf, value, values}
 use Rattle.dispersion.specs.Anova.{grandMean, groupMean, groupMeans, share, between, residual}
 use Rattle.dispersion.specs.Parted.{valueBy}

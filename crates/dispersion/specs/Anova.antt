@@ -8,7 +8,8 @@ use Rattle.float.specs.Floats.{_⊖_, _⊗_, _⊘_, num}
 use Rattle.lists.specs.Ranges.{table}
 use Rattle.lists.specs.Numbers.{members}
 use Rattle.lists.specs.Sums.{sum⁻, sum⁺}
-use Rattle.location.specs.Location.{at, fRatio}
+use Rattle.pair_sums.specs.PairSums.{at}
+use Rattle.location.specs.Location.{fRatio}
 
 -- the mean of all, and of a group: added up from 0.0, divided by its count
 unfoldable pub grandMean : List Float → ℕ → Float

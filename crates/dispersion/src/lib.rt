@@ -10,7 +10,8 @@ ghost use Rattle.lists.specs.Numbers.{Below};
 ghost use Rattle.lists.specs.Sums.{sumFrom};
 ghost use Rattle.lists.specs.Writes.{over};
 ghost use Rattle.members.specs.Members.{part, Parts, Grouped};
-ghost use Rattle.location.specs.Location.{at, groupWeight};
+ghost use Rattle.pair_sums.specs.PairSums.{at};
+ghost use Rattle.location.specs.Location.{groupWeight};
 ghost use Rattle.dispersion.specs.Dispersion.{inside, pullSum, valueOf, distanceOf, negative, values, zOf, someNegative};
 ghost use Rattle.dispersion.specs.Parted.{valueBy};
 ghost use Rattle.dispersion.specs.Anova.{groupMean, meanOf, share, residualAt, residual, grandMean, anovaF};
@@ -25,7 +26,7 @@ fn inside(t: &[f64], m: usize, mem: &[u16]) -> f64
     let mut s = 0.0;
     for x in 0..mem.len() {
         let a = lists::entry(mem, x);
-        s = location::sum_entries(t, m, mem, a, s);
+        s = pair_sums::sum_entries(t, m, mem, a, s);
     }
     s
 }
@@ -35,7 +36,7 @@ fn pull_sum(p: &[f64], m: usize, mem: &[u16], a: usize) -> f64
     requires { ⌜ (length (now p) ≡ m * m) × Below m (now mem) × (a < m) ⌝ }
     ensures { λ r. ⌜ r ≡ pullSum (now (p .entry)) m (now (mem .entry)) a ⌝ }
 {
-    location::sum_entries(p, m, mem, a, -0.0)
+    pair_sums::sum_entries(p, m, mem, a, -0.0)
 }
 
 // A value, from the pulls on the sample, its group's weight sum and what is inside the group.
@@ -95,7 +96,7 @@ fn group_mean(z: &[f64], mem: &[u16]) -> f64
     requires { ⌜ Below (length (now z)) (now mem) × (length (now mem) ≤ 256) ⌝ }
     ensures { λ r. ⌜ r ≡ groupMean (now (z .entry)) (now (mem .entry)) ⌝ }
 {
-    quotient(location::sum_at(z, mem, 0.0), at_least_one(mem.len()))
+    quotient(pair_sums::sum_at(z, mem, 0.0), at_least_one(mem.len()))
 }
 
 // The mean that the answer lists.
@@ -103,7 +104,7 @@ pub fn mean_of(z: &[f64], mem: &[u16]) -> f64
     requires { ⌜ Below (length (now z)) (now mem) × (length (now mem) ≤ 256) ⌝ }
     ensures { λ r. ⌜ r ≡ meanOf (now (z .entry)) (now (mem .entry)) ⌝ }
 {
-    quotient(location::sum_at(z, mem, -0.0), mem.len())
+    quotient(pair_sums::sum_at(z, mem, -0.0), mem.len())
 }
 
 // The mean of all.
@@ -111,7 +112,7 @@ fn grand_mean(z: &[f64], m: usize) -> f64
     requires { ⌜ m ≤ 256 ⌝ }
     ensures { λ r. ⌜ r ≡ grandMean (now (z .entry)) m ⌝ }
 {
-    quotient(location::sum(z), m)
+    quotient(pair_sums::sum(z), m)
 }
 
 // A group's share of what lies between groups.

@@ -8,7 +8,7 @@ ghost use Rattle.lists.specs.Numbers.{Below};
 ghost use Rattle.lists.specs.Writes.{over};
 ghost use Rattle.members.specs.Members.{Grouped};
 ghost use Rattle.lot.specs.Kept.{sizes};
-ghost use Rattle.location.specs.Squares.{weightAt, terms, pulls};
+ghost use Rattle.squares.specs.Squares.{weightAt, terms, pulls};
 ghost use Rattle.dispersion.specs.Dispersion.{zOf};
 ghost use Rattle.dispersion.specs.Anova.{meanZ};
 ghost use Rattle.observation.specs.Observed.{located, spread, observed};
@@ -106,9 +106,9 @@ pub fn weigh(
         × (now (t .exit) ≡ terms (now (d .entry)) n (now (ks .entry)) (map (weightAt weighted (now (weights .entry))) (now (ks .entry))) m)
         × (now (p .exit) ≡ pulls (now (d .entry)) n (now (ks .entry)) (map (weightAt weighted (now (weights .entry))) (now (ks .entry))) m) ⌝ }
 {
-    location::fill_weights(w, weighted, weights, ks);
-    location::fill_terms(t, d, n, ks, w, m);
-    location::fill_pulls(p, d, n, ks, w, m);
+    squares::fill_weights(w, weighted, weights, ks);
+    squares::fill_terms(t, d, n, ks, w, m);
+    squares::fill_pulls(p, d, n, ks, w, m);
 }
 
 pub struct Observed {

@@ -21,7 +21,7 @@ use Rattle.lot.specs.Kept.{kept, groups, sizes, keptCount, groupCount}
 use Rattle.lot.specs.Strata.{strata, strataCount, informativeCount, fraction}
 use Rattle.lot.specs.Lines.{testLines}
 use Rattle.lot.specs.Described.{samplesOf, Described}
-use Rattle.location.specs.Squares.{weightsOf, termsOf, pullsOf}
+use Rattle.squares.specs.Squares.{weightsOf, termsOf, pullsOf}
 use Rattle.dispersion.specs.Anova.{meanZ}
 use Rattle.statistics.specs.Statistics.{totalOf, withinOf, locationF, rSquaredOf, zOf, someNegative, dispersionOf, dispersionF}
 use Rattle.statistics.specs.Warnings.{uninformed, sizesOf, warned}

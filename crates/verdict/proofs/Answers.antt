@@ -14,7 +14,7 @@ use Rattle.lists.specs.Numbers.{addUp}
 use Rattle.lists.specs.Writes.{over}
 use Rattle.lot.specs.Kept.{sizes}
 use Rattle.lot.specs.Strata.{informative}
-use Rattle.location.specs.Squares.{weightAt, terms, pulls}
+use Rattle.squares.specs.Squares.{weightAt, terms, pulls}
 use Rattle.dispersion.specs.Dispersion.{zOf}
 use Rattle.dispersion.specs.Anova.{meanZ}
 use Rattle.statistics.specs.declared.Statistic.{Statistic}

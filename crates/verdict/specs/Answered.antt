@@ -11,7 +11,7 @@ use Rattle.lists.specs.Filters.{any}
 use Rattle.lists.specs.Numbers.{addUp, Below}
 use Rattle.lot.specs.Kept.{sizes}
 use Rattle.lot.specs.Strata.{informative}
-use Rattle.location.specs.Squares.{weightAt, terms, pulls}
+use Rattle.squares.specs.Squares.{weightAt, terms, pulls}
 use Rattle.dispersion.specs.Dispersion.{zOf}
 use Rattle.dispersion.specs.Anova.{meanZ}
 use Rattle.statistics.specs.Hits.{statistic}

@@ -10,7 +10,8 @@ use lib.Ieee.{Float}
 use Rattle.float.specs.Floats.{zero⁻}
 use Rattle.lists.specs.Ranges.{table}
 use Rattle.lists.specs.Sums.{sumFrom}
-use Rattle.location.specs.Location.{at, fRatio}
+use Rattle.pair_sums.specs.PairSums.{at}
+use Rattle.location.specs.Location.{fRatio}
 use Rattle.dispersion.specs.Anova.{share, residual, anovaF}
 use Rattle.members.specs.Members.{part}
 use Rattle.dispersion.proofs.Parted.{means-are, between-is}

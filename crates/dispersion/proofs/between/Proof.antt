@@ -10,7 +10,7 @@ use Rattle.float.specs.Floats.{zero⁻}
 use Rattle.lists.specs.Ranges.{range, table}
 use Rattle.lists.specs.Sums.{sumFrom}
 use Rattle.lists.proofs.Sums.{sum-turn, sum-end, sum-table}
-use Rattle.location.specs.Location.{at}
+use Rattle.pair_sums.specs.PairSums.{at}
 use Rattle.dispersion.specs.Anova.{share}
 use Rattle.members.specs.Members.{part}
 use Rattle.members.proofs.Places.{part-there, part-short}

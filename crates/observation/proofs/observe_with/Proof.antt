@@ -8,7 +8,7 @@ use native.Mathlib.Omega.{arith}
 use borrow.Author.Needs.{needs}
 use lib.Ieee.{Float}
 use Rattle.lists.specs.Writes.{over}
-use Rattle.location.specs.Squares.{terms, pulls}
+use Rattle.squares.specs.Squares.{terms, pulls}
 use Rattle.dispersion.specs.Anova.{meanZ}
 use Rattle.observation.specs.declared.Located.{Located}
 use Rattle.observation.specs.declared.Spread.{Spread}
