@@ -8,7 +8,8 @@ use lib.Ieee.{Float, nan}
 use Rattle.lists.specs.Ranges.{table}
 use Rattle.outcome.specs.declared.Refusal.the-variants.{Pivot, Unordered}
 use Rattle.outcome.specs.Outcome.{Outcome, answered, refused, andThen}
-use Rattle.moments.specs.Moments.{grouped, meanOf, groupMeans, scatterWithin, scatterBetween, ridged}
+use Rattle.means.specs.Means.{grouped, meanOf, groupMeans}
+use Rattle.scatter.specs.Scatter.{scatterWithin, scatterBetween, ridged}
 use Rattle.cholesky.specs.Cholesky.{factor, pivotFails, whitened, solveRows}
 use Rattle.jacobi.specs.Eigen.{jacobi}
 use Rattle.scores.specs.Scores.{scoresOf, centroids, assignedOf, unordered, rightOf}

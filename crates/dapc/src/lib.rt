@@ -12,7 +12,7 @@ ghost use Rattle.lists.specs.Writes.{over};
 ghost use Rattle.outcome.specs.Refusals.{first};
 ghost use Rattle.outcome.specs.Outcome.{judged};
 ghost use Rattle.lot.specs.Kept.{sizes, names, groupEach, keptCount, groupCount};
-ghost use Rattle.moments.specs.Moments.{Numbered, grouped};
+ghost use Rattle.means.specs.Means.{Numbered, grouped};
 ghost use Rattle.cholesky.specs.Cholesky.{whitened};
 ghost use Rattle.jacobi.specs.Eigen.{jacobi};
 ghost use Rattle.jacobi.specs.Call.{eigenOf};

@@ -11,7 +11,7 @@ ghost use Rattle.location.specs.Location.{fRatio, groupWeight, groupWith
 
 // ---- within
 
-// Their weight sum.
+// The weight sum of the samples `mem`.
 pub fn group_weight(w: &[f64], mem: &[u16]) -> f64
     requires { ⌜ Below (length (now w)) (now mem) ⌝ }
     ensures { λ r. ⌜ r ≡ groupWeight (now (w .entry)) (now (mem .entry)) ⌝ }

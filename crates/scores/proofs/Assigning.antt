@@ -22,9 +22,9 @@ use Rattle.lot.specs.Lot.{none}
 use Rattle.lists.proofs.Members.{keep-member, member-range}
 use Rattle.lists.proofs.Counts.{count-cong}
 use Rattle.lists.proofs.Grids.{first-row, part-entry}
-use Rattle.moments.specs.Moments.{grouped}
-use Rattle.moments.proofs.Groups.{has-group, has-none}
-use Rattle.moments.proofs.Means.{hasGroup, front}
+use Rattle.means.specs.Means.{grouped}
+use Rattle.means.proofs.Groups.{has-group, has-none}
+use Rattle.means.proofs.Means.{hasGroup, front}
 use Rattle.scores.specs.Scores.{gap, gaps, nearestOf, assignedOf, unordered, rightOf}
 use Rattle.lists.proofs.Truths.{or-false}
 

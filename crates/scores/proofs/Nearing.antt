@@ -20,7 +20,7 @@ use Rattle.lists.proofs.Filters.{range-any-none}
 use Rattle.lists.proofs.Loops.{inTurn-none, inTurn-next}
 use Rattle.lists.proofs.Searches.{any-more}
 use Rattle.lists.proofs.Grids.{first-row, part-entry}
-use Rattle.moments.proofs.Means.{front}
+use Rattle.means.proofs.Means.{front}
 use Rattle.scores.specs.Scores.{gap, nearestOf}
 use Rattle.lists.proofs.Truths.{or-false, or-true}
 

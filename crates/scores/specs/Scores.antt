@@ -14,7 +14,7 @@ use Rattle.lists.specs.Numbers.{inGroup, members}
 use Rattle.lists.specs.Sums.{sum⁺, sum⁻}
 use Rattle.lists.specs.Rows.{entry}
 use Rattle.lot.specs.Lot.{none}
-use Rattle.moments.specs.Moments.{grouped}
+use Rattle.means.specs.Means.{grouped}
 
 -- the scores: (coordinate - mean)·direction, summed over the columns
 unfoldable pub scoresOf : ℕ → ℕ → ℕ → ℕ → List Float → List Float → List Float → List Float

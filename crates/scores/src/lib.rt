@@ -11,7 +11,7 @@ ghost use Rattle.lists.specs.Filters.{any};
 ghost use Rattle.lists.specs.Sums.{sum⁻};
 ghost use Rattle.lists.specs.Rows.{entry};
 ghost use Rattle.lot.specs.Kept.{sizes};
-ghost use Rattle.moments.specs.Moments.{Numbered};
+ghost use Rattle.means.specs.Means.{Numbered};
 ghost use Rattle.scores.specs.Scores.{scoresOf, centroids, gap, gaps, nearestOf, assignedOf, unordered, rightOf};
 
 // ---- scores
@@ -54,7 +54,7 @@ pub fn fill_scores(
     ensures { λ _. ⌜ now (scores .exit) ≡ scoresOf n columns p axes (now (x .entry)) (now (mean .entry)) (now (vs .entry)) ⌝ }
 {
     for i in 0..n {
-        moments::subtract(d, &x[i * columns..i * columns + p], mean);
+        entrywise::subtract(d, &x[i * columns..i * columns + p], mean);
         score_row(&mut scores[i * axes..i * axes + axes], d, p, vs);
     }
 }
@@ -85,7 +85,7 @@ pub fn fill_centroids(
 {
     for i in 0..groups.len() {
         let j = lists::entry(groups, i);
-        if j != moments::NONE {
+        if j != means::NONE {
             let n = lists::entry(counts, j) as f64;
             add_quotients(
                 &mut cen[j * axes..j * axes + axes],
@@ -198,7 +198,7 @@ pub fn assign(
     };
     for i in 0..groups.len() {
         let j = lists::entry(groups, i);
-        if j == moments::NONE {
+        if j == means::NONE {
             found[i] = lot::NONE;
         } else {
             let b = nearest(&scores[i * axes..i * axes + axes], cen, axes, g);
