@@ -12,7 +12,8 @@ use Rattle.means.specs.Means.{grouped, meanOf, groupMeans}
 use Rattle.scatter.specs.Scatter.{scatterWithin, scatterBetween, ridged}
 use Rattle.cholesky.specs.Cholesky.{factor, pivotFails, whitened, solveRows}
 use Rattle.jacobi.specs.Eigen.{jacobi}
-use Rattle.scores.specs.Scores.{scoresOf, centroids, assignedOf, unordered, rightOf}
+use Rattle.nearest_centroid.specs.Assigned.{assignedOf, unordered, rightOf}
+use Rattle.scores.specs.Scores.{scoresOf, centroids}
 
 -- p, the leading columns used, and the number of axes
 unfoldable pub leading : ℕ → ℕ → ℕ → ℕ

@@ -98,7 +98,7 @@ fn conclude(
     let n = groups.len();
     let e = axes + n * axes;
     scores::fill_centroids(cen, axes, g, &out[axes..e], groups, counts);
-    let t = scores::assign(&mut assigned[..n], &out[axes..e], cen, groups, axes, g);
+    let t = nearest_centroid::assign(&mut assigned[..n], &out[axes..e], cen, groups, axes, g);
     let unordered = t.unordered;
     if unordered {
         return refuse(out, assigned, n, axes, Refusal::Unordered);

@@ -1,4 +1,4 @@
--- `scores::note` meets its contract. By the two tests.
+-- `nearest_centroid::note` meets its contract. By the two tests.
 -- Assumes nothing.
 
 use mathlib.Core.Path.{sym, ap, _∙_}
@@ -8,10 +8,10 @@ use Prim.Native.Nat.{_+_}
 use native.Mathlib.Nat.{add-zero}
 use borrow.Author.Needs.{needs}
 use borrow.Author.Tests.{eq-eqb, ne-eqb}
-use Rattle.scores.specs.Scores.{unordered}
+use Rattle.nearest_centroid.specs.Assigned.{unordered}
 use Rattle.lists.proofs.Truths.{or-true, or-false}
-use Rattle.scores.proofs.note.Statement.{statement}
-use Rattle.scores.proofs.note.Tie as tie
+use Rattle.nearest_centroid.proofs.note.Statement.{statement}
+use Rattle.nearest_centroid.proofs.note.Tie as tie
 
 add-right : tie.Need-add-right
 add-right c = search needs

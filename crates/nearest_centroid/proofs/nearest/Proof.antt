@@ -1,4 +1,4 @@
--- `scores::nearest` meets its contract. After j turns the best of the first j is known.
+-- `nearest_centroid::nearest` meets its contract. After j turns the best of the first j is known.
 -- Assumes nothing.
 
 use mathlib.Core.Path.{sym, _∙_}
@@ -7,10 +7,10 @@ use native.Mathlib.Omega.{arith}
 use lib.Seq.{length-take-le}
 use Rattle.float.proofs.Nan.{nan-ne}
 use Rattle.lists.proofs.Rows.{row-end, length-part}
-use Rattle.scores.specs.Scores.{gap, gaps, unordered}
-use Rattle.scores.proofs.Nearing.{Nearing, nearing-first, nearing-next, nearing-all, gap-first, gap-part}
-use Rattle.scores.proofs.nearest.Statement.{statement}
-use Rattle.scores.proofs.nearest.Tie as tie
+use Rattle.nearest_centroid.specs.Assigned.{gap, gaps, unordered}
+use Rattle.nearest_centroid.proofs.Nearing.{Nearing, nearing-first, nearing-next, nearing-all, gap-first, gap-part}
+use Rattle.nearest_centroid.proofs.nearest.Statement.{statement}
+use Rattle.nearest_centroid.proofs.nearest.Tie as tie
 
 abbrev Inv-loop : tie.InvT-loop
 Inv-loop row cen axes g first b₀ j₀ b j = Nearing g (gap axes row cen 0) (b .group) (b .gap) (b .unordered) j

@@ -1,4 +1,4 @@
--- `scores::assign` meets its contract. After i turns the first i samples are assigned and counted.
+-- `nearest_centroid::assign` meets its contract. After i turns the first i samples are assigned and counted.
 -- Assumes nothing.
 
 use mathlib.Core.Path.{ap, _∙_}
@@ -8,11 +8,11 @@ use native.Mathlib.Omega.{arith}
 use lib.ListN.{length}
 use Rattle.lists.specs.Rows.{entry}
 use Rattle.lists.proofs.Rows.{row-end, length-part}
-use Rattle.scores.specs.Scores.{unordered}
-use Rattle.scores.proofs.Assigning.{Assigning, assigning-none, assigning-next, assigning-pass, assigning-all}
-use Rattle.scores.specs.declared.Tally.{Tally}
-use Rattle.scores.proofs.assign.Statement.{statement}
-use Rattle.scores.proofs.assign.Tie as tie
+use Rattle.nearest_centroid.specs.Assigned.{unordered}
+use Rattle.nearest_centroid.proofs.Assigning.{Assigning, assigning-none, assigning-next, assigning-pass, assigning-all}
+use Rattle.nearest_centroid.specs.declared.Tally.{Tally}
+use Rattle.nearest_centroid.proofs.assign.Statement.{statement}
+use Rattle.nearest_centroid.proofs.assign.Tie as tie
 
 abbrev Inv-loop : tie.InvT-loop
 Inv-loop found₀ scores cen groups axes g t₀ i₀ i-end found t i = Assigning axes g groups scores cen found₀ found (t .right) (t .unordered) i

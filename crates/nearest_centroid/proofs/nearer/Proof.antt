@@ -1,11 +1,11 @@
--- `scores::nearer` meets its contract. A NaN is not less, and ties stay with the lower group.
+-- `nearest_centroid::nearer` meets its contract. A NaN is not less, and ties stay with the lower group.
 -- Assumes nothing.
 
 use Prim.Native.Nat.{_-_}
-use Rattle.scores.specs.Scores.{gap, unordered}
-use Rattle.scores.proofs.Nearing.{nearer-nan, nearer-less, nearer-not}
-use Rattle.scores.proofs.nearer.Statement.{statement}
-use Rattle.scores.proofs.nearer.Tie as tie
+use Rattle.nearest_centroid.specs.Assigned.{gap, unordered}
+use Rattle.nearest_centroid.proofs.Nearing.{nearer-nan, nearer-less, nearer-not}
+use Rattle.nearest_centroid.proofs.nearer.Statement.{statement}
+use Rattle.nearest_centroid.proofs.nearer.Tie as tie
 
 returns : tie.Need-returns
 returns c = nearer-nan (c .before .args .j) (c .before .args .b .group) (c .before .args .d) (c .before .args .b .gap) (c .before .args .b .unordered) (c .if1 .taken)

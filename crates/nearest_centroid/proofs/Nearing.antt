@@ -21,7 +21,7 @@ use Rattle.lists.proofs.Loops.{inTurn-none, inTurn-next}
 use Rattle.lists.proofs.Searches.{any-more}
 use Rattle.lists.proofs.Grids.{first-row, part-entry}
 use Rattle.means.proofs.Means.{front}
-use Rattle.scores.specs.Scores.{gap, nearestOf}
+use Rattle.nearest_centroid.specs.Assigned.{gap, nearestOf}
 use Rattle.lists.proofs.Truths.{or-false, or-true}
 
 -- two rows alone

@@ -25,7 +25,7 @@ use Rattle.lists.proofs.Grids.{first-row, part-entry}
 use Rattle.means.specs.Means.{grouped}
 use Rattle.means.proofs.Groups.{has-group, has-none}
 use Rattle.means.proofs.Means.{hasGroup, front}
-use Rattle.scores.specs.Scores.{gap, gaps, nearestOf, assignedOf, unordered, rightOf}
+use Rattle.nearest_centroid.specs.Assigned.{gap, gaps, nearestOf, assignedOf, unordered, rightOf}
 use Rattle.lists.proofs.Truths.{or-false}
 
 -- the distances from row i, which is lent by itself

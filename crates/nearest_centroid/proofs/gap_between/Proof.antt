@@ -1,4 +1,4 @@
--- `scores::gap_between` meets its contract. What is left of the sum stays the same.
+-- `nearest_centroid::gap_between` meets its contract. What is left of the sum stays the same.
 -- Assumes nothing.
 use mathlib.Core.Path.{_≡_, refl, sym, _∙_}
 use mathlib.Core.List.{map}
@@ -10,9 +10,9 @@ use Rattle.float.specs.Floats.{_⊖_, _⊗_, zero⁻}
 use Rattle.lists.specs.Ranges.{range}
 use Rattle.lists.specs.Sums.{sumFrom}
 use Rattle.lists.proofs.Sums.{sum-turn, sum-end, sum-table}
-use Rattle.scores.proofs.Nearing.{gap-row}
-use Rattle.scores.proofs.gap_between.Statement.{statement}
-use Rattle.scores.proofs.gap_between.Tie as tie
+use Rattle.nearest_centroid.proofs.Nearing.{gap-row}
+use Rattle.nearest_centroid.proofs.gap_between.Statement.{statement}
+use Rattle.nearest_centroid.proofs.gap_between.Tie as tie
 
 abbrev Inv-loop : tie.InvT-loop
 Inv-loop x y s₀ a₀ a-end s a = (a ≤ length x) × (sumFrom s (map (λ k. (getD x k nan ⊖ getD y k nan) ⊗ (getD x k nan ⊖ getD y k nan)) (range a (length x))) ≡ sumFrom zero⁻ (map (λ k. (getD x k nan ⊖ getD y k nan) ⊗ (getD x k nan ⊖ getD y k nan)) (range 0 (length x))))
