@@ -21,7 +21,8 @@ use Rattle.outcome.specs.Slices.{output}
 use Rattle.means.specs.Means.{grouped, meanOf, groupMeans}
 use Rattle.scatter.specs.Scatter.{scatterWithin, scatterBetween, ridged}
 use Rattle.moments.specs.Moments.{Filled}
-use Rattle.cholesky.specs.Cholesky.{factor, pivotFails, whitened}
+use Rattle.whitening.specs.Whitened.{whitened}
+use Rattle.cholesky.specs.Cholesky.{factor, pivotFails}
 use Rattle.rotation.specs.Rotation.{turned}
 use Rattle.rotation.specs.Sweeps.{sweepsFrom}
 use Rattle.jacobi.specs.declared.Answer as jacobi-answer

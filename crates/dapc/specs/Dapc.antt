@@ -10,7 +10,9 @@ use Rattle.outcome.specs.declared.Refusal.the-variants.{Pivot, Unordered}
 use Rattle.outcome.specs.Outcome.{Outcome, answered, refused, andThen}
 use Rattle.means.specs.Means.{grouped, meanOf, groupMeans}
 use Rattle.scatter.specs.Scatter.{scatterWithin, scatterBetween, ridged}
-use Rattle.cholesky.specs.Cholesky.{factor, pivotFails, whitened, solveRows}
+use Rattle.triangular.specs.Triangular.{solveRows}
+use Rattle.whitening.specs.Whitened.{whitened}
+use Rattle.cholesky.specs.Cholesky.{factor, pivotFails}
 use Rattle.jacobi.specs.Eigen.{jacobi}
 use Rattle.nearest_centroid.specs.Assigned.{assignedOf, unordered, rightOf}
 use Rattle.scores.specs.Scores.{scoresOf, centroids}
