@@ -24,7 +24,7 @@ use Rattle.pair_sums.specs.PairSums.{rowSum, rowsSum, pairSum}
 use Rattle.location.specs.Location.{total, groupWeight, groupWithin, within, fRatio, pseudoF}
 use Rattle.dispersion.specs.Dispersion as dispersion
 use Rattle.dispersion.specs.Dispersion.{inside, pullSum, valueOf, value, values, distanceOf}
-use Rattle.dispersion.specs.Anova.{grandMean, groupMean, groupMeans, squared, share, between, residualAt, residual, anovaF}
+use Rattle.anova.specs.Anova.{grandMean, groupMean, groupMeans, squared, share, between, residualAt, residual, anovaF}
 use Rattle.statistics.specs.Statistics as statistics
 use Rattle.statistics.specs.Statistics.{totalOf, withinOf, locationF, zOf, dispersionF}
 use Rattle.statistics.specs.Hits.{statistic, hit}

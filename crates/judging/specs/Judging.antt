@@ -15,7 +15,7 @@ use Rattle.outcome.specs.Outcome.{Outcome, answered, refused}
 use Rattle.lot.specs.Lot.{none}
 use Rattle.location.specs.Location.{within, pseudoF}
 use Rattle.dispersion.specs.Dispersion.{zOf}
-use Rattle.dispersion.specs.Anova.{anovaF}
+use Rattle.anova.specs.Anova.{anovaF}
 use Rattle.statistics.specs.declared.Statistic.{Statistic}
 use Rattle.statistics.specs.Hits.{statistic, hit}
 use Rattle.means.specs.Means.{Numbered, grouped}

@@ -10,7 +10,7 @@ ghost use Rattle.members.specs.Members.{Grouped};
 ghost use Rattle.lot.specs.Kept.{sizes};
 ghost use Rattle.squares.specs.Squares.{weightAt, terms, pulls};
 ghost use Rattle.dispersion.specs.Dispersion.{zOf};
-ghost use Rattle.dispersion.specs.Anova.{meanZ};
+ghost use Rattle.anova.specs.Anova.{meanZ};
 ghost use Rattle.observation.specs.Observed.{located, spread, observed};
 ghost use Rattle.observation.specs.Room.{Weighed};
 
@@ -65,7 +65,7 @@ fn disperse(
         × (now (z .exit) ≡ zOf (now (p .entry)) (now (t .entry)) (now (w .entry)) (now (gs .entry)) m) ⌝ }
 {
     let negative = dispersion::fill_z(p, t, w, gs, m, g, next, mem, gw, gi, z);
-    let f = dispersion::anova_f(z, gs, m, g, next, mem, gw);
+    let f = anova::anova_f(z, gs, m, g, next, mem, gw);
     Spread { f, negative }
 }
 
@@ -85,7 +85,7 @@ fn list_groups(
         × (now (means .exit) ≡ over (meanZ (now (z .entry)) (now (gs .entry)) m g) (now (means .entry))) ⌝ }
 {
     statistics::fill_sizes(next, mem, m, g, counts);
-    dispersion::fill_means(z, m, g, next, mem, means);
+    anova::fill_means(z, m, g, next, mem, means);
 }
 
 // The weights w, terms t and pulls p of the kept samples `ks`.

@@ -9,7 +9,7 @@ use Rattle.lot.specs.Kept.{keptCount, groupCount}
 use Rattle.squares.specs.Squares.{weightsOf, termsOf, pullsOf}
 use Rattle.location.specs.Location as location
 use Rattle.dispersion.specs.Dispersion as dispersion
-use Rattle.dispersion.specs.Anova as anova
+use Rattle.anova.specs.Anova as anova
 
 -- ---- location
 

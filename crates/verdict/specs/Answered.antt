@@ -13,7 +13,7 @@ use Rattle.lot.specs.Kept.{sizes}
 use Rattle.lot.specs.Strata.{informative}
 use Rattle.squares.specs.Squares.{weightAt, terms, pulls}
 use Rattle.dispersion.specs.Dispersion.{zOf}
-use Rattle.dispersion.specs.Anova.{meanZ}
+use Rattle.anova.specs.Anova.{meanZ}
 use Rattle.statistics.specs.Hits.{statistic}
 use Rattle.statistics.specs.Warnings.{bit, leftOut}
 use Rattle.observation.specs.declared.Observed.{Observed}

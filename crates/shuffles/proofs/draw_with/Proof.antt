@@ -7,7 +7,7 @@ use native.Mathlib.Omega.{arith}
 use borrow.Author.Needs.{needs}
 use lib.ListN.{length, take}
 use Rattle.location.specs.Location.{within, pseudoF}
-use Rattle.dispersion.specs.Anova.{anovaF}
+use Rattle.anova.specs.Anova.{anovaF}
 use Rattle.squares.specs.Squares.{terms}
 use lib.Seq.{length-take-le}
 use Rattle.shuffles.specs.Drawn.{drawn}

@@ -1,4 +1,4 @@
--- `dispersion::share` meets its contract. The count is at most 2 ^ 53, so it is an f64.
+-- `anova::share` meets its contract. The count is at most 2 ^ 53, so it is an f64.
 -- Assumes nothing.
 use mathlib.Core.Path.{refl}
 use Prim.Native.Nat.{_-_, _^_}
@@ -6,9 +6,9 @@ use native.Mathlib.Omega.{arith}
 use lib.Dec.{le→leb}
 use lib.ListN.{length}
 use lib.Ieee.{inFloat}
-use Rattle.dispersion.specs.Anova.{share, squared}
-use Rattle.dispersion.proofs.share.Statement.{statement}
-use Rattle.dispersion.proofs.share.Tie as tie
+use Rattle.anova.specs.Anova.{share, squared}
+use Rattle.anova.proofs.share.Statement.{statement}
+use Rattle.anova.proofs.share.Tie as tie
 
 int-to-float-result : tie.Need-int-to-float-result
 unfolding inFloat

@@ -1,4 +1,4 @@
--- `dispersion::anova_f` meets its contract. The parts are the groups, so the means are theirs.
+-- `anova::anova_f` meets its contract. The parts are the groups, so the means are theirs.
 -- Assumes nothing.
 
 use mathlib.Core.Path.{sym, ap, ap₂, _∙_}
@@ -12,12 +12,12 @@ use Rattle.lists.specs.Ranges.{table}
 use Rattle.lists.specs.Sums.{sumFrom}
 use Rattle.pair_sums.specs.PairSums.{at}
 use Rattle.location.specs.Location.{fRatio}
-use Rattle.dispersion.specs.Anova.{share, residual, anovaF}
+use Rattle.anova.specs.Anova.{share, residual, anovaF}
 use Rattle.members.specs.Members.{part}
-use Rattle.dispersion.proofs.Parted.{means-are, between-is}
+use Rattle.anova.proofs.OnParts.{means-are, between-is}
 use lib.Seq.{length-take-le}
-use Rattle.dispersion.proofs.anova_f.Statement.{statement}
-use Rattle.dispersion.proofs.anova_f.Tie as tie
+use Rattle.anova.proofs.anova_f.Statement.{statement}
+use Rattle.anova.proofs.anova_f.Tie as tie
 
 fill-group-means-requires : tie.Need-fill-group-means-requires
 fill-group-means-requires c κs = search needs

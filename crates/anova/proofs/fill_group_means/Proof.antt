@@ -1,4 +1,4 @@
--- `dispersion::fill_group_means` meets its contract. After k turns the first k entries are written.
+-- `anova::fill_group_means` meets its contract. After k turns the first k entries are written.
 -- Assumes nothing.
 
 use mathlib.Core.Path.{ap, _∙_}
@@ -6,11 +6,11 @@ use Prim.Native.Nat.{_-_, _≤_}
 use native.Mathlib.Omega.{arith}
 use lib.ListN.{length}
 use Rattle.lists.proofs.Writes.{Writing, writing-none, writing-next, writing-front}
-use Rattle.dispersion.specs.Anova.{groupMean}
+use Rattle.anova.specs.Anova.{groupMean}
 use Rattle.members.specs.Members.{part}
 use Rattle.members.proofs.Places.{part-there, part-below, part-short}
-use Rattle.dispersion.proofs.fill_group_means.Statement.{statement}
-use Rattle.dispersion.proofs.fill_group_means.Tie as tie
+use Rattle.anova.proofs.fill_group_means.Statement.{statement}
+use Rattle.anova.proofs.fill_group_means.Tie as tie
 
 abbrev Inv-loop : tie.InvT-loop
 Inv-loop z m g next mem out₀ k₀ out k = (k ≤ g) × Writing (λ k. groupMean z (part next mem k)) out₀ out k

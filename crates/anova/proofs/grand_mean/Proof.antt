@@ -1,10 +1,10 @@
--- `dispersion::grand_mean` meets its contract. The sum from -0.0, divided by the count.
+-- `anova::grand_mean` meets its contract. The sum from -0.0, divided by the count.
 -- Assumes nothing.
 use Prim.Native.Nat.{_-_}
 use borrow.Author.Needs.{needs}
-use Rattle.dispersion.specs.Anova.{grandMean}
-use Rattle.dispersion.proofs.grand_mean.Statement.{statement}
-use Rattle.dispersion.proofs.grand_mean.Tie as tie
+use Rattle.anova.specs.Anova.{grandMean}
+use Rattle.anova.proofs.grand_mean.Statement.{statement}
+use Rattle.anova.proofs.grand_mean.Tie as tie
 
 sum-requires : tie.Need-sum-requires
 sum-requires c κs = search needs

@@ -1,4 +1,4 @@
--- `dispersion::between` meets its contract. The shares from k on, added to s, are always the whole sum.
+-- `anova::between` meets its contract. The shares from k on, added to s, are always the whole sum.
 -- Assumes nothing.
 
 use mathlib.Core.Path.{_≡_, refl, sym, ap, _∙_}
@@ -11,11 +11,11 @@ use Rattle.lists.specs.Ranges.{range, table}
 use Rattle.lists.specs.Sums.{sumFrom}
 use Rattle.lists.proofs.Sums.{sum-turn, sum-end, sum-table}
 use Rattle.pair_sums.specs.PairSums.{at}
-use Rattle.dispersion.specs.Anova.{share}
+use Rattle.anova.specs.Anova.{share}
 use Rattle.members.specs.Members.{part}
 use Rattle.members.proofs.Places.{part-there, part-short}
-use Rattle.dispersion.proofs.between.Statement.{statement}
-use Rattle.dispersion.proofs.between.Tie as tie
+use Rattle.anova.proofs.between.Statement.{statement}
+use Rattle.anova.proofs.between.Tie as tie
 
 abbrev Inv-loop : tie.InvT-loop
 Inv-loop m g next mem means grand s₀ k₀ s k = sumFrom s (map (λ k. share (part next mem k) (at means k) grand) (range k g)) ≡ sumFrom zero⁻ (table g (λ k. share (part next mem k) (at means k) grand))

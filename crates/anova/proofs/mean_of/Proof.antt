@@ -1,10 +1,10 @@
--- `dispersion::mean_of` meets its contract. The sum from -0.0, divided by the count.
+-- `anova::mean_of` meets its contract. The sum from -0.0, divided by the count.
 -- Assumes nothing.
 use Prim.Native.Nat.{_-_}
 use borrow.Author.Needs.{needs}
-use Rattle.dispersion.specs.Anova.{meanOf}
-use Rattle.dispersion.proofs.mean_of.Statement.{statement}
-use Rattle.dispersion.proofs.mean_of.Tie as tie
+use Rattle.anova.specs.Anova.{meanOf}
+use Rattle.anova.proofs.mean_of.Statement.{statement}
+use Rattle.anova.proofs.mean_of.Tie as tie
 
 sum-at-requires : tie.Need-sum-at-requires
 sum-at-requires c κs = c .before .before .pre .0

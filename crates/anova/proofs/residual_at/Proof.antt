@@ -1,12 +1,12 @@
--- `dispersion::residual_at` meets its contract. The group of k is below the number of means.
+-- `anova::residual_at` meets its contract. The group of k is below the number of means.
 -- Assumes nothing.
 use Prim.Native.Nat.{_-_}
 use native.Mathlib.Omega.{arith}
 use borrow.Author.Needs.{needs}
 use Rattle.lists.specs.Rows.{entry}
-use Rattle.dispersion.specs.Anova.{squared, residualAt}
-use Rattle.dispersion.proofs.residual_at.Statement.{statement}
-use Rattle.dispersion.proofs.residual_at.Tie as tie
+use Rattle.anova.specs.Anova.{squared, residualAt}
+use Rattle.anova.proofs.residual_at.Statement.{statement}
+use Rattle.anova.proofs.residual_at.Tie as tie
 
 entry-requires : tie.Need-entry-requires
 entry-requires c κs = search needs

@@ -1,4 +1,4 @@
--- `dispersion::residual` meets its contract. The residuals from k on, added to s, are always the whole sum.
+-- `anova::residual` meets its contract. The residuals from k on, added to s, are always the whole sum.
 -- Assumes nothing.
 use mathlib.Core.Path.{_≡_, refl, sym}
 use mathlib.Core.List.{map}
@@ -8,9 +8,9 @@ use Rattle.float.specs.Floats.{zero⁻}
 use Rattle.lists.specs.Ranges.{range}
 use Rattle.lists.specs.Sums.{sumFrom}
 use Rattle.lists.proofs.Sums.{sum-turn, sum-end, sum-table}
-use Rattle.dispersion.specs.Anova.{residualAt, residual}
-use Rattle.dispersion.proofs.residual.Statement.{statement}
-use Rattle.dispersion.proofs.residual.Tie as tie
+use Rattle.anova.specs.Anova.{residualAt, residual}
+use Rattle.anova.proofs.residual.Statement.{statement}
+use Rattle.anova.proofs.residual.Tie as tie
 
 abbrev Inv-loop : tie.InvT-loop
 Inv-loop z means lab m s₀ k₀ s k = sumFrom s (map (residualAt z means lab) (range k m)) ≡ residual z means lab m

@@ -1,12 +1,12 @@
--- `dispersion::quotient` meets its contract. The count is at most 2 ^ 53, so it is an f64.
+-- `anova::quotient` meets its contract. The count is at most 2 ^ 53, so it is an f64.
 -- Assumes nothing.
 use Prim.Native.Nat.{_-_, _^_}
 use native.Mathlib.Omega.{arith}
 use borrow.Author.Needs.{needs}
 use lib.Dec.{le→leb}
 use lib.Ieee.{inFloat}
-use Rattle.dispersion.proofs.quotient.Statement.{statement}
-use Rattle.dispersion.proofs.quotient.Tie as tie
+use Rattle.anova.proofs.quotient.Statement.{statement}
+use Rattle.anova.proofs.quotient.Tie as tie
 
 int-to-float-result : tie.Need-int-to-float-result
 unfolding inFloat

@@ -1,11 +1,11 @@
--- `dispersion::group_mean` meets its contract. The sum from 0.0, divided by the count or 1.
+-- `anova::group_mean` meets its contract. The sum from 0.0, divided by the count or 1.
 -- Assumes nothing.
 use Prim.Native.Nat.{_-_}
 use native.Mathlib.Omega.{arith}
 use borrow.Author.Needs.{needs}
-use Rattle.dispersion.specs.Anova.{groupMean}
-use Rattle.dispersion.proofs.group_mean.Statement.{statement}
-use Rattle.dispersion.proofs.group_mean.Tie as tie
+use Rattle.anova.specs.Anova.{groupMean}
+use Rattle.anova.proofs.group_mean.Statement.{statement}
+use Rattle.anova.proofs.group_mean.Tie as tie
 
 sum-at-requires : tie.Need-sum-at-requires
 sum-at-requires c κs = c .before .before .pre .0
