@@ -8,7 +8,8 @@ use lib.ListN.{take, replicate}
 use lib.Ieee.{fin}
 use Rattle.float.specs.Floats.{zero⁺, 1·0, 2·0, 3·0, num, f64, bits}
 use Rattle.float.specs.Root.{root}
-use Rattle.outcome.specs.Refusals.{first}
+use Rattle.outcome.specs.Outcome.{code}
+use Rattle.outcome.specs.Refusals.{first, codeOf}
 use Rattle.lot.specs.Lot.{Lot, lotOf}
 use Rattle.lot.specs.Cases.{example, zeros, three}
 use Rattle.lot.specs.Kept.{groups}
@@ -21,8 +22,7 @@ use Rattle.dapc.specs.Call.{groupLines}
 use Rattle.ways.specs.Ways.{wayCount}
 use Rattle.exhaustive.specs.Exhaustive.{locationHits, dispersionHits}
 use Rattle.exhaustive.specs.Call.{Slices, outcomeOf}
-use Rattle.lotjudge_c.specs.Exported.{codeOf, code}
-use Rattle.pcoa.specs.Given.{given}
+use Rattle.chances.specs.Chances.{given}
 
 -- ---- lots
 

@@ -1,4 +1,2 @@
--- The factor's rows, and the mean of a matrix and its transpose.
+-- The factor's rows.
 pub mod Pivots
-pub mod Evening
-pub mod Solved

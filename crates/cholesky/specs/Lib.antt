@@ -1,2 +1,2 @@
--- Section 5 of document 01: the Cholesky factor of a small matrix, and solving with it.
+-- Section 5 of document 01: the Cholesky factor.
 pub mod Cholesky

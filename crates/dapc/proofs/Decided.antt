@@ -18,8 +18,11 @@ use Rattle.outcome.specs.declared.Refusal.{Refusal}
 use Rattle.outcome.specs.declared.Refusal.the-variants.{Pivot, Unordered}
 use Rattle.outcome.specs.Outcome.{Outcome, answered, refused, andThen}
 use Rattle.outcome.specs.Slices.{output}
-use Rattle.moments.specs.Moments.{Filled, grouped, meanOf, groupMeans, scatterWithin, scatterBetween, ridged}
-use Rattle.cholesky.specs.Cholesky.{factor, pivotFails, whitened}
+use Rattle.means.specs.Means.{grouped, meanOf, groupMeans}
+use Rattle.scatter.specs.Scatter.{scatterWithin, scatterBetween, ridged}
+use Rattle.moments.specs.Moments.{Filled}
+use Rattle.whitening.specs.Whitened.{whitened}
+use Rattle.cholesky.specs.Cholesky.{factor, pivotFails}
 use Rattle.rotation.specs.Rotation.{turned}
 use Rattle.rotation.specs.Sweeps.{sweepsFrom}
 use Rattle.jacobi.specs.declared.Answer as jacobi-answer

@@ -19,7 +19,7 @@ use Rattle.lists.proofs.Upward.{Upward, upward-member, member-upward, position-
 use Rattle.lot.proofs.Places.{kept-labels}
 use Rattle.lot.proofs.Samples.{length-keptLabels, names-few}
 use Rattle.lot.proofs.Within.{kept-twice, twice-kept, names-upward}
-use Rattle.moments.specs.Moments.{Numbered, grouped}
+use Rattle.means.specs.Means.{Numbered, grouped}
 
 differ : true ≡ false → ⊥
 differ e = let z : _≡_ {A = ℕ} 0 1 = cc in omega arith

@@ -20,8 +20,9 @@ use Rattle.outcome.specs.declared.Refusal.{Refusal}
 use Rattle.outcome.specs.declared.Refusal.the-variants.{Unordered}
 use Rattle.outcome.specs.Outcome.{Outcome, answered, refused, andThen}
 use Rattle.outcome.specs.Slices.{output}
-use Rattle.cholesky.specs.Cholesky.{solveRows}
-use Rattle.scores.specs.Scores.{scoresOf, centroids, assignedOf, unordered, rightOf}
+use Rattle.triangular.specs.Triangular.{solveRows}
+use Rattle.nearest_centroid.specs.Assigned.{assignedOf, unordered, rightOf}
+use Rattle.scores.specs.Scores.{scoresOf, centroids}
 use Rattle.dapc.specs.declared.Answer.the-variants.{Scored, Refused}
 use Rattle.dapc.specs.Dapc.{Scores, axesOf, concluded, assign}
 use Rattle.dapc.specs.Call.{Called, called, refusal, leaves}

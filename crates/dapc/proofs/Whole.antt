@@ -18,7 +18,7 @@ use Rattle.lot.specs.declared.Sizes.{Sizes}
 use Rattle.lot.specs.Kept.{groupEach, keptCount, groupCount}
 use Rattle.lot.specs.Described.{Grouped}
 use Rattle.lot.proofs.Samples.{kept-few}
-use Rattle.moments.specs.Moments.{Numbered, grouped}
+use Rattle.means.specs.Means.{Numbered, grouped}
 use Rattle.outcome.proofs.Table.{first-untouched}
 use Rattle.dapc.specs.declared.Answer.the-variants.{Refused}
 use Rattle.dapc.specs.Dapc.{leading, axesOf, discriminate, dapc}

@@ -15,7 +15,7 @@ use Rattle.outcome.specs.Refusals.{Line, _when_, first, _of_, short}
 use Rattle.outcome.specs.Outcome.{Outcome, answered, refused, judged, andThen}
 use Rattle.outcome.specs.Slices.{output}
 use Rattle.lot.specs.Kept.{groupEach, keptCount, groupCount}
-use Rattle.moments.specs.Moments.{Numbered}
+use Rattle.means.specs.Means.{Numbered}
 use Rattle.dapc.specs.declared.Separation.{Separation}
 use Rattle.dapc.specs.declared.Answer.{Answer}
 use Rattle.dapc.specs.declared.Answer.the-variants.{Scored, Refused}

@@ -8,10 +8,14 @@ use lib.Ieee.{Float, nan}
 use Rattle.lists.specs.Ranges.{table}
 use Rattle.outcome.specs.declared.Refusal.the-variants.{Pivot, Unordered}
 use Rattle.outcome.specs.Outcome.{Outcome, answered, refused, andThen}
-use Rattle.moments.specs.Moments.{grouped, meanOf, groupMeans, scatterWithin, scatterBetween, ridged}
-use Rattle.cholesky.specs.Cholesky.{factor, pivotFails, whitened, solveRows}
+use Rattle.means.specs.Means.{grouped, meanOf, groupMeans}
+use Rattle.scatter.specs.Scatter.{scatterWithin, scatterBetween, ridged}
+use Rattle.triangular.specs.Triangular.{solveRows}
+use Rattle.whitening.specs.Whitened.{whitened}
+use Rattle.cholesky.specs.Cholesky.{factor, pivotFails}
 use Rattle.jacobi.specs.Eigen.{jacobi}
-use Rattle.scores.specs.Scores.{scoresOf, centroids, assignedOf, unordered, rightOf}
+use Rattle.nearest_centroid.specs.Assigned.{assignedOf, unordered, rightOf}
+use Rattle.scores.specs.Scores.{scoresOf, centroids}
 
 -- p, the leading columns used, and the number of axes
 unfoldable pub leading : ℕ → ℕ → ℕ → ℕ

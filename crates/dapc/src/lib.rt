@@ -12,8 +12,8 @@ ghost use Rattle.lists.specs.Writes.{over};
 ghost use Rattle.outcome.specs.Refusals.{first};
 ghost use Rattle.outcome.specs.Outcome.{judged};
 ghost use Rattle.lot.specs.Kept.{sizes, names, groupEach, keptCount, groupCount};
-ghost use Rattle.moments.specs.Moments.{Numbered, grouped};
-ghost use Rattle.cholesky.specs.Cholesky.{whitened};
+ghost use Rattle.means.specs.Means.{Numbered, grouped};
+ghost use Rattle.whitening.specs.Whitened.{whitened};
 ghost use Rattle.jacobi.specs.Eigen.{jacobi};
 ghost use Rattle.jacobi.specs.Call.{eigenOf};
 ghost use Rattle.scores.specs.Scores.{scoresOf};
@@ -98,7 +98,7 @@ fn conclude(
     let n = groups.len();
     let e = axes + n * axes;
     scores::fill_centroids(cen, axes, g, &out[axes..e], groups, counts);
-    let t = scores::assign(&mut assigned[..n], &out[axes..e], cen, groups, axes, g);
+    let t = nearest_centroid::assign(&mut assigned[..n], &out[axes..e], cen, groups, axes, g);
     let unordered = t.unordered;
     if unordered {
         return refuse(out, assigned, n, axes, Refusal::Unordered);
@@ -135,7 +135,7 @@ fn locate(
         ≡ leaves (length (now (groups .entry))) p axes (assign (length (now (groups .entry))) columns p g (now (x .entry)) (now (groups .entry)) (now (mean .entry)) (now (l .entry)) (take p (now (ev .entry))) (drop p (now (ev .entry)))) (now (out .entry)) (now (assigned .entry)) ⌝ }
 {
     let n = groups.len();
-    cholesky::solve_rows(vs, axes, l, &ev[p..], p);
+    triangular::solve_rows(vs, axes, l, &ev[p..], p);
     write_scores(out, d, ev, vs, mean, x, n, columns, p, axes);
     conclude(out, assigned, cen, counts, groups, p, axes, g)
 }
@@ -200,7 +200,7 @@ fn eigen_of(
     requires { ⌜ (length (now l) ≡ p * p) × (length (now sb) ≡ p * p) × (p ≤ 16) ⌝ }
     ensures { λ r. ⌜ eigenOf p r (now (ev .exit)) ≡ jacobi p (whitened p (now (l .entry)) (now (sb .entry))) ⌝ }
 {
-    cholesky::whiten(white, half, l, sb, p);
+    whitening::whiten(white, half, l, sb, p);
     jacobi::eigen(white, p, ev, half, v, row, order)
 }
 

@@ -4,7 +4,7 @@ use mathlib.Core.List.{List}
 use lib.ListN.{getD}
 use lib.Ieee.{Float}
 use Rattle.members.specs.Members.{part}
-use Rattle.location.specs.Location.{at}
+use Rattle.pair_sums.specs.PairSums.{at}
 use Rattle.dispersion.specs.Dispersion.{pullSum, valueOf}
 
 -- the value of sample a: gw and gi hold the groups' weight sums and insides

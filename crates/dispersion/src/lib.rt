@@ -1,19 +1,16 @@
-// Distances to centroids and their one-way ANOVA (document 01, section 3).
+// Distances to centroids (document 01, section 3).
 ghost use mathlib.Core.Path.{_≡_};
 ghost use mathlib.Core.List.{map};
-ghost use Prim.Native.Nat.{_+_, _-_, _*_, _<_, _≤_, max};
-ghost use lib.ListN.{length, getD};
-ghost use Rattle.float.specs.Floats.{_⊘_, num, zero⁻};
+ghost use Prim.Native.Nat.{_-_, _*_, _<_, _≤_, max};
+ghost use lib.ListN.{length};
 ghost use Rattle.lists.specs.Ranges.{table};
 ghost use Rattle.lists.specs.Filters.{any};
 ghost use Rattle.lists.specs.Numbers.{Below};
-ghost use Rattle.lists.specs.Sums.{sumFrom};
 ghost use Rattle.lists.specs.Writes.{over};
 ghost use Rattle.members.specs.Members.{part, Parts, Grouped};
-ghost use Rattle.location.specs.Location.{at, groupWeight};
+ghost use Rattle.location.specs.Location.{groupWeight};
 ghost use Rattle.dispersion.specs.Dispersion.{inside, pullSum, valueOf, distanceOf, negative, values, zOf, someNegative};
 ghost use Rattle.dispersion.specs.Parted.{valueBy};
-ghost use Rattle.dispersion.specs.Anova.{groupMean, meanOf, share, residualAt, residual, grandMean, anovaF};
 
 // ---- a group's values
 
@@ -25,7 +22,7 @@ fn inside(t: &[f64], m: usize, mem: &[u16]) -> f64
     let mut s = 0.0;
     for x in 0..mem.len() {
         let a = lists::entry(mem, x);
-        s = location::sum_entries(t, m, mem, a, s);
+        s = pair_sums::sum_entries(t, m, mem, a, s);
     }
     s
 }
@@ -35,7 +32,7 @@ fn pull_sum(p: &[f64], m: usize, mem: &[u16], a: usize) -> f64
     requires { ⌜ (length (now p) ≡ m * m) × Below m (now mem) × (a < m) ⌝ }
     ensures { λ r. ⌜ r ≡ pullSum (now (p .entry)) m (now (mem .entry)) a ⌝ }
 {
-    location::sum_entries(p, m, mem, a, -0.0)
+    pair_sums::sum_entries(p, m, mem, a, -0.0)
 }
 
 // A value, from the pulls on the sample, its group's weight sum and what is inside the group.
@@ -74,78 +71,6 @@ pub fn some_negative(v: &[f64]) -> bool
     false
 }
 
-// ---- the ANOVA of z
-
-fn at_least_one(n: usize) -> usize
-    ensures { λ r. ⌜ r ≡ max n 1 ⌝ }
-{
-    if n < 1 { 1 } else { n }
-}
-
-// x divided by a count.
-fn quotient(x: f64, n: usize) -> f64
-    requires { ⌜ n ≤ 65536 ⌝ }
-    ensures { λ r. ⌜ r ≡ x ⊘ num n ⌝ }
-{
-    x / n as f64
-}
-
-// The mean of z over the samples `mem`, added up from 0.0.
-fn group_mean(z: &[f64], mem: &[u16]) -> f64
-    requires { ⌜ Below (length (now z)) (now mem) × (length (now mem) ≤ 256) ⌝ }
-    ensures { λ r. ⌜ r ≡ groupMean (now (z .entry)) (now (mem .entry)) ⌝ }
-{
-    quotient(location::sum_at(z, mem, 0.0), at_least_one(mem.len()))
-}
-
-// The mean that the answer lists.
-pub fn mean_of(z: &[f64], mem: &[u16]) -> f64
-    requires { ⌜ Below (length (now z)) (now mem) × (length (now mem) ≤ 256) ⌝ }
-    ensures { λ r. ⌜ r ≡ meanOf (now (z .entry)) (now (mem .entry)) ⌝ }
-{
-    quotient(location::sum_at(z, mem, -0.0), mem.len())
-}
-
-// The mean of all.
-fn grand_mean(z: &[f64], m: usize) -> f64
-    requires { ⌜ m ≤ 256 ⌝ }
-    ensures { λ r. ⌜ r ≡ grandMean (now (z .entry)) m ⌝ }
-{
-    quotient(location::sum(z), m)
-}
-
-// A group's share of what lies between groups.
-fn share(mem: &[u16], mean: f64, grand: f64) -> f64
-    requires { ⌜ length (now mem) ≤ 256 ⌝ }
-    ensures { λ r. ⌜ r ≡ share (now (mem .entry)) mean grand ⌝ }
-{
-    let x = mean - grand;
-    let n = mem.len();
-    n as f64 * (x * x)
-}
-
-// What is left of sample k's z without its group's mean, squared.
-fn residual_at(z: &[f64], means: &[f64], lab: &[u16], k: usize) -> f64
-    requires { ⌜ (k < length (now z)) × (k < length (now lab)) × Below (length (now means)) (now lab) ⌝ }
-    ensures { λ r. ⌜ r ≡ residualAt (now (z .entry)) (now (means .entry)) (now (lab .entry)) k ⌝ }
-{
-    let l = lists::entry(lab, k);
-    let x = z[k] - means[l];
-    x * x
-}
-
-// Its sum over m samples.
-fn residual(z: &[f64], means: &[f64], lab: &[u16], m: usize) -> f64
-    requires { ⌜ (length (now z) ≡ m) × (length (now lab) ≡ m) × Below (length (now means)) (now lab) ⌝ }
-    ensures { λ r. ⌜ r ≡ residual (now (z .entry)) (now (means .entry)) (now (lab .entry)) m ⌝ }
-{
-    let mut s = -0.0;
-    for k in 0..m {
-        s = s + residual_at(z, means, lab, k);
-    }
-    s
-}
-
 // ---- over the groups' members, as parts of `mem`
 
 // The weight sums of the g groups go to the front of `out`.
@@ -168,41 +93,6 @@ fn fill_insides(t: &[f64], m: usize, g: usize, next: &[u16], mem: &[u16], out: &
         let p = members::part_of(next, mem, k);
         out[k] = inside(t, m, p);
     }
-}
-
-// The groups' means of z.
-fn fill_group_means(z: &[f64], m: usize, g: usize, next: &[u16], mem: &[u16], out: &mut [f64])
-    requires { ⌜ (length (now z) ≡ m) × Parts m g (now next) (now mem) × (length (now mem) ≤ 256) × (g ≤ length (now out)) ⌝ }
-    ensures { λ _. ⌜ now (out .exit) ≡ over (table g (λ k. groupMean (now (z .entry)) (part (now (next .entry)) (now (mem .entry)) k))) (now (out .entry)) ⌝ }
-{
-    for k in 0..g {
-        let p = members::part_of(next, mem, k);
-        out[k] = group_mean(z, p);
-    }
-}
-
-// The means that the answer lists.
-pub fn fill_means(z: &[f64], m: usize, g: usize, next: &[u16], mem: &[u16], out: &mut [f64])
-    requires { ⌜ (length (now z) ≡ m) × Parts m g (now next) (now mem) × (length (now mem) ≤ 256) × (g ≤ length (now out)) ⌝ }
-    ensures { λ _. ⌜ now (out .exit) ≡ over (table g (λ k. meanOf (now (z .entry)) (part (now (next .entry)) (now (mem .entry)) k))) (now (out .entry)) ⌝ }
-{
-    for k in 0..g {
-        let p = members::part_of(next, mem, k);
-        out[k] = mean_of(z, p);
-    }
-}
-
-// What lies between groups.
-fn between(m: usize, g: usize, next: &[u16], mem: &[u16], means: &[f64], grand: f64) -> f64
-    requires { ⌜ Parts m g (now next) (now mem) × (length (now mem) ≤ 256) × (g ≤ length (now means)) ⌝ }
-    ensures { λ r. ⌜ r ≡ sumFrom zero⁻ (table g (λ k. share (part (now (next .entry)) (now (mem .entry)) k) (at (now (means .entry)) k) grand)) ⌝ }
-{
-    let mut s = -0.0;
-    for k in 0..g {
-        let p = members::part_of(next, mem, k);
-        s = s + share(p, means[k], grand);
-    }
-    s
 }
 
 // The value of sample a, from its group's weight sum and what is inside the group.
@@ -292,25 +182,4 @@ pub fn fill_z(
     let some = some_negative(z);
     distances(z);
     some
-}
-
-// The F of z by groups. `means` lends room for the groups' means.
-pub fn anova_f(
-    z: &[f64],
-    lab: &[u16],
-    m: usize,
-    g: usize,
-    next: &[u16],
-    mem: &[u16],
-    means: &mut [f64],
-) -> f64
-    requires { ⌜ (length (now z) ≡ m) × (length (now lab) ≡ m) × Below g (now lab) × Grouped (now lab) m g (now next) (now mem) × (length (now mem) ≤ 256) ⌝ }
-    requires { ⌜ (g ≤ length (now means)) × (1 ≤ g) × (g ≤ m) × (m ≤ 256) ⌝ }
-    ensures { λ r. ⌜ r ≡ anovaF (now (z .entry)) (now (lab .entry)) m g ⌝ }
-{
-    fill_group_means(z, m, g, next, mem, means);
-    let grand = grand_mean(z, m);
-    let b = between(m, g, next, mem, means, grand);
-    let r = residual(z, &means[..g], lab, m);
-    location::f_ratio(b, r, m, g)
 }

@@ -23,11 +23,12 @@ use Rattle.outcome.specs.Outcome.{Outcome, answered, refused, andThen}
 use Rattle.lot.specs.Kept.{twice, kept, gathered, keptLabels, names, groups, keptCount, groupCount, sizes}
 use Rattle.lot.specs.Strata.{strata, informs, informative, informativeCount, fraction}
 use Rattle.lot.specs.Way.{δ, mark, tally, onKept, relabelled}
-use Rattle.location.specs.Squares.{squareAt, weightAt, termAt, pullAt, terms, pulls, weightsOf, termsOf, pullsOf}
-use Rattle.location.specs.Location.{rowSum, rowsSum, total, pairSum, groupWeight, groupWithin, within, fRatio, pseudoF, rSquared}
+use Rattle.squares.specs.Squares.{squareAt, weightAt, termAt, pullAt, terms, pulls, weightsOf, termsOf, pullsOf}
+use Rattle.pair_sums.specs.PairSums.{rowSum, rowsSum, pairSum}
+use Rattle.anova.specs.Anova.{grandMean, groupMean, groupMeans, squared, share, between, residualAt, residual, anovaF}
+use Rattle.location.specs.Location.{total, groupWeight, groupWithin, within, fRatio, pseudoF, rSquared}
 use Rattle.dispersion.specs.Dispersion as dispersion
 use Rattle.dispersion.specs.Dispersion.{inside, pullSum, valueOf, value, values, distanceOf}
-use Rattle.dispersion.specs.Anova.{grandMean, groupMean, groupMeans, squared, share, between, residualAt, residual, anovaF}
 use Rattle.statistics.specs.declared.Statistic.the-variants.{Finite, Unbounded}
 use Rattle.statistics.specs.Statistics as statistics
 use Rattle.statistics.specs.Statistics.{totalOf, withinOf, locationF, rSquaredOf, zOf, dispersionF}

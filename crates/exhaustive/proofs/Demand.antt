@@ -16,7 +16,7 @@ use Rattle.lot.specs.Way.{IsWay, relabelled}
 use Rattle.lists.proofs.Counts.{count-cong}
 use Rattle.lot.proofs.Relabelled.{same-lot}
 use Rattle.location.specs.Location.{pseudoF, fRatio}
-use Rattle.dispersion.specs.Anova.{anovaF}
+use Rattle.anova.specs.Anova.{anovaF}
 use Rattle.statistics.specs.Hits.{hit}
 use Rattle.statistics.specs.Statistics.{locationF, dispersionF}
 use Rattle.statistics.specs.Statistics as statistics

@@ -13,10 +13,10 @@ use Rattle.lot.specs.Way.{IsWay, relabelled}
 use Rattle.lot.proofs.Samples.{length-groups}
 use Rattle.lot.proofs.Within.{groups-below, length-strata}
 use Rattle.lot.proofs.Relabelled.{same-lot}
-use Rattle.location.specs.Squares.{weightAt, terms, pulls, weightsOf, termsOf, pullsOf}
+use Rattle.squares.specs.Squares.{weightAt, terms, pulls, weightsOf, termsOf, pullsOf}
 use Rattle.location.specs.Location as location
 use Rattle.dispersion.specs.Dispersion as dispersion
-use Rattle.dispersion.specs.Anova as anova
+use Rattle.anova.specs.Anova as anova
 use Rattle.statistics.specs.Hits.{statistic}
 use Rattle.statistics.specs.Statistics.{totalOf, withinOf, locationF, zOf, dispersionF}
 use Rattle.statistics.specs.Statistics as statistics

@@ -38,7 +38,7 @@ use Rattle.lot.proofs.Fills.{filled-front}
 use Rattle.lot.proofs.Samples.{kept-below, kept-few, names-few, length-groups, length-gathered}
 use Rattle.lot.proofs.Within.{groups-below, length-strata, strata-below}
 use Rattle.location.specs.Location as location
-use Rattle.location.specs.Squares.{weightsOf, termsOf, pullsOf}
+use Rattle.squares.specs.Squares.{weightsOf, termsOf, pullsOf}
 use Rattle.dispersion.specs.Dispersion as dispersion
 use Rattle.statistics.specs.Hits.{statistic}
 use Rattle.statistics.specs.Statistics.{totalOf, withinOf, locationF, rSquaredOf, zOf, someNegative, dispersionF}

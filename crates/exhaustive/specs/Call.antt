@@ -14,7 +14,7 @@ use Rattle.outcome.specs.Slices.{output, work}
 use Rattle.lot.specs.Lot.{Lot}
 use Rattle.lot.specs.Kept.{names, groups, keptCount, groupCount}
 use Rattle.lot.specs.Lines.{testLines}
-use Rattle.dispersion.specs.Anova.{meanZ}
+use Rattle.anova.specs.Anova.{meanZ}
 use Rattle.statistics.specs.Statistics.{zOf}
 use Rattle.statistics.specs.Warnings.{sizesOf}
 use Rattle.ways.specs.Ways.{mostWays, wayCount}

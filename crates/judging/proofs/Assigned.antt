@@ -19,7 +19,7 @@ use Rattle.lot.specs.Lot.{Lot, none}
 use Rattle.lot.specs.Kept.{kept, names, groups, groupEach, keptCount, groupCount}
 use Rattle.lot.specs.Way.{IsWay, relabelled}
 use Rattle.lot.proofs.Relabelled.{same-lot, way-below}
-use Rattle.moments.specs.Moments.{Numbered, grouped}
+use Rattle.means.specs.Means.{Numbered, grouped}
 use Rattle.dapc.specs.Dapc.{Scores, leading, axesOf, discriminate, dapc}
 use Rattle.dapc.specs.Call.{misfits, badCoordinate, shapeLines, groupLines, dapcLines, leaves, callBy, dapcCall}
 use Rattle.dapc.proofs.Grouping.{grouped-kept, numbered-each}

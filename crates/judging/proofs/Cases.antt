@@ -15,7 +15,7 @@ use Rattle.outcome.specs.Outcome.{Outcome, answered, refused, andThen}
 use Rattle.dapc.specs.declared.Separation.{Separation}
 use Rattle.dapc.specs.declared.Answer.{Answer}
 use Rattle.dapc.specs.declared.Answer.the-variants.{Scored, Refused}
-use Rattle.moments.specs.Moments.{Numbered, grouped}
+use Rattle.means.specs.Means.{Numbered, grouped}
 use Rattle.dapc.specs.Dapc.{Scores, axesOf, discriminate}
 use Rattle.dapc.specs.Call.{badCoordinate, Called, leaves, called, outcomeOf, Ready}
 use Rattle.judging.specs.declared.Assignment.{Assignment}

@@ -20,7 +20,7 @@ use Rattle.lists.proofs.Parts.{getD-either}
 use Rattle.lists.proofs.Searches.{any-first, found-passes}
 use Rattle.lists.proofs.Members.{range-member, member-getD, member-keep, keep-member, member-any}
 use Rattle.lot.proofs.Samples.{kept-below}
-use Rattle.moments.specs.Moments.{grouped}
+use Rattle.means.specs.Means.{grouped}
 use Rattle.dapc.proofs.Grouping.{length-each, grouped-kept}
 use Rattle.judging.specs.Judging.{placed}
 

@@ -15,10 +15,10 @@ use Rattle.outcome.specs.Outcome.{Outcome, answered, refused}
 use Rattle.lot.specs.Lot.{none}
 use Rattle.location.specs.Location.{within, pseudoF}
 use Rattle.dispersion.specs.Dispersion.{zOf}
-use Rattle.dispersion.specs.Anova.{anovaF}
+use Rattle.anova.specs.Anova.{anovaF}
 use Rattle.statistics.specs.declared.Statistic.{Statistic}
 use Rattle.statistics.specs.Hits.{statistic, hit}
-use Rattle.moments.specs.Moments.{Numbered, grouped}
+use Rattle.means.specs.Means.{Numbered, grouped}
 use Rattle.dapc.specs.Dapc.{Scores, axesOf, discriminate}
 use Rattle.dapc.specs.Call.{badCoordinate}
 use Rattle.judging.specs.declared.Assignment.{Assignment}

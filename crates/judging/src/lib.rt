@@ -74,7 +74,7 @@ fn dispersion_of(
     ensures { λ r. ⌜ r ≡ dispersionBy (now (p .entry)) (now (t .entry)) (now (w .entry)) m g (now (way .entry)) ⌝ }
 {
     dispersion::fill_z(p, t, w, way, m, g, next, mem, gw, gi, z);
-    statistics::statistic_of(dispersion::anova_f(z, way, m, g, next, mem, gw))
+    statistics::statistic_of(anova::anova_f(z, way, m, g, next, mem, gw))
 }
 
 pub struct Both {

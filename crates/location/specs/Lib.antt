@@ -1,4 +1,2 @@
--- The second half of section 2 of document 01: squares, total, within, F and r2.
-pub mod Squares
+-- The second half of section 2 of document 01: total, within, F and r2.
 pub mod Location
-pub mod Whole

@@ -1,36 +1,21 @@
 -- Section 2 (Anderson 2001): total, within, F and r2. Definitions only.
 -- t are the terms of m kept samples, row by row, w their weights, lab their groups, g the number of groups.
-use Prim.Native.Nat.{ℕ, _+_, _-_}
+use Prim.Native.Nat.{ℕ, _-_}
 use mathlib.Core.Bool.{cond}
 use mathlib.Core.List.{List, map}
-use lib.ListN.{getD}
-use lib.Ieee.{Float, nan, lt}
+use lib.Ieee.{Float, lt}
 use Rattle.float.specs.Floats.{_⊖_, _⊘_, num, zero⁺, smallestNormal}
 use Rattle.float.specs.Order.{larger}
-use Rattle.lists.specs.Ranges.{range, table}
-use Rattle.lists.specs.Filters.{pairs}
+use Rattle.lists.specs.Ranges.{table}
 use Rattle.lists.specs.Numbers.{members}
-use Rattle.lists.specs.Sums.{sum⁻, sum⁺}
-use Rattle.lists.specs.Rows.{entry}
+use Rattle.lists.specs.Sums.{sum⁻}
+use Rattle.pair_sums.specs.PairSums.{at, rowsSum, pairSum}
 
--- the number of sample a
-abbrev pub at : List Float → ℕ → Float
-at w a = getD w a nan
-
--- Total is the sum over pairs a < b, row by row (each row's own sum, then their sum), divided by the sum of weights.
-unfoldable pub rowSum : List Float → ℕ → ℕ → Float
-rowSum t m a = sum⁻ (map (entry m t a) (range (a + 1) m))
-
-unfoldable pub rowsSum : List Float → ℕ → Float
-rowsSum t m = sum⁻ (map (rowSum t m) (range 0 m))
-
+-- Total is the sum over pairs, row by row, divided by the sum of weights.
 unfoldable pub total : List Float → List Float → ℕ → Float
 total t w m = rowsSum t m ⊘ sum⁻ w
 
--- of a group's members: the pair sum, the weight sum, and the first divided by the larger of the second and the smallest normal f64
-unfoldable pub pairSum : List Float → ℕ → List ℕ → Float
-pairSum t m mem = sum⁺ (pairs (entry m t) mem)
-
+-- of a group's members: the weight sum, and the pair sum divided by the larger of it and the smallest normal f64
 unfoldable pub groupWeight : List Float → List ℕ → Float
 groupWeight w mem = sum⁻ (map (at w) mem)
 

@@ -1,2 +1,2 @@
--- Section 5 of document 01: means of groups, the scatter within and between them, the ridge.
+-- Section 5 of document 01: means and scatter together.
 pub mod Moments

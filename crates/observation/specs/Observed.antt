@@ -4,7 +4,7 @@ use mathlib.Core.List.{List}
 use lib.Ieee.{Float}
 use Rattle.location.specs.Location.{total, within, pseudoF, rSquared}
 use Rattle.dispersion.specs.Dispersion.{zOf, someNegative}
-use Rattle.dispersion.specs.Anova.{anovaF}
+use Rattle.anova.specs.Anova.{anovaF}
 use Rattle.observation.specs.declared.Located.{Located}
 use Rattle.observation.specs.declared.Spread.{Spread}
 use Rattle.observation.specs.declared.Observed.{Observed}

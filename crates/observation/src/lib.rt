@@ -8,9 +8,9 @@ ghost use Rattle.lists.specs.Numbers.{Below};
 ghost use Rattle.lists.specs.Writes.{over};
 ghost use Rattle.members.specs.Members.{Grouped};
 ghost use Rattle.lot.specs.Kept.{sizes};
-ghost use Rattle.location.specs.Squares.{weightAt, terms, pulls};
+ghost use Rattle.squares.specs.Squares.{weightAt, terms, pulls};
 ghost use Rattle.dispersion.specs.Dispersion.{zOf};
-ghost use Rattle.dispersion.specs.Anova.{meanZ};
+ghost use Rattle.anova.specs.Anova.{meanZ};
 ghost use Rattle.observation.specs.Observed.{located, spread, observed};
 ghost use Rattle.observation.specs.Room.{Weighed};
 
@@ -65,7 +65,7 @@ fn disperse(
         × (now (z .exit) ≡ zOf (now (p .entry)) (now (t .entry)) (now (w .entry)) (now (gs .entry)) m) ⌝ }
 {
     let negative = dispersion::fill_z(p, t, w, gs, m, g, next, mem, gw, gi, z);
-    let f = dispersion::anova_f(z, gs, m, g, next, mem, gw);
+    let f = anova::anova_f(z, gs, m, g, next, mem, gw);
     Spread { f, negative }
 }
 
@@ -85,7 +85,7 @@ fn list_groups(
         × (now (means .exit) ≡ over (meanZ (now (z .entry)) (now (gs .entry)) m g) (now (means .entry))) ⌝ }
 {
     statistics::fill_sizes(next, mem, m, g, counts);
-    dispersion::fill_means(z, m, g, next, mem, means);
+    anova::fill_means(z, m, g, next, mem, means);
 }
 
 // The weights w, terms t and pulls p of the kept samples `ks`.
@@ -106,9 +106,9 @@ pub fn weigh(
         × (now (t .exit) ≡ terms (now (d .entry)) n (now (ks .entry)) (map (weightAt weighted (now (weights .entry))) (now (ks .entry))) m)
         × (now (p .exit) ≡ pulls (now (d .entry)) n (now (ks .entry)) (map (weightAt weighted (now (weights .entry))) (now (ks .entry))) m) ⌝ }
 {
-    location::fill_weights(w, weighted, weights, ks);
-    location::fill_terms(t, d, n, ks, w, m);
-    location::fill_pulls(p, d, n, ks, w, m);
+    squares::fill_weights(w, weighted, weights, ks);
+    squares::fill_terms(t, d, n, ks, w, m);
+    squares::fill_pulls(p, d, n, ks, w, m);
 }
 
 pub struct Observed {

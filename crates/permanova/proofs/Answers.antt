@@ -11,9 +11,9 @@ use lib.Ieee.{Float}
 use Rattle.lists.specs.Writes.{over, cleared}
 use Rattle.lot.specs.Kept.{sizes}
 use Rattle.lot.specs.Strata.{informative}
-use Rattle.location.specs.Squares.{weightAt, terms, pulls}
+use Rattle.squares.specs.Squares.{weightAt, terms, pulls}
 use Rattle.dispersion.specs.Dispersion.{zOf}
-use Rattle.dispersion.specs.Anova.{meanZ}
+use Rattle.anova.specs.Anova.{meanZ}
 use Rattle.permanova.specs.declared.TestResult.{TestResult}
 use Rattle.permanova.specs.declared.Measured.{Measured}
 use Rattle.permanova.specs.Measured.{measured, concluded}

@@ -18,11 +18,12 @@ use Rattle.outcome.specs.Refusals.{first, short}
 use Rattle.lot.specs.Cases.{example, zeros}
 use Rattle.lot.specs.Kept.{twice, kept, gathered, keptLabels, names, groups, keptCount, groupCount}
 use Rattle.lot.specs.Lines.{misfits, testLines}
-use Rattle.location.specs.Squares.{squareAt, weightAt, termAt, pullAt, terms, pulls, weightsOf, termsOf, pullsOf}
-use Rattle.location.specs.Location.{rowSum, rowsSum, total, pairSum, groupWeight, groupWithin, within, fRatio, pseudoF}
+use Rattle.squares.specs.Squares.{squareAt, weightAt, termAt, pullAt, terms, pulls, weightsOf, termsOf, pullsOf}
+use Rattle.pair_sums.specs.PairSums.{rowSum, rowsSum, pairSum}
+use Rattle.location.specs.Location.{total, groupWeight, groupWithin, within, fRatio, pseudoF}
 use Rattle.dispersion.specs.Dispersion as dispersion
 use Rattle.dispersion.specs.Dispersion.{inside, pullSum, valueOf, value, values, distanceOf}
-use Rattle.dispersion.specs.Anova.{grandMean, groupMean, groupMeans, squared, share, between, residualAt, residual, anovaF}
+use Rattle.anova.specs.Anova.{grandMean, groupMean, groupMeans, squared, share, between, residualAt, residual, anovaF}
 use Rattle.statistics.specs.declared.Statistic.the-variants.{Unbounded}
 use Rattle.statistics.specs.Statistics.{totalOf, withinOf, locationF, zOf, dispersionOf}
 use Rattle.statistics.specs.Hits.{statistic}

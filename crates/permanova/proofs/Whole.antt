@@ -21,8 +21,8 @@ use Rattle.lot.specs.Kept.{kept, groups, sizes, keptCount, groupCount}
 use Rattle.lot.specs.Strata.{strata, strataCount, informativeCount, fraction}
 use Rattle.lot.specs.Lines.{testLines}
 use Rattle.lot.specs.Described.{samplesOf, Described}
-use Rattle.location.specs.Squares.{weightsOf, termsOf, pullsOf}
-use Rattle.dispersion.specs.Anova.{meanZ}
+use Rattle.squares.specs.Squares.{weightsOf, termsOf, pullsOf}
+use Rattle.anova.specs.Anova.{meanZ}
 use Rattle.statistics.specs.Statistics.{totalOf, withinOf, locationF, rSquaredOf, zOf, someNegative, dispersionOf, dispersionF}
 use Rattle.statistics.specs.Warnings.{uninformed, sizesOf, warned}
 use Rattle.observation.specs.Observed.{located, spread, observed}

@@ -6,9 +6,9 @@ use lib.Dec.{eqb}
 use lib.Ieee.{Float}
 use Rattle.lot.specs.Kept.{sizes}
 use Rattle.lot.specs.Strata.{informative}
-use Rattle.location.specs.Squares.{weightAt, terms, pulls}
+use Rattle.squares.specs.Squares.{weightAt, terms, pulls}
 use Rattle.dispersion.specs.Dispersion.{zOf}
-use Rattle.dispersion.specs.Anova.{meanZ}
+use Rattle.anova.specs.Anova.{meanZ}
 use Rattle.permanova.specs.declared.TestResult.{TestResult}
 use Rattle.permanova.specs.Measured.{measured, concluded}
 

@@ -14,7 +14,7 @@ use Rattle.lot.specs.Lot.{Lot}
 use Rattle.lot.specs.Kept.{names, groups, keptCount, groupCount}
 use Rattle.lot.specs.Strata.{fraction}
 use Rattle.lot.specs.Lines.{testLines}
-use Rattle.dispersion.specs.Anova.{meanZ}
+use Rattle.anova.specs.Anova.{meanZ}
 use Rattle.statistics.specs.Statistics.{locationF, rSquaredOf, zOf, dispersionF}
 use Rattle.statistics.specs.Warnings.{sizesOf, warned}
 use Rattle.permanova.specs.declared.TestResult.{TestResult}

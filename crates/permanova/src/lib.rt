@@ -9,7 +9,7 @@ ghost use lib.ListN.{length, take};
 ghost use Rattle.lists.specs.Writes.{over, cleared};
 ghost use Rattle.lot.specs.Kept.{sizes};
 ghost use Rattle.dispersion.specs.Dispersion.{zOf};
-ghost use Rattle.dispersion.specs.Anova.{meanZ};
+ghost use Rattle.anova.specs.Anova.{meanZ};
 ghost use Rattle.permanova.specs.Measured.{measured, concluded};
 ghost use Rattle.float.specs.Floats.{zero⁺};
 ghost use Rattle.lot.specs.Lot.{lotOf};

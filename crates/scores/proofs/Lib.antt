@@ -1,4 +1,2 @@
--- A row of scores more, a sample more in its group's centroid, a group more that may be nearer, a sample more that is assigned.
+-- A row of scores more, a sample more in its group's centroid.
 pub mod Scoring
-pub mod Nearing
-pub mod Assigning

@@ -17,10 +17,10 @@ use Rattle.lists.proofs.Rows.{row-end, length-part}
 use Rattle.lot.specs.Lot.{none}
 use Rattle.lot.specs.Kept.{sizes}
 use Rattle.lists.proofs.Grids.{part-entry, grid-ext, entry-replicate}
-use Rattle.moments.proofs.Adding.{Adding, adding-pass, adding-row, adding-all, cellSum}
-use Rattle.moments.proofs.Counting.{getD-sizes}
-use Rattle.moments.proofs.Groups.{in-own, in-one, in-none}
-use Rattle.moments.proofs.Means.{front}
+use Rattle.means.proofs.Adding.{Adding, adding-pass, adding-row, adding-all, cellSum}
+use Rattle.means.proofs.Counting.{getD-sizes}
+use Rattle.means.proofs.Groups.{in-own, in-one, in-none}
+use Rattle.means.proofs.Means.{front}
 use Rattle.scores.specs.Scores.{scoresOf, centroids}
 
 -- ---- scores

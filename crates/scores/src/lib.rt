@@ -1,18 +1,15 @@
-// Section 5: scores of samples on the discriminant axes, the groups' centroids, and the nearest centroid.
+// Section 5: scores of samples on the discriminant axes, and the groups' centroids.
 ghost use mathlib.Core.Path.{_≡_};
-ghost use mathlib.Core.Bool.{_||_, cond};
-ghost use Prim.Native.Nat.{_+_, _*_, _<_, _≤_};
-ghost use lib.Dec.{eqb};
+ghost use Prim.Native.Nat.{_+_, _*_, _≤_};
 ghost use lib.ListN.{length, getD, replicate};
-ghost use lib.Ieee.{nan, lt, isNan};
-ghost use Rattle.float.specs.Floats.{_⊕_, _⊖_, _⊗_, _⊘_, zero⁺};
+ghost use lib.Ieee.{nan};
+ghost use Rattle.float.specs.Floats.{_⊕_, _⊗_, _⊘_, zero⁺};
 ghost use Rattle.lists.specs.Ranges.{table};
-ghost use Rattle.lists.specs.Filters.{any};
 ghost use Rattle.lists.specs.Sums.{sum⁻};
 ghost use Rattle.lists.specs.Rows.{entry};
 ghost use Rattle.lot.specs.Kept.{sizes};
-ghost use Rattle.moments.specs.Moments.{Numbered};
-ghost use Rattle.scores.specs.Scores.{scoresOf, centroids, gap, gaps, nearestOf, assignedOf, unordered, rightOf};
+ghost use Rattle.means.specs.Means.{Numbered};
+ghost use Rattle.scores.specs.Scores.{scoresOf, centroids};
 
 // ---- scores
 
@@ -54,7 +51,7 @@ pub fn fill_scores(
     ensures { λ _. ⌜ now (scores .exit) ≡ scoresOf n columns p axes (now (x .entry)) (now (mean .entry)) (now (vs .entry)) ⌝ }
 {
     for i in 0..n {
-        moments::subtract(d, &x[i * columns..i * columns + p], mean);
+        entrywise::subtract(d, &x[i * columns..i * columns + p], mean);
         score_row(&mut scores[i * axes..i * axes + axes], d, p, vs);
     }
 }
@@ -85,7 +82,7 @@ pub fn fill_centroids(
 {
     for i in 0..groups.len() {
         let j = lists::entry(groups, i);
-        if j != moments::NONE {
+        if j != means::NONE {
             let n = lists::entry(counts, j) as f64;
             add_quotients(
                 &mut cen[j * axes..j * axes + axes],
@@ -94,118 +91,4 @@ pub fn fill_centroids(
             );
         }
     }
-}
-
-// ---- the nearest centroid
-
-// The squared distance of two rows.
-fn gap_between(x: &[f64], y: &[f64]) -> f64
-    requires { ⌜ length (now y) ≡ length (now x) ⌝ }
-    ensures { λ r. ⌜ r ≡ gap (length (now (x .entry))) (now (x .entry)) (now (y .entry)) 0 0 ⌝ }
-{
-    let mut s = -0.0;
-    for a in 0..x.len() {
-        let d = x[a] - y[a];
-        s = s + d * d;
-    }
-    s
-}
-
-// The nearest group so far, its distance, and whether a distance was a NaN.
-struct Best {
-    group: usize,
-    gap: f64,
-    unordered: bool,
-}
-
-// Group j, at distance d, is nearer only if d is less.
-fn nearer(b: Best, j: usize, d: f64) -> Best
-    ensures { λ r. ⌜ (r .group ≡ cond (lt d (b .gap)) j (b .group)) × (r .gap ≡ cond (lt d (b .gap)) d (b .gap)) × (r .unordered ≡ (b .unordered || isNan d)) ⌝ }
-{
-    if d != d {
-        return Best {
-            group: b.group,
-            gap: b.gap,
-            unordered: true,
-        };
-    }
-    if d < b.gap {
-        return Best {
-            group: j,
-            gap: d,
-            unordered: b.unordered,
-        };
-    }
-    b
-}
-
-// The nearest of g centroids to a row of scores.
-fn nearest(row: &[f64], cen: &[f64], axes: usize, g: usize) -> Best
-    requires { ⌜ (length (now row) ≡ axes) × (length (now cen) ≡ g * axes) × (0 < g) ⌝ }
-    ensures { λ r. ⌜ (r .group ≡ nearestOf (gaps axes g (now (row .entry)) (now (cen .entry)) 0)) × (r .group < g) × (r .unordered ≡ any isNan (gaps axes g (now (row .entry)) (now (cen .entry)) 0)) ⌝ }
-{
-    let first = gap_between(row, &cen[..axes]);
-    let mut b = Best {
-        group: 0,
-        gap: first,
-        unordered: first != first,
-    };
-    for j in 1..g {
-        let d = gap_between(row, &cen[j * axes..j * axes + axes]);
-        b = nearer(b, j, d);
-    }
-    b
-}
-
-// How many samples were found to be in their own group, and whether a distance was a NaN.
-pub struct Tally {
-    pub right: usize,
-    pub unordered: bool,
-}
-
-// A sample of the group `own` more.
-fn note(t: Tally, b: Best, own: usize) -> Tally
-    requires { ⌜ t .right < 65536 ⌝ }
-    ensures { λ r. ⌜ (r .right ≡ t .right + cond (eqb (b .group) own) 1 0) × (r .unordered ≡ (t .unordered || b .unordered)) ⌝ }
-{
-    let mut right = t.right;
-    if b.group == own {
-        right += 1;
-    }
-    let mut unordered = t.unordered;
-    if b.unordered {
-        unordered = true;
-    }
-    Tally { right, unordered }
-}
-
-// The nearest group of each sample that has a group goes to `found`, and none of the others.
-pub fn assign(
-    found: &mut [u16],
-    scores: &[f64],
-    cen: &[f64],
-    groups: &[u16],
-    axes: usize,
-    g: usize,
-) -> Tally
-    requires { ⌜ (length (now found) ≡ length (now groups)) × (length (now scores) ≡ length (now groups) * axes) × (length (now cen) ≡ g * axes) × (0 < g) × (g ≤ 128) × (length (now groups) ≤ 256) ⌝ }
-    ensures { λ r. ⌜ (now (found .exit) ≡ assignedOf (length (now (groups .entry))) axes g (now (groups .entry)) (now (scores .entry)) (now (cen .entry)))
-        × (r .right ≡ rightOf (now (groups .entry)) (now (found .exit))) × (r .unordered ≡ unordered axes g (now (groups .entry)) (now (scores .entry)) (now (cen .entry))) ⌝ }
-{
-    let mut t = Tally {
-        right: 0,
-        unordered: false,
-    };
-    for i in 0..groups.len() {
-        let j = lists::entry(groups, i);
-        if j == moments::NONE {
-            found[i] = lot::NONE;
-        } else {
-            let b = nearest(&scores[i * axes..i * axes + axes], cen, axes, g);
-            let k = b.group;
-            found[i] = k as u16;
-            t = note(t, b, j);
-        }
-    }
-    t
 }

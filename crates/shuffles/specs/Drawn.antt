@@ -5,7 +5,7 @@ use lib.Ieee.{Float}
 use Rattle.lists.specs.Ranges.{range}
 use Rattle.lists.specs.Filters.{countIf}
 use Rattle.location.specs.Location.{within, pseudoF}
-use Rattle.dispersion.specs.Anova.{anovaF}
+use Rattle.anova.specs.Anova.{anovaF}
 use Rattle.statistics.specs.Hits.{shuffleHit}
 use Rattle.shuffles.specs.declared.Seen.{Seen}
 use Rattle.shuffles.specs.declared.Hits.{Hits}

@@ -11,7 +11,7 @@ ghost use Rattle.lists.specs.Numbers.{Below};
 ghost use Rattle.members.specs.Members.{part, Parts};
 ghost use Rattle.splitmix.specs.Shuffle.{deal, shuffleStratum};
 ghost use Rattle.location.specs.Location.{within, pseudoF};
-ghost use Rattle.dispersion.specs.Anova.{anovaF};
+ghost use Rattle.anova.specs.Anova.{anovaF};
 ghost use Rattle.statistics.specs.Hits.{shuffleHit};
 ghost use Rattle.shuffles.specs.Parted.{shuffledBy};
 ghost use Rattle.shuffles.specs.Drawn.{drawn};
@@ -90,7 +90,7 @@ fn both_f(
     members::group(lab, m, g, next, mem);
     let inside = statistics::within(t, w, lab, m, g, next, mem);
     let location = location::pseudo_f(total, inside, m, g);
-    let dispersion = dispersion::anova_f(z, lab, m, g, next, mem, means);
+    let dispersion = anova::anova_f(z, lab, m, g, next, mem, means);
     Both {
         location,
         dispersion,

@@ -6,10 +6,10 @@ use mathlib.Core.List.{List}
 use lib.Ieee.{Float}
 use Rattle.lot.specs.Lot.{Lot}
 use Rattle.lot.specs.Kept.{keptCount, groupCount}
-use Rattle.location.specs.Squares.{weightsOf, termsOf, pullsOf}
+use Rattle.squares.specs.Squares.{weightsOf, termsOf, pullsOf}
 use Rattle.location.specs.Location as location
 use Rattle.dispersion.specs.Dispersion as dispersion
-use Rattle.dispersion.specs.Anova as anova
+use Rattle.anova.specs.Anova as anova
 
 -- ---- location
 

@@ -61,7 +61,7 @@ pub fn total(t: &[f64], w: &[f64], m: usize) -> f64
     requires { ⌜ length (now t) ≡ m * m ⌝ }
     ensures { λ r. ⌜ r ≡ total (now (t .entry)) (now (w .entry)) m ⌝ }
 {
-    location::rows_sum(t, m) / location::sum(w)
+    pair_sums::rows_sum(t, m) / pair_sums::sum(w)
 }
 
 // Within, over the members of the groups that the labels give.

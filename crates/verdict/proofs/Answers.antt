@@ -14,9 +14,9 @@ use Rattle.lists.specs.Numbers.{addUp}
 use Rattle.lists.specs.Writes.{over}
 use Rattle.lot.specs.Kept.{sizes}
 use Rattle.lot.specs.Strata.{informative}
-use Rattle.location.specs.Squares.{weightAt, terms, pulls}
+use Rattle.squares.specs.Squares.{weightAt, terms, pulls}
 use Rattle.dispersion.specs.Dispersion.{zOf}
-use Rattle.dispersion.specs.Anova.{meanZ}
+use Rattle.anova.specs.Anova.{meanZ}
 use Rattle.statistics.specs.declared.Statistic.{Statistic}
 use Rattle.statistics.specs.Hits.{statistic}
 use Rattle.statistics.specs.Warnings.{bit, leftOut}

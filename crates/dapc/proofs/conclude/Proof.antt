@@ -10,7 +10,8 @@ use lib.ListN.{length, take, drop, length-replicate}
 use lib.Seq.{length-take-le, length-front}
 use lib.Ieee.{Float}
 use Rattle.float.specs.Floats.{zero⁺}
-use Rattle.scores.specs.Scores.{centroids, assignedOf, unordered}
+use Rattle.nearest_centroid.specs.Assigned.{assignedOf, unordered}
+use Rattle.scores.specs.Scores.{centroids}
 use Rattle.dapc.proofs.Outputs.{conclude-refused, conclude-scored, part-scores, length-part-scores}
 use Rattle.dapc.proofs.conclude.Statement.{statement}
 use Rattle.dapc.proofs.conclude.Tie as tie

@@ -6,7 +6,7 @@ use Prim.Native.Nat.{_*_, _-_}
 use native.Mathlib.Omega.{arith}
 use lib.ListN.{length, length-replicate}
 use Rattle.float.specs.Floats.{zero⁺}
-use Rattle.cholesky.specs.Cholesky.{solveRows}
+use Rattle.triangular.specs.Triangular.{solveRows}
 use Rattle.lists.proofs.Rows.{part-rest}
 use Rattle.dapc.proofs.Outputs.{located, length-vectors, axes-most}
 use Rattle.dapc.proofs.locate.Statement.{statement}

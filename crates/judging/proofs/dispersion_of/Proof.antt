@@ -6,10 +6,10 @@ use Prim.Native.Nat.{_-_}
 use native.Mathlib.Omega.{arith}
 use borrow.Author.Needs.{needs}
 use lib.Ieee.{Float}
-use Rattle.dispersion.specs.Anova.{anovaF}
+use Rattle.anova.specs.Anova.{anovaF}
 use Rattle.statistics.specs.Hits.{statistic}
 use Rattle.judging.specs.Judging.{dispersionBy}
-use Rattle.dispersion.specs.Anova.{anovaF}
+use Rattle.anova.specs.Anova.{anovaF}
 use Rattle.statistics.specs.Hits.{statistic}
 use Rattle.judging.specs.Judging.{dispersionBy}
 use Rattle.judging.proofs.dispersion_of.Statement.{statement}

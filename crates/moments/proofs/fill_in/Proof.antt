@@ -5,7 +5,7 @@ use mathlib.Core.Path.{ap, _∙_}
 use Prim.Native.Nat.{_*_, _-_}
 use lib.ListN.{length, length-replicate}
 use Rattle.float.specs.Floats.{zero⁺, zero⁻}
-use Rattle.moments.proofs.Scatter.{filled-is}
+use Rattle.moments.proofs.Filling.{filled-is}
 use Rattle.moments.proofs.fill_in.Statement.{statement}
 use Rattle.moments.proofs.fill_in.Tie as tie
 

@@ -9,8 +9,8 @@ use lib.ListN.{length}
 use lib.Ieee.{Float}
 use Rattle.lists.specs.Writes.{over}
 use Rattle.lot.specs.Kept.{sizes}
-use Rattle.dispersion.specs.Anova.{meanOf, meanZ}
-use Rattle.dispersion.proofs.Parted.{on-members}
+use Rattle.anova.specs.Anova.{meanOf, meanZ}
+use Rattle.anova.proofs.OnParts.{on-members}
 use Rattle.observation.proofs.list_groups.Statement.{statement}
 use Rattle.observation.proofs.list_groups.Tie as tie
 

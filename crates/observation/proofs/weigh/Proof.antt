@@ -7,7 +7,7 @@ use Prim.Native.Nat.{_-_}
 use native.Mathlib.Omega.{arith}
 use borrow.Author.Needs.{needs}
 use lib.Ieee.{Float}
-use Rattle.location.specs.Squares.{terms, pulls}
+use Rattle.squares.specs.Squares.{terms, pulls}
 use Rattle.observation.proofs.weigh.Statement.{statement}
 use Rattle.observation.proofs.weigh.Tie as tie
 

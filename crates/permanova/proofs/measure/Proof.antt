@@ -5,7 +5,7 @@ use mathlib.Core.Path.{ap, _∙_}
 use Prim.Native.Nat.{_-_}
 use native.Mathlib.Omega.{arith}
 use borrow.Author.Needs.{needs}
-use Rattle.location.specs.Squares.{terms}
+use Rattle.squares.specs.Squares.{terms}
 use Rattle.shuffles.specs.declared.Hits.{Hits}
 use Rattle.shuffles.specs.Drawn.{drawn}
 use Rattle.permanova.specs.Measured.{measured}

@@ -5,7 +5,7 @@ use mathlib.Core.Path.{sym, _∙_}
 use Prim.Native.Nat.{_-_}
 use native.Mathlib.Omega.{arith}
 use borrow.Author.Needs.{needs}
-use Rattle.location.specs.Squares.{terms, pulls}
+use Rattle.squares.specs.Squares.{terms, pulls}
 use lib.Seq.{length-take-le}
 use Rattle.lot.proofs.Informing.{informing-few}
 use Rattle.lot.proofs.Samples.{front-sizes}

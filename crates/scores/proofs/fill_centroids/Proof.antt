@@ -11,10 +11,10 @@ use lib.Ieee.{inFloat}
 use Rattle.float.specs.Floats.{zero⁺}
 use Rattle.lists.specs.Rows.{entry}
 use Rattle.lists.proofs.Rows.{row-end, length-part}
-use Rattle.moments.proofs.Adding.{adding-none}
-use Rattle.moments.proofs.Groups.{is-numbered}
+use Rattle.means.proofs.Adding.{adding-none}
+use Rattle.means.proofs.Groups.{is-numbered}
 use Rattle.scores.proofs.Scoring.{CentroidsAdded, centroid-turn, centroid-pass, centroid-end}
-use Rattle.moments.proofs.Counting.{length-sizes}
+use Rattle.means.proofs.Counting.{length-sizes}
 use Rattle.scores.proofs.fill_centroids.Statement.{statement}
 use Rattle.scores.proofs.fill_centroids.Tie as tie
 

@@ -12,7 +12,7 @@ use Rattle.lists.specs.Filters.{countIf}
 use Rattle.lists.proofs.Filters.{count-turn, count-end, one-more}
 use native.Mathlib.Nat.{zero-add}
 use Rattle.statistics.specs.Hits.{shuffleHit}
-use Rattle.dispersion.specs.Anova.{anovaF}
+use Rattle.anova.specs.Anova.{anovaF}
 use Rattle.shuffles.specs.Room.{Room}
 use Rattle.shuffles.proofs.count_hits.Statement.{statement}
 use Rattle.shuffles.proofs.count_hits.Tie as tie

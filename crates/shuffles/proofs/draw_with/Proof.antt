@@ -7,8 +7,8 @@ use native.Mathlib.Omega.{arith}
 use borrow.Author.Needs.{needs}
 use lib.ListN.{length, take}
 use Rattle.location.specs.Location.{within, pseudoF}
-use Rattle.dispersion.specs.Anova.{anovaF}
-use Rattle.location.specs.Squares.{terms}
+use Rattle.anova.specs.Anova.{anovaF}
+use Rattle.squares.specs.Squares.{terms}
 use lib.Seq.{length-take-le}
 use Rattle.shuffles.specs.Drawn.{drawn}
 use Rattle.shuffles.proofs.Shuffles.{hits-within, hits-are}

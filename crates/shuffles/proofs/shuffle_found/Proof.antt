@@ -10,7 +10,7 @@ use lib.ListN.{length}
 use Rattle.lists.specs.Numbers.{Below}
 use Rattle.location.specs.Location.{within, pseudoF}
 use Rattle.statistics.specs.Hits.{shuffleHit}
-use Rattle.dispersion.specs.Anova.{anovaF}
+use Rattle.anova.specs.Anova.{anovaF}
 use Rattle.shuffles.proofs.Shuffles.{shuffledBy-fine}
 use Rattle.shuffles.proofs.shuffle_found.Statement.{statement}
 use Rattle.shuffles.proofs.shuffle_found.Tie as tie

@@ -1,0 +1,2 @@
+-- The ANOVA by parts of a list of members.
+pub mod OnParts

@@ -1,0 +1,66 @@
+-- `anova::fill_group_means` meets its contract. After k turns the first k entries are written.
+-- Assumes nothing.
+
+use mathlib.Core.Path.{ap, _∙_}
+use Prim.Native.Nat.{_-_, _≤_}
+use native.Mathlib.Omega.{arith}
+use lib.ListN.{length}
+use Rattle.lists.proofs.Writes.{Writing, writing-none, writing-next, writing-front}
+use Rattle.anova.specs.Anova.{groupMean}
+use Rattle.members.specs.Members.{part}
+use Rattle.members.proofs.Places.{part-there, part-below, part-short}
+use Rattle.anova.proofs.fill_group_means.Statement.{statement}
+use Rattle.anova.proofs.fill_group_means.Tie as tie
+
+abbrev Inv-loop : tie.InvT-loop
+Inv-loop z m g next mem out₀ k₀ out k = (k ≤ g) × Writing (λ k. groupMean z (part next mem k)) out₀ out k
+
+abbrev μ-loop : tie.MeasureT-loop
+μ-loop z m g next mem out₀ k₀ out k = g - k
+
+loop-holds : tie.Need-loop-holds Inv-loop μ-loop
+loop-holds c = (omega arith, writing-none (λ k. groupMean (c .before .before .before .before .args .z .now) (part (c .before .before .before .before .args .next .now) (c .before .before .before .before .args .mem .now) k)) (c .before .before .before .before .args .out .now))
+
+part-of-requires : tie.Need-part-of-requires Inv-loop μ-loop
+part-of-requires c κs = part-there (c .before .before .before .before .before .before .args .m) (c .before .before .before .before .before .before .args .g) (c .before .loop .k) (c .before .before .before .before .before .before .args .next .now) (c .before .before .before .before .before .before .args .mem .now) (c .before .before .before .before .before .before .pre .1) (omega arith)
+
+group-mean-requires : tie.Need-group-mean-requires Inv-loop μ-loop
+group-mean-requires c κs = (λ x h. omega (arith, part-below (c .before .before .before .before .before .before .before .args .m) (c .before .before .before .before .before .before .before .args .g) (c .before .before .loop .k) (c .before .before .before .before .before .before .before .args .next .now) (c .before .before .before .before .before .before .before .args .mem .now) _ (c .before .before .before .before .before .before .before .pre .1) (omega arith) (c .part-of .ensures) x h), omega (arith, ap length (c .part-of .ensures), part-short (c .before .before .before .before .before .before .before .args .next .now) (c .before .before .before .before .before .before .before .args .mem .now) (c .before .before .loop .k)))
+
+mul-out : tie.Need-mul-out Inv-loop μ-loop
+mul-out c = omega (arith, c .before .before .before .loop .inv .1 .long)
+
+slice-write-out : tie.Need-slice-write-out Inv-loop μ-loop
+slice-write-out c = omega (arith, c .before .before .before .loop .inv .1 .long)
+
+add-k : tie.Need-add-k Inv-loop μ-loop
+add-k c = omega arith
+
+loop-less : tie.Need-loop-less Inv-loop μ-loop
+loop-less c = omega arith
+
+loop-again : tie.Need-loop-again Inv-loop μ-loop
+loop-again c = (omega arith, writing-next (λ k. groupMean (c .before .before .before .before .before .before .before .before .args .z .now) (part (c .before .before .before .before .before .before .before .before .args .next .now) (c .before .before .before .before .before .before .before .before .args .mem .now) k)) (c .before .before .before .before .before .before .before .before .args .out .now) (c .before .before .before .loop .inv .1) (omega arith) (c .group-mean .ensures ∙ ap (groupMean (c .before .before .before .before .before .before .before .before .args .z .now)) (c .before .part-of .ensures)))
+
+same-length : tie.Need-same-length Inv-loop μ-loop
+same-length c = c .before .loop .inv .1 .long
+
+returns : tie.Need-returns Inv-loop μ-loop
+returns c = writing-front (λ k. groupMean (c .before .before .before .before .before .before .args .z .now) (part (c .before .before .before .before .before .before .args .next .now) (c .before .before .before .before .before .before .args .mem .now) k)) (c .before .before .before .before .before .before .args .out .now) (c .before .loop .inv .1) (omega arith)
+
+pub fill-group-means-spec : {M : Type 1} → statement M
+fill-group-means-spec =
+    tie.close
+    (tie.spec
+    Inv-loop
+    μ-loop
+    loop-holds
+    part-of-requires
+    group-mean-requires
+    mul-out
+    slice-write-out
+    add-k
+    loop-less
+    loop-again
+    same-length
+    returns)

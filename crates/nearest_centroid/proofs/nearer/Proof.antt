@@ -1,0 +1,20 @@
+-- `nearest_centroid::nearer` meets its contract. A NaN is not less, and ties stay with the lower group.
+-- Assumes nothing.
+
+use Prim.Native.Nat.{_-_}
+use Rattle.nearest_centroid.specs.Assigned.{gap, unordered}
+use Rattle.nearest_centroid.proofs.Nearing.{nearer-nan, nearer-less, nearer-not}
+use Rattle.nearest_centroid.proofs.nearer.Statement.{statement}
+use Rattle.nearest_centroid.proofs.nearer.Tie as tie
+
+returns : tie.Need-returns
+returns c = nearer-nan (c .before .args .j) (c .before .args .b .group) (c .before .args .d) (c .before .args .b .gap) (c .before .args .b .unordered) (c .if1 .taken)
+
+returns-2 : tie.Need-returns-2
+returns-2 c = nearer-less (c .before .before .before .args .j) (c .before .before .before .args .b .group) (c .before .before .before .args .d) (c .before .before .before .args .b .gap) (c .before .before .before .args .b .unordered) (c .before .before .if1 .left) (c .if2 .taken)
+
+returns-3 : tie.Need-returns-3
+returns-3 c = nearer-not (c .before .before .before .args .j) (c .before .before .before .args .b .group) (c .before .before .before .args .d) (c .before .before .before .args .b .gap) (c .before .before .before .args .b .unordered) (c .before .before .if1 .left) (c .if2 .left)
+
+pub nearer-spec : {M : Type 1} → statement M
+nearer-spec = tie.close (tie.spec returns returns-2 returns-3)

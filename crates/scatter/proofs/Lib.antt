@@ -1,0 +1,2 @@
+-- The laws of scatter.
+pub mod Scatter

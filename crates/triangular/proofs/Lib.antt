@@ -1,0 +1,2 @@
+-- The lengths of what is solved.
+pub mod Solved

@@ -1,0 +1,74 @@
+-- `triangular::solve_upper` meets its contract. After t turns the last t unknowns stand there.
+-- Assumes nothing.
+use mathlib.Core.Path.{_≡_, refl, ap, _∙_}
+use Prim.Native.Nat.{_+_, _-_, _≤_}
+use native.Mathlib.Omega.{arith}
+use lib.ListN.{length, set, length-set, length-replicate}
+use Rattle.float.specs.Floats.{zero⁺}
+use Rattle.lists.specs.Loops.{inTurn, downTo}
+use Rattle.lists.proofs.Loops.{inTurn-none, inTurn-next}
+use Rattle.triangular.specs.Triangular.{upperAt, solveUpper}
+use Rattle.triangular.proofs.solve_upper.Statement.{statement}
+use Rattle.triangular.proofs.solve_upper.Tie as tie
+
+abbrev Inv-loop : tie.InvT-loop
+Inv-loop x₀ l b p t₀ x t = (t ≤ p) × (length x ≡ length x₀) × (x ≡ inTurn (λ j y. set y (p - (j + 1)) (upperAt p l b (p - (j + 1)) y)) t x₀)
+
+abbrev μ-loop : tie.MeasureT-loop
+μ-loop x₀ l b p t₀ x t = p - t
+
+loop-holds : tie.Need-loop-holds Inv-loop μ-loop
+loop-holds c = (omega arith, refl, inTurn-none _ _)
+
+add-i : tie.Need-add-i Inv-loop μ-loop
+add-i c = omega (arith, c .before .loop .inv .1, ap length (c .before .before .before .before .before .pre .2) ∙ length-replicate (c .before .before .before .before .before .args .p) zero⁺)
+
+sub-i : tie.Need-sub-i Inv-loop μ-loop
+sub-i c = omega (arith, c .before .loop .inv .1, ap length (c .before .before .before .before .before .pre .2) ∙ length-replicate (c .before .before .before .before .before .args .p) zero⁺)
+
+upper-at-requires : tie.Need-upper-at-requires Inv-loop μ-loop
+upper-at-requires c κs = (c .before .before .before .before .before .before .pre .0, c .before .before .before .before .before .before .pre .1, c .before .before .loop .inv .1 ∙ ap length (c .before .before .before .before .before .before .pre .2) ∙ length-replicate (c .before .before .before .before .before .before .args .p) zero⁺, omega arith)
+
+mul-x : tie.Need-mul-x Inv-loop μ-loop
+mul-x c = omega (arith, c .before .before .before .loop .inv .1, ap length (c .before .before .before .before .before .before .before .pre .2) ∙ length-replicate (c .before .before .before .before .before .before .before .args .p) zero⁺)
+
+slice-write-x : tie.Need-slice-write-x Inv-loop μ-loop
+slice-write-x c = omega (arith, c .before .before .before .loop .inv .1, ap length (c .before .before .before .before .before .before .before .pre .2) ∙ length-replicate (c .before .before .before .before .before .before .before .args .p) zero⁺)
+
+add-t : tie.Need-add-t Inv-loop μ-loop
+add-t c = omega (arith, c .before .before .before .loop .inv .1, ap length (c .before .before .before .before .before .before .before .pre .2) ∙ length-replicate (c .before .before .before .before .before .before .before .args .p) zero⁺)
+
+loop-less : tie.Need-loop-less Inv-loop μ-loop
+loop-less c = omega arith
+
+loop-again : tie.Need-loop-again Inv-loop μ-loop
+loop-again c = (
+  omega arith,
+  simp length-set (c .before .before .before .loop .inv .1),
+  inTurn-next (λ j y. set y (c .before .before .before .before .before .before .before .args .p - (j + 1)) (upperAt (c .before .before .before .before .before .before .before .args .p) (c .before .before .before .before .before .before .before .args .l .now) (c .before .before .before .before .before .before .before .args .b .now) (c .before .before .before .before .before .before .before .args .p - (j + 1)) y)) _ _ (c .before .before .before .loop .inv .2) (ap (set (c .before .before .before .loop .x) (c .before .before .before .before .before .before .before .args .p - (c .before .before .before .loop .t + 1))) (c .upper-at .ensures)),
+)
+
+same-length : tie.Need-same-length Inv-loop μ-loop
+same-length c = c .before .loop .inv .1
+
+returns : tie.Need-returns Inv-loop μ-loop
+unfolding solveUpper downTo
+returns c = let e : c .before .loop .t ≡ c .before .before .before .before .before .args .p - 0 = omega arith in (rw e at (c .before .loop .inv .2)) ∙ ap (inTurn (λ j y. set y (c .before .before .before .before .before .args .p - (j + 1)) (upperAt (c .before .before .before .before .before .args .p) (c .before .before .before .before .before .args .l .now) (c .before .before .before .before .before .args .b .now) (c .before .before .before .before .before .args .p - (j + 1)) y)) (c .before .before .before .before .before .args .p - 0)) (c .before .before .before .before .before .pre .2)
+
+pub solve-upper-spec : {M : Type 1} → statement M
+solve-upper-spec =
+    tie.close
+    (tie.spec
+    Inv-loop
+    μ-loop
+    loop-holds
+    add-i
+    sub-i
+    upper-at-requires
+    mul-x
+    slice-write-x
+    add-t
+    loop-less
+    loop-again
+    same-length
+    returns)
