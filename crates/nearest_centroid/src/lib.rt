@@ -8,7 +8,6 @@ ghost use lib.Ieee.{lt, isNan};
 ghost use Rattle.lists.specs.Filters.{any};
 ghost use Rattle.lists.specs.Rows.{entry};
 ghost use Rattle.nearest_centroid.specs.Assigned.{gap, gaps, nearestOf, assignedOf, unordered, rightOf};
-ghost use Rattle.scores.specs.Scores.{centroids};
 
 // The squared distance of two rows.
 fn gap_between(x: &[f64], y: &[f64]) -> f64
