@@ -16,7 +16,7 @@ use Rattle.outcome.specs.declared.Refusal.the-variants.{Columns}
 use Rattle.outcome.specs.declared.Check.the-variants.{Passed, Refused}
 use Rattle.outcome.specs.Refusals.{number, first, short}
 use Rattle.lot.specs.Kept.{twice, kept, gathered, keptLabels, names, keptCount, groupCount}
-use Rattle.dapc.specs.Dapc.{leading}
+use Rattle.discriminant.specs.Dapc.{leading}
 use Rattle.dapc.specs.Call.{misfits, badCoordinate, shapeLines, groupLines, dapcLines}
 
 -- whatever the columns

@@ -1,6 +1,4 @@
--- What the outputs hold at each step, the lines of the table, and the groups that labels give.
-pub mod Outputs
-pub mod Decided
+-- The lines of the table, the groups that labels give, and a whole call.
 pub mod Lines
 pub mod Grouping
 pub mod Whole

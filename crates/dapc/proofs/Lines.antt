@@ -2,8 +2,8 @@
 use mathlib.Core.Path.{_≡_, refl, sym, ap, _∙_}
 use mathlib.Core.Bool.{Bool, true, false, not, _||_}
 use mathlib.Core.List.{List}
-use Prim.Native.Nat.{ℕ, _+_, _-_, _*_, _/_, _<_, _≤_, min}
-use native.Mathlib.Nat.{mul-comm, zero-mul, div-lt-iff-lt-mul, le-div-iff-mul-le, min-le-right, min-eq-left, min-eq-right}
+use Prim.Native.Nat.{ℕ, _+_, _*_, _/_, _<_, _≤_}
+use native.Mathlib.Nat.{mul-comm, zero-mul, div-lt-iff-lt-mul, le-div-iff-mul-le}
 use native.Mathlib.Omega.{arith}
 use borrow.Author.Tests.{lt-ltb, le-ltb, eq-eqb, ne-eqb, not-false, eqb-true, ltb-false}
 use lib.Dec.{eqb, ltb}
@@ -15,7 +15,7 @@ use Rattle.outcome.specs.declared.Check.the-variants as check
 use Rattle.outcome.specs.Refusals.{first, short}
 use Rattle.lists.proofs.Truths.{or-neither}
 use Rattle.outcome.proofs.Table.{first-passed}
-use Rattle.dapc.specs.Dapc.{leading}
+use Rattle.discriminant.specs.Dapc.{leading}
 use Rattle.dapc.specs.Call.{misfits, badCoordinate, shapeLines, groupLines}
 
 -- ---- line 1: the product is compared without being made where it would not fit
@@ -122,18 +122,6 @@ passed-shape n columns x labels out assigned e =
 -- ---- lines 5 and 9
 
 module _ (columns m g : ℕ) where
-  pub leading-none : m ≤ g → 0 ≡ leading columns m g
-  unfolding leading
-  leading-none h = let none : m - (g + 1) ≡ 0 = omega arith in sym (ap (min columns) none ∙ omega (arith, min-le-right columns 0))
-
-  pub leading-columns : columns < m - (g + 1) → columns ≡ leading columns m g
-  unfolding leading
-  leading-columns h = sym (min-eq-left (omega arith))
-
-  pub leading-rest : m - (g + 1) ≤ columns → m - (g + 1) ≡ leading columns m g
-  unfolding leading
-  leading-rest h = sym (min-eq-right h)
-
   pub line-labels : ltb g 2 ≡ true → check.Refused Labels ≡ first (groupLines columns m g)
   unfolding groupLines first
   line-labels h = rw h

@@ -20,10 +20,11 @@ use Rattle.lot.specs.Described.{Grouped}
 use Rattle.lot.proofs.Samples.{kept-few}
 use Rattle.means.specs.Means.{Numbered, grouped}
 use Rattle.outcome.proofs.Table.{first-untouched}
-use Rattle.dapc.specs.declared.Answer.the-variants.{Refused}
-use Rattle.dapc.specs.Dapc.{leading, axesOf, discriminate, dapc}
-use Rattle.dapc.specs.Call.{shapeLines, groupLines, dapcLines, Called, leaves, callBy, dapcCall, groupsCall, called, Ready, Sized}
-use Rattle.dapc.proofs.Outputs.{axes-most}
+use Rattle.discriminant.specs.declared.Answer.the-variants.{Refused}
+use Rattle.discriminant.specs.Dapc.{leading, axesOf, discriminate, dapc}
+use Rattle.discriminant.specs.Outputs.{Called, leaves, called, Ready}
+use Rattle.dapc.specs.Call.{shapeLines, groupLines, dapcLines, callBy, dapcCall, groupsCall, Sized}
+use Rattle.discriminant.proofs.Outputs.{axes-most}
 use Rattle.dapc.proofs.Grouping.{length-each, grouped-kept, numbered-each, half-groups}
 
 -- ---- from labels to group numbers

@@ -6,20 +6,15 @@ use mathlib.Core.List.{List, [], _∷_, _++_}
 use lib.Dec.{eqb, ltb}
 use lib.ListN.{length}
 use lib.Ieee.{Float, neg, le}
-use Rattle.float.specs.Floats.{zero⁺, 2^40}
+use Rattle.float.specs.Floats.{2^40}
 use Rattle.lists.specs.Filters.{any}
-use Rattle.outcome.specs.declared.Refusal.{Refusal}
 use Rattle.outcome.specs.declared.Refusal.the-variants.{Length, Limit, Value, Labels, Columns}
 use Rattle.outcome.specs.declared.Check.{Check}
 use Rattle.outcome.specs.Refusals.{Line, _when_, first, _of_, short}
-use Rattle.outcome.specs.Outcome.{Outcome, answered, refused, judged, andThen}
-use Rattle.outcome.specs.Slices.{output}
+use Rattle.outcome.specs.Outcome.{judged}
 use Rattle.lot.specs.Kept.{groupEach, keptCount, groupCount}
-use Rattle.means.specs.Means.{Numbered}
-use Rattle.dapc.specs.declared.Separation.{Separation}
-use Rattle.dapc.specs.declared.Answer.{Answer}
-use Rattle.dapc.specs.declared.Answer.the-variants.{Scored, Refused}
-use Rattle.dapc.specs.Dapc.{Scores, leading, axesOf, dapc}
+use Rattle.discriminant.specs.Dapc.{leading, axesOf, dapc}
+use Rattle.discriminant.specs.Outputs.{Called, leaves}
 
 -- ---- the lines
 
@@ -51,21 +46,7 @@ dapcLines n columns x labels out assigned =
 
 -- ---- a call
 
--- the answer, and the outputs afterwards
-pub record Called : Type 0 where
-  pub answer : Outcome Separation
-  pub out : List Float
-  pub assigned : List ℕ
-
--- what a call leaves, by what is found: one value per axis and then the scores, and a group number for each sample
-unfoldable pub leaves : ℕ → ℕ → ℕ → Outcome Scores → List Float → List ℕ → Called
-leaves n p axes o out assigned = record {
-  answer = andThen o (λ s. answered (record { columns = p; axes = axes; right = s .right }));
-  out = output zero⁺ (λ s. s .values ++ s .scores) (axes + n * axes) o out;
-  assigned = output 0 (λ s. s .assigned) n o assigned;
-}
-
--- the same where the table says this of the arguments
+-- what a call leaves where the table says this of the arguments
 unfoldable pub callBy : Check → ℕ → ℕ → List Float → List ℕ → List Float → List ℕ → Called
 callBy c n columns x labels out assigned =
     let g = groupCount labels in
@@ -79,32 +60,6 @@ dapcCall n columns x labels out assigned = callBy (first (dapcLines n columns x 
 -- and of one that lines 1 to 3 let pass
 unfoldable pub groupsCall : ℕ → ℕ → List Float → List ℕ → List Float → List ℕ → Called
 groupsCall n columns x labels out assigned = callBy (first (groupLines columns (keptCount labels) (groupCount labels))) n columns x labels out assigned
-
--- ---- how a contract says it: the enum that is returned, and what the outputs hold
-
-abbrev pub outcomeOf : Answer → Outcome Separation
-outcomeOf (Scored s) = answered s
-outcomeOf (Refused r) = refused r
-
-abbrev pub called : Answer → List Float → List ℕ → Called
-called r out assigned = record { answer = outcomeOf r; out = out; assigned = assigned }
-
--- a refusal, with outputs that hold these
-abbrev pub refusal : Refusal → List Float → List ℕ → Called
-refusal r out assigned = record { answer = refused r; out = out; assigned = assigned }
-
--- ---- below the table: what `discriminate` asks of its arguments, with outputs of these lengths. p columns lead, and there are g groups.
-pub record Ready (columns p axes g : ℕ) (x : List Float) (groups : List ℕ) (out assigned : ℕ) : Type 0 where
-  pub coordinates : length x ≡ length groups * columns
-  pub leads : p ≤ columns
-  pub narrow : p ≤ 16
-  pub two : 2 ≤ g
-  pub most : g ≤ 128
-  pub numbered : Numbered g groups
-  pub few : length groups ≤ 256
-  pub axial : axes ≡ axesOf g p
-  pub room : axes + length groups * axes ≤ out
-  pub places : length groups ≤ assigned
 
 -- what lines 1 to 3 tell of the lengths; `numbers` is that of a slice with room for a number of each sample
 pub record Sized (columns : ℕ) (x : List Float) (labels : List ℕ) (out assigned numbers : ℕ) : Type 0 where

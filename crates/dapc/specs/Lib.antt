@@ -1,3 +1,2 @@
--- Section 5 of document 01: discriminant scores, `dapc`.
-pub mod Dapc
+-- Section 5 of document 01: a whole call of `dapc`.
 pub mod Call

@@ -36,8 +36,9 @@ use Rattle.statistics.specs.Hits.{statistic, hit}
 use Rattle.statistics.specs.Warnings.{leftOut, uninformed, sizesOf, warned}
 use Rattle.coordinates.specs.Finish.{Coordinates}
 use Rattle.lists.proofs.Counts.{count-no}
-use Rattle.dapc.specs.Dapc.{leading}
-use Rattle.dapc.specs.Call.{misfits, badCoordinate, shapeLines, groupLines, dapcLines, leaves, callBy, dapcCall}
+use Rattle.discriminant.specs.Dapc.{leading}
+use Rattle.discriminant.specs.Outputs.{leaves}
+use Rattle.dapc.specs.Call.{misfits, badCoordinate, shapeLines, groupLines, dapcLines, callBy, dapcCall}
 use Rattle.ways.specs.Ways.{spend, deal, waysOf, ways, sizeFactorials, labelFactorials, wayCountOf, wayCount}
 use Rattle.judging.specs.declared.Assignment.the-variants.{Withheld}
 use Rattle.judging.specs.Assignments.{rightCount, assignment}

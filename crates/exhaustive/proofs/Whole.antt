@@ -48,7 +48,7 @@ use Rattle.observation.specs.Observed.{located, spread, observed}
 use Rattle.lot.proofs.Numbering.{named-few}
 use Rattle.coordinates.specs.Finish.{Coordinates}
 use Rattle.coordinates.specs.Pcoa.{pcoa}
-use Rattle.dapc.specs.Dapc.{leading}
+use Rattle.discriminant.specs.Dapc.{leading}
 use Rattle.dapc.proofs.Grouping.{half-groups}
 use Rattle.ways.specs.Ways.{mostWays, ways, wayCountOf, wayCount}
 use Rattle.judging.specs.declared.Assignment.{Assignment}

@@ -20,8 +20,9 @@ use Rattle.lot.specs.Kept.{kept, names, groups, groupEach, keptCount, groupCoun
 use Rattle.lot.specs.Way.{IsWay, relabelled}
 use Rattle.lot.proofs.Relabelled.{same-lot, way-below}
 use Rattle.means.specs.Means.{Numbered, grouped}
-use Rattle.dapc.specs.Dapc.{Scores, leading, axesOf, discriminate, dapc}
-use Rattle.dapc.specs.Call.{misfits, badCoordinate, shapeLines, groupLines, dapcLines, leaves, callBy, dapcCall}
+use Rattle.discriminant.specs.Dapc.{Scores, leading, axesOf, discriminate, dapc}
+use Rattle.discriminant.specs.Outputs.{leaves}
+use Rattle.dapc.specs.Call.{misfits, badCoordinate, shapeLines, groupLines, dapcLines, callBy, dapcCall}
 use Rattle.dapc.proofs.Grouping.{grouped-kept, numbered-each}
 use Rattle.judging.specs.declared.Assignment.{Assignment}
 use Rattle.judging.specs.declared.Assignment.the-variants.{Right, Withheld}

@@ -12,12 +12,13 @@ use Rattle.lists.specs.Filters.{any}
 use Rattle.lot.specs.Lot.{none}
 use Rattle.outcome.specs.declared.Refusal.{Refusal}
 use Rattle.outcome.specs.Outcome.{Outcome, answered, refused, andThen}
-use Rattle.dapc.specs.declared.Separation.{Separation}
-use Rattle.dapc.specs.declared.Answer.{Answer}
-use Rattle.dapc.specs.declared.Answer.the-variants.{Scored, Refused}
+use Rattle.discriminant.specs.declared.Separation.{Separation}
+use Rattle.discriminant.specs.declared.Answer.{Answer}
+use Rattle.discriminant.specs.declared.Answer.the-variants.{Scored, Refused}
 use Rattle.means.specs.Means.{Numbered, grouped}
-use Rattle.dapc.specs.Dapc.{Scores, axesOf, discriminate}
-use Rattle.dapc.specs.Call.{badCoordinate, Called, leaves, called, outcomeOf, Ready}
+use Rattle.discriminant.specs.Dapc.{Scores, axesOf, discriminate}
+use Rattle.discriminant.specs.Outputs.{Called, leaves, called, outcomeOf, Ready}
+use Rattle.dapc.specs.Call.{badCoordinate}
 use Rattle.judging.specs.declared.Assignment.{Assignment}
 use Rattle.judging.specs.declared.Assignment.the-variants.{Right, Withheld}
 use Rattle.statistics.specs.declared.Statistic.{Statistic}

@@ -7,7 +7,7 @@ use lib.ListN.{replicate}
 use lib.Ieee.{Float}
 use Rattle.float.specs.Floats.{zero⁺}
 use Rattle.outcome.specs.Outcome.{Outcome, answered, refused}
-use Rattle.dapc.specs.declared.Separation.{Separation}
+use Rattle.discriminant.specs.declared.Separation.{Separation}
 use Rattle.dapc.specs.Call.{dapcCall}
 use Rattle.judging.specs.declared.Assignment.{Assignment}
 use Rattle.judging.specs.declared.Assignment.the-variants.{Right, Withheld}

@@ -19,7 +19,7 @@ use Rattle.anova.specs.Anova.{anovaF}
 use Rattle.statistics.specs.declared.Statistic.{Statistic}
 use Rattle.statistics.specs.Hits.{statistic, hit}
 use Rattle.means.specs.Means.{Numbered, grouped}
-use Rattle.dapc.specs.Dapc.{Scores, axesOf, discriminate}
+use Rattle.discriminant.specs.Dapc.{Scores, axesOf, discriminate}
 use Rattle.dapc.specs.Call.{badCoordinate}
 use Rattle.judging.specs.declared.Assignment.{Assignment}
 use Rattle.judging.specs.declared.Assignment.the-variants.{Right, Withheld}

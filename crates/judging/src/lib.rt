@@ -10,8 +10,8 @@ ghost use Rattle.outcome.specs.Outcome.{Outcome};
 ghost use Rattle.lot.specs.Lot.{none};
 ghost use Rattle.members.specs.Members.{Grouped};
 ghost use Rattle.statistics.specs.Hits.{hit};
-ghost use Rattle.dapc.specs.Dapc.{discriminate};
-ghost use Rattle.dapc.specs.Call.{outcomeOf};
+ghost use Rattle.discriminant.specs.Dapc.{discriminate};
+ghost use Rattle.discriminant.specs.Outputs.{outcomeOf};
 ghost use Rattle.judging.specs.Assignments.{rightCount, asRight};
 ghost use Rattle.judging.specs.Judging.{locationBy, dispersionBy, placed, found, barredBy, assignmentBy, Prepared, Judged, Placing, locationHit, dispersionHit, assignmentHit, hitsOf};
 
@@ -152,12 +152,12 @@ fn place_way(each: &mut [u16], ks: &[u16], way: &[u16])
 }
 
 // The right count of what `dapc` answers.
-fn right_of(r: dapc::Answer) -> Assignment
+fn right_of(r: discriminant::Answer) -> Assignment
     ensures { λ a. ⌜ a ≡ rightCount (outcomeOf r) ⌝ }
 {
     match r {
-        dapc::Answer::Scored(s) => Assignment::Right(s.right),
-        dapc::Answer::Refused(_) => Assignment::Withheld,
+        discriminant::Answer::Scored(s) => Assignment::Right(s.right),
+        discriminant::Answer::Refused(_) => Assignment::Withheld,
     }
 }
 
@@ -179,7 +179,7 @@ fn assign_with(
     ensures { λ r. ⌜ r ≡ found (discriminate n columns lead (now (x .entry)) (placed n (now (ks .entry)) (now (way .entry))) g) ⌝ }
 {
     place_way(each, ks, way);
-    let r = dapc::discriminate(scores, assigned, x, each, columns, lead, m, g);
+    let r = separation::discriminate(scores, assigned, x, each, columns, lead, m, g);
     right_of(r)
 }
 

@@ -19,10 +19,10 @@ use Rattle.pcoa.specs.Call as pcoa
 use Rattle.gram.specs.declared.Answer as gram-answer
 use Rattle.gram.specs.declared.Answer.the-variants as features
 use Rattle.hash_pca.specs.Call as hashes
-use Rattle.dapc.specs.declared.Separation.{Separation}
-use Rattle.dapc.specs.declared.Answer as dapc-answer
-use Rattle.dapc.specs.declared.Answer.the-variants as scored
-use Rattle.dapc.specs.Call as dapc
+use Rattle.discriminant.specs.declared.Separation.{Separation}
+use Rattle.discriminant.specs.declared.Answer as dapc-answer
+use Rattle.discriminant.specs.declared.Answer.the-variants as scored
+use Rattle.discriminant.specs.Outputs as dapc
 use Rattle.lotjudge_c.specs.Exported.{code, codeOf, laid, pOf, given, selectedOf, testValues, testNumbers, exportTest, testExport, fOf, isFinite, rightOf, isAssigned, wayValues, wayNumbers, exportWays, waysExport, exportPcoa, pcoaExport, exportHashPca, hashPcaExport, dapcNumbers, exportDapc, dapcExport}
 
 -- ---- `test`

@@ -20,8 +20,8 @@ use Rattle.verdict.specs.declared.Judgement.{Judgement}
 use Rattle.exhaustive.specs.Call as ways
 use Rattle.pcoa.specs.Call as pcoa
 use Rattle.hash_pca.specs.Call as hashes
-use Rattle.dapc.specs.declared.Separation.{Separation}
-use Rattle.dapc.specs.Call as dapc
+use Rattle.discriminant.specs.declared.Separation.{Separation}
+use Rattle.discriminant.specs.Outputs as dapc
 
 -- 0, or the number of the line
 abbrev pub codeOf : Check → ℕ

@@ -1,6 +1,6 @@
 // The library for other languages (include/lotjudge.h): each operation on numbers and slices, with a number for its outcome: 0, or the refusal's.
 use chances::Chance;
-use dapc::Separation;
+use discriminant::Separation;
 use judging::Assignment;
 use outcome::Check;
 use outcome::number_of;
@@ -319,8 +319,8 @@ pub extern "C" fn lotjudge_dapc(
         ≡ exportDapc (dapcCall n columns (now (x .entry)) (now (labels .entry)) (now (out .entry)) (now (assigned .entry))) (now (numbers .entry)) ⌝ }
 {
     match dapc::dapc(x, n, columns, labels, out, assigned) {
-        dapc::Answer::Refused(e) => number_of(e),
-        dapc::Answer::Scored(s) => {
+        discriminant::Answer::Refused(e) => number_of(e),
+        discriminant::Answer::Scored(s) => {
             *numbers = dapc_numbers(s);
             0
         }

@@ -1,7 +1,7 @@
 // Holds `dapc` against a record of a replay file (oracle/README.md).
-use dapc::Answer;
-use dapc::Separation;
 use dapc::dapc;
+use discriminant::Answer;
+use discriminant::Separation;
 use outcome::number_of;
 use replay::Held;
 use replay::after;

@@ -23,7 +23,7 @@ use Rattle.statistics.specs.Warnings.{bit, leftOut}
 use Rattle.observation.specs.declared.Observed.{Observed}
 use Rattle.observation.specs.Observed.{observed}
 use Rattle.observation.specs.Room.{Weighed}
-use Rattle.dapc.specs.Dapc.{leading, axesOf}
+use Rattle.discriminant.specs.Dapc.{leading, axesOf}
 use Rattle.ways.specs.Onward.{HasRows}
 use Rattle.ways.proofs.Counts.{rows-below}
 use Rattle.judging.specs.declared.Assignment.{Assignment}

@@ -18,7 +18,7 @@ use Rattle.statistics.specs.Hits.{statistic}
 use Rattle.statistics.specs.Warnings.{bit, leftOut}
 use Rattle.observation.specs.declared.Observed.{Observed}
 use Rattle.observation.specs.Observed.{observed}
-use Rattle.dapc.specs.Dapc.{leading}
+use Rattle.discriminant.specs.Dapc.{leading}
 use Rattle.judging.specs.declared.Assignment.{Assignment}
 use Rattle.judging.specs.declared.Seen.{Seen}
 use Rattle.judging.specs.declared.Hits.{Hits}

@@ -16,7 +16,7 @@ ghost use Rattle.judging.specs.Judging.{Prepared, Placing};
 ghost use Rattle.walk.specs.Walked.{Walkable};
 ghost use Rattle.judging.specs.Judging.{barredBy, assignmentBy};
 ghost use Rattle.verdict.specs.Answered.{columnsOf, seenBy, countedBy, warnedBy, concluded, answerFor, meansFor, Ways, Kept};
-ghost use Rattle.dapc.specs.Dapc.{leading};
+ghost use Rattle.discriminant.specs.Dapc.{leading};
 
 // A statistic of the observed way, and how many ways are its hits.
 pub struct Tested {
@@ -213,7 +213,7 @@ fn count_kept(
         (columnsOf n) (leading (columnsOf n) m g) (barredBy (now (x .entry)) (leading (columnsOf n) m g)) o ⌝ }
 {
     let columns = pcoa::leading(8, n);
-    let lead = dapc::leading_of(columns, m, g);
+    let lead = discriminant::leading_of(columns, m, g);
     let barred = judging::is_barred(x, lead);
     count(
         rows,

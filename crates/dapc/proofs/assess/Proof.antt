@@ -7,7 +7,7 @@ use native.Mathlib.Omega.{arith}
 use borrow.Author.Needs.{needs}
 use lib.ListN.{length, take}
 use lib.Seq.{length-take-le}
-use Rattle.dapc.specs.Dapc.{discriminate}
+use Rattle.discriminant.specs.Dapc.{discriminate}
 use Rattle.lists.proofs.Writes.{take-over}
 use Rattle.lot.specs.Kept.{groupEach}
 use Rattle.dapc.proofs.Grouping.{length-each}

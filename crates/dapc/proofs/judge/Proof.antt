@@ -6,8 +6,9 @@ use Prim.Native.Nat.{ℕ, _-_}
 use native.Mathlib.Omega.{arith}
 use borrow.Author.Needs.{needs}
 use lib.ListN.{length}
-use Rattle.dapc.specs.Dapc.{axesOf, leading, dapc}
-use Rattle.dapc.specs.Call.{leaves, groupLines}
+use Rattle.discriminant.specs.Dapc.{axesOf, leading, dapc}
+use Rattle.discriminant.specs.Outputs.{leaves}
+use Rattle.dapc.specs.Call.{groupLines}
 use Rattle.lot.specs.Kept.{groupEach}
 use Rattle.lot.proofs.Fills.{filled-front, filled-part}
 use Rattle.lot.proofs.Samples.{names-few}

@@ -6,7 +6,7 @@ use borrow.Author.Needs.{needs}
 use lib.ListN.{length, length-replicate}
 use Rattle.lot.specs.Lot.{none}
 use Rattle.lists.specs.Numbers.{Below}
-use Rattle.dapc.specs.Dapc.{discriminate}
+use Rattle.discriminant.specs.Dapc.{discriminate}
 use Rattle.judging.proofs.Cases.{found-by, way-ready, way-found, placed-from}
 use Rattle.judging.proofs.assign_with.Statement.{statement}
 use Rattle.judging.proofs.assign_with.Tie as tie

@@ -1,0 +1,3 @@
+-- What the outputs hold at each step.
+pub mod Leading
+pub mod Outputs

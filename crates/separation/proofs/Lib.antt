@@ -1,0 +1,2 @@
+-- By the pivots, by the eigenpairs, and from the coordinates.
+pub mod Decided
