@@ -9,7 +9,7 @@ use Rattle.float.specs.Floats.{zero⁺, bits}
 use Rattle.float.proofs.Cases.{root-of-smallest, root-of-two}
 use Rattle.lists.specs.Filters.{any}
 use Rattle.lot.proofs.Cases as lot
-use Rattle.permanova.proofs.Cases as test
+use Rattle.sampled.proofs.Cases as test
 use Rattle.ways.proofs.Cases as ways
 use Rattle.gram.proofs.Cases.{case-j}
 use Rattle.jacobi.proofs.Cases.{diagonal-1-3}

@@ -7,10 +7,10 @@ use Rattle.outcome.specs.declared.Refusal.{Refusal}
 use Rattle.outcome.specs.declared.Check.{Check}
 use Rattle.outcome.specs.declared.Check.the-variants as check
 use Rattle.outcome.specs.Refusals.{number}
-use Rattle.permanova.specs.declared.TestResult.{TestResult}
-use Rattle.permanova.specs.declared.Answer as test-answer
-use Rattle.permanova.specs.declared.Answer.the-variants as tested
-use Rattle.permanova.specs.Call as test
+use Rattle.measurement.specs.declared.TestResult.{TestResult}
+use Rattle.sampled.specs.declared.Answer as test-answer
+use Rattle.sampled.specs.declared.Answer.the-variants as tested
+use Rattle.sampled.specs.Call as test
 use Rattle.verdict.specs.declared.Judgement.{Judgement}
 use Rattle.exhaustive.specs.declared.Answer as ways-answer
 use Rattle.exhaustive.specs.declared.Answer.the-variants as judged

@@ -10,8 +10,8 @@ use Rattle.outcome.specs.Refusals.{number}
 use Rattle.outcome.specs.Outcome.{Outcome, answered, refused}
 use Rattle.chances.specs.declared.Chance.{Chance}
 use Rattle.chances.specs.declared.Chance.the-variants.{P, NoP}
-use Rattle.permanova.specs.declared.TestResult.{TestResult}
-use Rattle.permanova.specs.Call as test
+use Rattle.measurement.specs.declared.TestResult.{TestResult}
+use Rattle.sampled.specs.Call as test
 use Rattle.statistics.specs.declared.Statistic.{Statistic}
 use Rattle.statistics.specs.declared.Statistic.the-variants.{Finite, Unbounded}
 use Rattle.judging.specs.declared.Assignment.{Assignment}

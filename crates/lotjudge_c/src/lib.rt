@@ -2,14 +2,14 @@
 use chances::Chance;
 use discriminant::Separation;
 use judging::Assignment;
+use measurement::TestResult;
 use outcome::Check;
 use outcome::number_of;
-use permanova::TestResult;
 use statistics::Statistic;
 use verdict::Judgement;
 ghost use mathlib.Core.Path.{_≡_};
 ghost use Rattle.lot.specs.Lot.{lotOf};
-ghost use Rattle.permanova.specs.Call.{slicesOf, testCall};
+ghost use Rattle.sampled.specs.Call.{slicesOf, testCall};
 ghost use Rattle.exhaustive.specs.Call as ways;
 ghost use Rattle.pcoa.specs.Call.{pcoaCall};
 ghost use Rattle.hash_pca.specs.Call.{hashPcaCall};
@@ -105,8 +105,8 @@ pub extern "C" fn lotjudge_test(
         pulls,
     );
     match r {
-        permanova::Answer::Refused(e) => number_of(e),
-        permanova::Answer::Tested(t) => {
+        sampled::Answer::Refused(e) => number_of(e),
+        sampled::Answer::Tested(t) => {
             *values = test_values(t);
             *numbers = test_numbers(t);
             0

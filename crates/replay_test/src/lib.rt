@@ -1,14 +1,14 @@
 // Holds `test` against a record of a replay file (oracle/README.md).
 use chances::Chance;
+use measurement::TestResult;
 use outcome::number_of;
-use permanova::Answer;
-use permanova::TestResult;
 use permanova::test;
 use replay::Held;
 use replay::after;
 use replay::product;
 use replay::same;
 use replay::word;
+use sampled::Answer;
 
 // ---- an answer
 

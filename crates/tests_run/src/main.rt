@@ -1,8 +1,8 @@
 // Calls of `test` at the edges of each refusal: for each its answer, then the outputs and what both work slices hold. Every slice holds 7 at first.
 use chances::Chance;
 use libc::STDOUT_FILENO;
-use permanova::Answer;
-use permanova::TestResult;
+use measurement::TestResult;
+use sampled::Answer;
 ghost use Prim.Native.Nat.{_≤_};
 
 // ---- what is printed

@@ -4,9 +4,9 @@ use mathlib.Core.Path.{_∙_}
 use Prim.Native.Nat.{_-_}
 use borrow.Author.Needs.{needs}
 use Rattle.lot.specs.Lot.{lotOf}
-use Rattle.permanova.specs.Call.{slicesOf}
-use Rattle.permanova.proofs.Lots.{accepted-call, accepted-room, kept-described, rooms}
-use Rattle.permanova.proofs.Whole.{call-answered}
+use Rattle.sampled.specs.Call.{slicesOf}
+use Rattle.sampled.proofs.Lots.{accepted-call, accepted-room, kept-described, rooms}
+use Rattle.sampled.proofs.Whole.{call-answered}
 use Rattle.permanova.proofs.run_lot.Statement.{statement}
 use Rattle.permanova.proofs.run_lot.Tie as tie
 

@@ -4,8 +4,8 @@ use mathlib.Core.Path.{refl, sym, _∙_}
 use Prim.Native.Nat.{_-_}
 use borrow.Author.Needs.{needs}
 use Rattle.lot.specs.Lot.{lotOf}
-use Rattle.permanova.specs.Call.{slicesOf}
-use Rattle.permanova.proofs.Whole.{checked, call-refused, call-passed}
+use Rattle.sampled.specs.Call.{slicesOf}
+use Rattle.sampled.proofs.Whole.{checked, call-refused, call-passed}
 use Rattle.permanova.proofs.test.Statement.{statement}
 use Rattle.permanova.proofs.test.Tie as tie
 

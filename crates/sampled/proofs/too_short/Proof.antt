@@ -1,12 +1,12 @@
--- `permanova::too_short` meets its contract. The slices in turn; from 2 ^ 32 on n times n is above every length.
+-- `sampled::too_short` meets its contract. The slices in turn; from 2 ^ 32 on n times n is above every length.
 -- Assumes nothing.
 use Prim.Native.Nat.{_*_, _-_, _≤_}
 use native.Mathlib.Nat.{mul-le-mul}
 use native.Mathlib.Omega.{arith}
 use borrow.Author.Needs.{needs}
-use Rattle.permanova.proofs.Lots.{short-labels, short-counts, short-means, short-terms, short-pulls}
-use Rattle.permanova.proofs.too_short.Statement.{statement}
-use Rattle.permanova.proofs.too_short.Tie as tie
+use Rattle.sampled.proofs.Lots.{short-labels, short-counts, short-means, short-terms, short-pulls}
+use Rattle.sampled.proofs.too_short.Statement.{statement}
+use Rattle.sampled.proofs.too_short.Tie as tie
 
 returns : tie.Need-returns
 returns c = short-labels (c .before .args .n) (c .before .args .names) (c .before .args .counts) (c .before .args .means) (c .before .args .terms) (c .before .args .pulls) (c .if1 .taken)

@@ -1,12 +1,12 @@
--- `permanova::conclude` meets its contract. The warnings fit a byte.
+-- `measurement::conclude` meets its contract. The warnings fit a byte.
 -- Assumes nothing.
 
 use Prim.Native.Nat.{_-_}
 use borrow.Author.Needs.{needs}
-use Rattle.permanova.specs.Measured.{concluded}
+use Rattle.measurement.specs.Measured.{concluded}
 use Rattle.chances.proofs.Alarms.{warnings-fit}
-use Rattle.permanova.proofs.conclude.Statement.{statement}
-use Rattle.permanova.proofs.conclude.Tie as tie
+use Rattle.measurement.proofs.conclude.Statement.{statement}
+use Rattle.measurement.proofs.conclude.Tie as tie
 
 fraction-requires : tie.Need-fraction-requires
 fraction-requires c κs = search needs

@@ -28,13 +28,13 @@ use Rattle.statistics.specs.Warnings.{uninformed, sizesOf, warned}
 use Rattle.observation.specs.Observed.{located, spread, observed}
 use Rattle.shuffles.specs.Shuffled.{hitsOf}
 use Rattle.shuffles.specs.Drawn.{drawn}
-use Rattle.permanova.specs.declared.TestResult.{TestResult}
-use Rattle.permanova.specs.declared.Answer.the-variants.{Tested, Refused}
-use Rattle.permanova.specs.Sampled.{partsOf, chanceOf, locationChance, dispersionChance}
-use Rattle.permanova.specs.Measured.{measured, concluded}
-use Rattle.permanova.specs.Answered.{answerFor, meansFor}
-use Rattle.permanova.specs.Call.{Slices, Called, slicesOf, tested, tooShort, testCheck, leaves, accepted, testCall, called}
-use Rattle.permanova.proofs.Lots.{kept-many, groups-many, strata-many, front-kept, front-groups, front-strata}
+use Rattle.measurement.specs.declared.TestResult.{TestResult}
+use Rattle.sampled.specs.declared.Answer.the-variants.{Tested, Refused}
+use Rattle.sampled.specs.Sampled.{partsOf, chanceOf, locationChance, dispersionChance}
+use Rattle.measurement.specs.Measured.{measured, concluded}
+use Rattle.kept_test.specs.Answered.{answerFor, meansFor}
+use Rattle.sampled.specs.Call.{Slices, Called, slicesOf, tested, tooShort, testCheck, leaves, accepted, testCall, called}
+use Rattle.sampled.proofs.Lots.{kept-many, groups-many, strata-many, front-kept, front-groups, front-strata}
 use Rattle.outcome.proofs.Table.{first-untouched}
 
 -- ---- what is answered for the kept samples of a lot is the answer for the lot

@@ -27,8 +27,8 @@ use Rattle.lot.proofs.Samples.{kept-below, kept-few, length-keptLabels, length-
 use Rattle.lot.proofs.Within.{groups-below, length-strata}
 use Rattle.lot.proofs.Fills.{filled-front}
 use Rattle.lot.proofs.Checks.{Passes, passes, passes-room}
-use Rattle.permanova.specs.Room.{Kept}
-use Rattle.permanova.specs.Call.{Slices, tooShort, testCheck}
+use Rattle.kept_test.specs.Room.{Kept}
+use Rattle.sampled.specs.Call.{Slices, tooShort, testCheck}
 
 -- ---- line 1, by the tests that the code makes
 

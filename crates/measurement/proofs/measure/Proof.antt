@@ -1,4 +1,4 @@
--- `permanova::measure` meets its contract. What is observed, the hits of the shuffles, and p of both.
+-- `measurement::measure` meets its contract. What is observed, the hits of the shuffles, and p of both.
 -- Assumes nothing.
 
 use mathlib.Core.Path.{ap, _∙_}
@@ -8,10 +8,10 @@ use borrow.Author.Needs.{needs}
 use Rattle.squares.specs.Squares.{terms}
 use Rattle.shuffles.specs.declared.Hits.{Hits}
 use Rattle.shuffles.specs.Drawn.{drawn}
-use Rattle.permanova.specs.Measured.{measured}
+use Rattle.measurement.specs.Measured.{measured}
 use Rattle.chances.proofs.Chances.{hits-few}
-use Rattle.permanova.proofs.measure.Statement.{statement}
-use Rattle.permanova.proofs.measure.Tie as tie
+use Rattle.measurement.proofs.measure.Statement.{statement}
+use Rattle.measurement.proofs.measure.Tie as tie
 
 observe-requires : tie.Need-observe-requires
 observe-requires c κs = search needs

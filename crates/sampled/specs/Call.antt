@@ -17,10 +17,10 @@ use Rattle.lot.specs.Lines.{testLines}
 use Rattle.anova.specs.Anova.{meanZ}
 use Rattle.statistics.specs.Statistics.{locationF, rSquaredOf, zOf, dispersionF}
 use Rattle.statistics.specs.Warnings.{sizesOf, warned}
-use Rattle.permanova.specs.declared.TestResult.{TestResult}
-use Rattle.permanova.specs.declared.Answer.{Answer}
-use Rattle.permanova.specs.declared.Answer.the-variants.{Tested, Refused}
-use Rattle.permanova.specs.Sampled.{locationChance, dispersionChance}
+use Rattle.measurement.specs.declared.TestResult.{TestResult}
+use Rattle.sampled.specs.declared.Answer.{Answer}
+use Rattle.sampled.specs.declared.Answer.the-variants.{Tested, Refused}
+use Rattle.sampled.specs.Sampled.{locationChance, dispersionChance}
 use Rattle.chances.specs.Together.{together}
 
 -- what an accepted lot is answered

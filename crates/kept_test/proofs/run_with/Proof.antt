@@ -1,4 +1,4 @@
--- `permanova::run_with` meets its contract. Weights, what is measured, and the answer.
+-- `kept_test::run_with` meets its contract. Weights, what is measured, and the answer.
 -- Assumes nothing.
 
 use mathlib.Core.Path.{sym, _∙_}
@@ -9,9 +9,9 @@ use Rattle.squares.specs.Squares.{terms, pulls}
 use lib.Seq.{length-take-le}
 use Rattle.lot.proofs.Informing.{informing-few}
 use Rattle.lot.proofs.Samples.{front-sizes}
-use Rattle.permanova.proofs.Answers.{answer-is, means-are}
-use Rattle.permanova.proofs.run_with.Statement.{statement}
-use Rattle.permanova.proofs.run_with.Tie as tie
+use Rattle.kept_test.proofs.Answers.{answer-is, means-are}
+use Rattle.kept_test.proofs.run_with.Statement.{statement}
+use Rattle.kept_test.proofs.run_with.Tie as tie
 
 weigh-requires : tie.Need-weigh-requires
 weigh-requires c κs = search needs

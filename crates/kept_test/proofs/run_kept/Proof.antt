@@ -1,4 +1,4 @@
--- `permanova::run_kept` meets its contract. 256 samples have room.
+-- `kept_test::run_kept` meets its contract. 256 samples have room.
 -- Assumes nothing.
 
 use mathlib.Core.Path.{sym}
@@ -6,8 +6,8 @@ use Prim.Native.Nat.{_-_}
 use native.Mathlib.Omega.{arith}
 use borrow.Author.Needs.{needs}
 use lib.Seq.{length-take-le}
-use Rattle.permanova.proofs.run_kept.Statement.{statement}
-use Rattle.permanova.proofs.run_kept.Tie as tie
+use Rattle.kept_test.proofs.run_kept.Statement.{statement}
+use Rattle.kept_test.proofs.run_kept.Tie as tie
 
 array-borrow-prefix-w : tie.Need-array-borrow-prefix-w
 array-borrow-prefix-w c = search needs

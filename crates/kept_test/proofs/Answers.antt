@@ -14,10 +14,10 @@ use Rattle.lot.specs.Strata.{informative}
 use Rattle.squares.specs.Squares.{weightAt, terms, pulls}
 use Rattle.dispersion.specs.Dispersion.{zOf}
 use Rattle.anova.specs.Anova.{meanZ}
-use Rattle.permanova.specs.declared.TestResult.{TestResult}
-use Rattle.permanova.specs.declared.Measured.{Measured}
-use Rattle.permanova.specs.Measured.{measured, concluded}
-use Rattle.permanova.specs.Answered.{answerFor, meansFor}
+use Rattle.measurement.specs.declared.TestResult.{TestResult}
+use Rattle.measurement.specs.declared.Measured.{Measured}
+use Rattle.measurement.specs.Measured.{measured, concluded}
+use Rattle.kept_test.specs.Answered.{answerFor, meansFor}
 
 module _ (d : List Float) (n : ℕ) (labels ks gs ss : List ℕ) (stratified weighted : Bool) (weights : List Float) (m g s seed k : ℕ)
     {w t p : List Float} (weighed : w ≡ map (weightAt weighted weights) ks) (termed : t ≡ terms d n ks (map (weightAt weighted weights) ks) m)

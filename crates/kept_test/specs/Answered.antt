@@ -9,8 +9,8 @@ use Rattle.lot.specs.Strata.{informative}
 use Rattle.squares.specs.Squares.{weightAt, terms, pulls}
 use Rattle.dispersion.specs.Dispersion.{zOf}
 use Rattle.anova.specs.Anova.{meanZ}
-use Rattle.permanova.specs.declared.TestResult.{TestResult}
-use Rattle.permanova.specs.Measured.{measured, concluded}
+use Rattle.measurement.specs.declared.TestResult.{TestResult}
+use Rattle.measurement.specs.Measured.{measured, concluded}
 
 unfoldable pub answerFor : List Float → ℕ → List ℕ → List ℕ → List ℕ → List ℕ → Bool → Bool → List Float → ℕ → ℕ → ℕ → ℕ → ℕ → TestResult
 answerFor d n labels ks gs ss stratified weighted weights m g s seed n-perm =

@@ -1,13 +1,13 @@
--- `permanova::run_front` meets its contract. The answer for the fronts, and both work slices are zero.
+-- `kept_test::run_front` meets its contract. The answer for the fronts, and both work slices are zero.
 -- Assumes nothing.
 use mathlib.Core.Path.{sym}
 use Prim.Native.Nat.{_*_, _-_}
 use borrow.Author.Needs.{needs}
 use lib.Seq.{length-take-le}
 use Rattle.float.specs.Floats.{zero⁺}
-use Rattle.permanova.proofs.Answers.{cleared-lent}
-use Rattle.permanova.proofs.run_front.Statement.{statement}
-use Rattle.permanova.proofs.run_front.Tie as tie
+use Rattle.kept_test.proofs.Answers.{cleared-lent}
+use Rattle.kept_test.proofs.run_front.Statement.{statement}
+use Rattle.kept_test.proofs.run_front.Tie as tie
 
 mul-k : tie.Need-mul-k
 mul-k c = search needs

@@ -12,8 +12,8 @@ use Rattle.statistics.specs.Hits.{statistic}
 use Rattle.statistics.specs.Warnings.{bit, leftOut}
 use Rattle.observation.specs.Observed.{observed}
 use Rattle.shuffles.specs.Drawn.{drawn}
-use Rattle.permanova.specs.declared.Measured.{Measured}
-use Rattle.permanova.specs.declared.TestResult.{TestResult}
+use Rattle.measurement.specs.declared.Measured.{Measured}
+use Rattle.measurement.specs.declared.TestResult.{TestResult}
 use Rattle.chances.specs.Chances.{chance}
 use Rattle.chances.specs.Together.{together}
 

@@ -1,0 +1,3 @@
+-- What is answered for kept samples.
+pub mod Room
+pub mod Answered

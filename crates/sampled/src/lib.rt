@@ -1,0 +1,41 @@
+// The sampled test (document 01, section 8): what is answered, and line 1 of the table.
+use measurement::TestResult;
+use outcome::Refusal;
+ghost use mathlib.Core.Path.{_≡_};
+ghost use Rattle.sampled.specs.Call.{tooShort};
+
+pub enum Answer {
+    Tested(TestResult),
+    Refused(Refusal),
+}
+
+// ---- the operation
+
+// Line 1, for outputs and work slices of these lengths.
+pub fn too_short(
+    n: usize,
+    names: usize,
+    counts: usize,
+    means: usize,
+    terms: usize,
+    pulls: usize,
+) -> bool
+    ensures { λ r. ⌜ r ≡ tooShort n names counts means terms pulls ⌝ }
+{
+    if names < n {
+        return true;
+    }
+    if counts < n {
+        return true;
+    }
+    if means < n {
+        return true;
+    }
+    if n >= 4294967296 {
+        return true;
+    }
+    if terms < n * n {
+        return true;
+    }
+    pulls < n * n
+}
