@@ -14,8 +14,8 @@ use Rattle.ways.proofs.Cases as ways
 use Rattle.gram.proofs.Cases.{case-j}
 use Rattle.jacobi.proofs.Cases.{diagonal-1-3}
 use Rattle.dapc.proofs.Cases.{case-l-nine, case-l-passes}
-use Rattle.exhaustive.specs.Settled.{Long}
-use Rattle.exhaustive.proofs.Cases as every
+use Rattle.every_way.specs.Call.{Long}
+use Rattle.every_way.proofs.Cases as every
 use Rattle.outcome.specs.Refusals.{codeOf}
 use Rattle.outcome.specs.Outcome.{code}
 use Rattle.chances.specs.Chances.{given}
@@ -34,7 +34,7 @@ long = record {
   rows = omega arith;
 }
 
-case-i : code (Rattle.exhaustive.specs.Call.outcomeOf (Rattle.cases.specs.Cases.halves 9) lent) ≡ 8
+case-i : code (Rattle.every_way.specs.Call.outcomeOf (Rattle.cases.specs.Cases.halves 9) lent) ≡ 8
 unfolding any le ofBits code
 case-i = ap code (every.case-i (replicate 324 zero⁺) lent refl refl long)
 

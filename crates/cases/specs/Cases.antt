@@ -20,8 +20,8 @@ use Rattle.jacobi.specs.Call.{jacobiCall}
 use Rattle.gram.specs.Gram.{gram}
 use Rattle.dapc.specs.Call.{groupLines}
 use Rattle.ways.specs.Ways.{wayCount}
-use Rattle.exhaustive.specs.Exhaustive.{locationHits, dispersionHits}
-use Rattle.exhaustive.specs.Call.{Slices, outcomeOf}
+use Rattle.every_way.specs.Exhaustive.{locationHits, dispersionHits}
+use Rattle.every_way.specs.Call.{Slices, outcomeOf}
 use Rattle.chances.specs.Chances.{given}
 
 -- ---- lots

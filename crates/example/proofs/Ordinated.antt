@@ -17,7 +17,7 @@ use Rattle.jacobi.specs.Eigen.{unit, identity, diagonal, eigenpairs, jacobi}
 use Rattle.topeigs.specs.TopEigs.{leading, topEigs}
 use Rattle.coordinates.specs.Centred.{squares, mean, rowMeans, centring, centredAt, centred}
 use Rattle.coordinates.specs.Pcoa.{ordinate, pcoa}
-use Rattle.exhaustive.specs.Exhaustive.{coordinates}
+use Rattle.every_way.specs.Exhaustive.{coordinates}
 use Rattle.example.proofs.Reading.{distances, lot}
 
 unfoldable pub answers : {A : Type 0} → Outcome A → Bool

@@ -44,8 +44,8 @@ use Rattle.judging.specs.declared.Assignment.the-variants.{Withheld}
 use Rattle.judging.specs.Assignments.{rightCount, assignment}
 use Rattle.judging.proofs.Cases.{none-seen}
 use Rattle.verdict.specs.declared.Judgement.{Judgement}
-use Rattle.exhaustive.specs.Exhaustive as every
-use Rattle.exhaustive.specs.Exhaustive.{locationOf, dispersionOf, assignmentOf, hits, locationHits, dispersionHits, assignmentHits, coordinates, exhaustive}
+use Rattle.every_way.specs.Exhaustive as every
+use Rattle.every_way.specs.Exhaustive.{locationOf, dispersionOf, assignmentOf, hits, locationHits, dispersionHits, assignmentHits, coordinates, exhaustive}
 use Rattle.judge.specs.Judge.{lines, judgement}
 use Rattle.example.proofs.Reading.{distances, lot}
 use Rattle.example.proofs.Ordinated.{answers, ordinated}

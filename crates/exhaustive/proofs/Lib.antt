@@ -1,9 +1,2 @@
--- The laws of the exhaustive test.
-pub mod Handed
-pub mod Ranked
-pub mod Same
-pub mod Lines
-pub mod Demand
-pub mod Settled
+-- A whole call of `exhaustive`.
 pub mod Whole
-pub mod Cases

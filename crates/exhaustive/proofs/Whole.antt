@@ -24,7 +24,7 @@ use Rattle.outcome.proofs.Table.{first-untouched}
 use Rattle.lists.proofs.Truths.{or-neither}
 use Rattle.lists.proofs.Counts.{count-cong}
 use Rattle.lists.proofs.Members.{member-any, member-getD}
-use Rattle.exhaustive.specs.declared.Answer.the-variants.{Refused}
+use Rattle.every_way.specs.declared.Answer.the-variants.{Refused}
 use Rattle.lot.specs.declared.Shape.{Shape}
 use Rattle.lot.specs.Lot.{Lot, none}
 use Rattle.lot.specs.Kept.{kept, names, groups, keptCount, groupCount}
@@ -58,11 +58,11 @@ use Rattle.judging.proofs.Assigned.{way-judged, assignment-way}
 use Rattle.walk.specs.Walked.{hitsAmong, Walkable}
 use Rattle.verdict.specs.declared.Judgement.{Judgement}
 use Rattle.verdict.specs.Answered.{columnsOf, seenBy, countedBy, warnedBy, concluded, answerFor, meansFor}
-use Rattle.exhaustive.specs.Exhaustive.{locationOf, dispersionOf, assignmentOf, hits, locationHits, dispersionHits, assignmentHits, judgement, coordinates, exhaustive}
-use Rattle.exhaustive.specs.Call.{Slices, Called, lengthsOf, lentOf, tooShort, early, lines, called, callIn, callBy, outcomeOf, exhaustiveCall}
-use Rattle.exhaustive.specs.Settled.{coordsOf, Sized, outcomeFor, callFew, Long, Ready}
-use Rattle.exhaustive.proofs.Same.{every-way}
-use Rattle.exhaustive.proofs.Settled.{columns-few}
+use Rattle.every_way.specs.Exhaustive.{locationOf, dispersionOf, assignmentOf, hits, locationHits, dispersionHits, assignmentHits, judgement, coordinates, exhaustive}
+use Rattle.every_way.specs.Call.{Slices, Called, Long, lengthsOf, lentOf, tooShort, early, lines, called, callIn, callBy, outcomeOf, exhaustiveCall}
+use Rattle.settling.specs.Settled.{coordsOf, Sized, outcomeFor, callFew, Ready}
+use Rattle.every_way.proofs.Same.{every-way}
+use Rattle.settling.proofs.Settled.{columns-few}
 
 -- ---- the answer for a lot's own kept samples
 

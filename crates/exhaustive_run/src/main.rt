@@ -1,5 +1,5 @@
 // Two lots: 8 and 8 samples in one stratum, and the example of document 01's section 7. For each M and the three hit counts.
-use exhaustive::Answer;
+use every_way::Answer;
 use libc::STDOUT_FILENO;
 use verdict::Judgement;
 

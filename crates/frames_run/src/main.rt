@@ -5,7 +5,7 @@
 ghost use mathlib.Core.Path.{_≡_};
 ghost use Prim.Native.Nat.{_+_, _<_, _≤_, min};
 ghost use lib.ListN.{length};
-use exhaustive::Answer;
+use every_way::Answer;
 use judging::Assignment;
 use libc::STDIN_FILENO;
 use libc::STDOUT_FILENO;

@@ -19,9 +19,9 @@ use Rattle.outcome.specs.Outcome.{Outcome, refused, judged, andThen}
 use Rattle.lot.specs.Lot.{Lot}
 use Rattle.lot.specs.Lines.{testLines}
 use Rattle.verdict.specs.declared.Judgement.{Judgement}
-use Rattle.exhaustive.specs.declared.Answer.{Answer}
-use Rattle.exhaustive.specs.Exhaustive.{exhaustive}
-use Rattle.exhaustive.specs.Call as test
+use Rattle.every_way.specs.declared.Answer.{Answer}
+use Rattle.every_way.specs.Exhaustive.{exhaustive}
+use Rattle.every_way.specs.Call as test
 use Rattle.frames.specs.Frames.{readLot}
 use Rattle.frames.specs.Fits.{Fits}
 use Rattle.frames.specs.Call.{readCall, called, fronts}

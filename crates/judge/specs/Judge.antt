@@ -11,7 +11,7 @@ use Rattle.lot.specs.Kept.{groupCount}
 use Rattle.lot.specs.Lines.{badDistance}
 use Rattle.ways.specs.Ways.{mostWays, wayCount}
 use Rattle.verdict.specs.declared.Judgement.{Judgement}
-use Rattle.exhaustive.specs.Exhaustive.{exhaustive}
+use Rattle.every_way.specs.Exhaustive.{exhaustive}
 use Rattle.frames.specs.Frames.{readLot}
 use Rattle.printing.specs.Printed.{printed}
 

@@ -5,14 +5,14 @@ ghost use Prim.Native.Nat.{_≤_};
 ghost use lib.ListN.{length};
 ghost use Rattle.outcome.specs.Outcome.{andThen};
 ghost use Rattle.lot.specs.Lot.{lotOf};
-ghost use Rattle.exhaustive.specs.Call.{answerOf};
+ghost use Rattle.every_way.specs.Call.{answerOf};
 ghost use Rattle.frames.specs.Frames.{readLot};
 ghost use Rattle.frames.specs.Call.{fronts};
 ghost use Rattle.frames.specs.Fits.{Fits};
 ghost use Rattle.frames.specs.Reached.{Room};
 ghost use Rattle.printing.specs.Printed.{page, onto};
 ghost use Rattle.judge.specs.Judge.{judgement, judgeText};
-use exhaustive::Answer;
+use every_way::Answer;
 use frames::Header;
 
 // What is found of a lot that was read; no weights are given.

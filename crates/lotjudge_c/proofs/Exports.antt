@@ -12,9 +12,9 @@ use Rattle.sampled.specs.declared.Answer as test-answer
 use Rattle.sampled.specs.declared.Answer.the-variants as tested
 use Rattle.sampled.specs.Call as test
 use Rattle.verdict.specs.declared.Judgement.{Judgement}
-use Rattle.exhaustive.specs.declared.Answer as ways-answer
-use Rattle.exhaustive.specs.declared.Answer.the-variants as judged
-use Rattle.exhaustive.specs.Call as ways
+use Rattle.every_way.specs.declared.Answer as ways-answer
+use Rattle.every_way.specs.declared.Answer.the-variants as judged
+use Rattle.every_way.specs.Call as ways
 use Rattle.pcoa.specs.Call as pcoa
 use Rattle.gram.specs.declared.Answer as gram-answer
 use Rattle.gram.specs.declared.Answer.the-variants as features

@@ -17,7 +17,7 @@ use Rattle.statistics.specs.declared.Statistic.the-variants.{Finite, Unbounded}
 use Rattle.judging.specs.declared.Assignment.{Assignment}
 use Rattle.judging.specs.declared.Assignment.the-variants.{Right, Withheld}
 use Rattle.verdict.specs.declared.Judgement.{Judgement}
-use Rattle.exhaustive.specs.Call as ways
+use Rattle.every_way.specs.Call as ways
 use Rattle.pcoa.specs.Call as pcoa
 use Rattle.hash_pca.specs.Call as hashes
 use Rattle.discriminant.specs.declared.Separation.{Separation}

@@ -10,7 +10,7 @@ use verdict::Judgement;
 ghost use mathlib.Core.Path.{_≡_};
 ghost use Rattle.lot.specs.Lot.{lotOf};
 ghost use Rattle.sampled.specs.Call.{slicesOf, testCall};
-ghost use Rattle.exhaustive.specs.Call as ways;
+ghost use Rattle.every_way.specs.Call as ways;
 ghost use Rattle.pcoa.specs.Call.{pcoaCall};
 ghost use Rattle.hash_pca.specs.Call.{hashPcaCall};
 ghost use Rattle.dapc.specs.Call.{dapcCall};
@@ -240,8 +240,8 @@ pub extern "C" fn lotjudge_exhaustive(
         rows,
     );
     match r {
-        exhaustive::Answer::Refused(e) => number_of(e),
-        exhaustive::Answer::Judged(j) => {
+        every_way::Answer::Refused(e) => number_of(e),
+        every_way::Answer::Judged(j) => {
             *values = way_values(j);
             *numbers = way_numbers(j);
             0

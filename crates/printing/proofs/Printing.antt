@@ -11,9 +11,9 @@ use Rattle.lists.specs.Writes.{over}
 use Rattle.lists.proofs.Writes.{over-none, over-next}
 use Rattle.outcome.specs.declared.Refusal.{Refusal}
 use Rattle.verdict.specs.declared.Judgement.{Judgement}
-use Rattle.exhaustive.specs.declared.Answer.{Answer}
-use Rattle.exhaustive.specs.declared.Answer.the-variants.{Judged, Refused}
-use Rattle.exhaustive.specs.Call.{answerOf}
+use Rattle.every_way.specs.declared.Answer.{Answer}
+use Rattle.every_way.specs.declared.Answer.the-variants.{Judged, Refused}
+use Rattle.every_way.specs.Call.{answerOf}
 use Rattle.printing.specs.Printed.{verdictLines, refusalLine, printed, page, onto}
 use Rattle.printing.specs.Hex.{digit, hex}
 use Rattle.printing.specs.Wrote.{Wrote}

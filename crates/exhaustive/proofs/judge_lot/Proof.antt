@@ -4,7 +4,7 @@ use mathlib.Core.Path.{sym}
 use Prim.Native.Nat.{_-_}
 use native.Mathlib.Omega.{arith}
 use lib.Seq.{length-take-le}
-use Rattle.exhaustive.specs.Call.{slicesOf}
+use Rattle.every_way.specs.Call.{slicesOf}
 use Rattle.exhaustive.proofs.Whole.{described-parts, ready-lot, call-lot, kept-room, shape-few}
 use Rattle.lot.specs.Lot.{lotOf}
 use Rattle.exhaustive.proofs.judge_lot.Statement.{statement}

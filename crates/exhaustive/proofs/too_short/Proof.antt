@@ -7,7 +7,7 @@ use borrow.Author.Needs.{needs}
 use Rattle.exhaustive.proofs.Whole.{short-at, not-here, last-short}
 use borrow.Author.Tests.{lt-ltb, le-ltb}
 use lib.Dec.{ltb}
-use Rattle.exhaustive.specs.Call.{lengthsOf}
+use Rattle.every_way.specs.Call.{lengthsOf}
 use Rattle.outcome.specs.Refusals.{short}
 use Rattle.lists.specs.Filters.{any}
 use Rattle.exhaustive.proofs.too_short.Statement.{statement}

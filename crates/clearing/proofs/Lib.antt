@@ -1,0 +1,2 @@
+-- The laws of slices that are cleared.
+pub mod Turned

@@ -1,0 +1,2 @@
+-- What is left by a call that is turned away.
+pub mod Turned

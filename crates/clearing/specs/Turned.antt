@@ -1,0 +1,25 @@
+-- A call that is turned away once lines 1 to 9 let it pass. Definitions only.
+use Prim.Native.Nat.{ℕ}
+use lib.ListN.{replicate}
+use Rattle.float.specs.Floats.{zero⁺}
+use Rattle.lists.specs.Writes.{over, cleared}
+use Rattle.outcome.specs.declared.Refusal.{Refusal}
+use Rattle.outcome.specs.Outcome.{refused}
+use Rattle.every_way.specs.Call.{Slices, Called}
+
+-- 11: the outputs' first part and all work are zero
+unfoldable pub turned : ℕ → Refusal → Slices → Called
+turned g r before = record {
+  answer = refused r;
+  after = record {
+    labels = over (replicate g 0) (before .labels);
+    counts = over (replicate g 0) (before .counts);
+    means = over (replicate g zero⁺) (before .means);
+    terms = cleared zero⁺ (before .terms);
+    pulls = cleared zero⁺ (before .pulls);
+    coords = cleared zero⁺ (before .coords);
+    room = cleared zero⁺ (before .room);
+    vectors = cleared zero⁺ (before .vectors);
+    rows = cleared 0 (before .rows);
+  };
+}

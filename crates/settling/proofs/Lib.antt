@@ -1,0 +1,2 @@
+-- The laws of calls on kept samples.
+pub mod Settled

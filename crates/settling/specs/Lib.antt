@@ -1,0 +1,2 @@
+-- Calls on kept samples.
+pub mod Settled
