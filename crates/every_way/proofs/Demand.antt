@@ -22,8 +22,8 @@ use Rattle.statistics.specs.Statistics.{locationF, dispersionF}
 use Rattle.statistics.specs.Statistics as statistics
 use Rattle.coordinates.specs.Finish.{Coordinates}
 use Rattle.ways.specs.Ways.{ways}
-use Rattle.judging.specs.declared.Assignment.{Assignment}
-use Rattle.judging.specs.Assignments.{asRight, isGiven}
+use Rattle.way_hits.specs.declared.Assignment.{Assignment}
+use Rattle.way_hits.specs.WayHits.{asRight, isGiven}
 use Rattle.verdict.specs.declared.Judgement.{Judgement}
 use Rattle.every_way.specs.Exhaustive.{locationOf, dispersionOf, assignmentOf, hits, locationHits, dispersionHits, assignmentHits, coordinates, judgement, exhaustive}
 use Rattle.every_way.specs.Call.{Slices, NoShorter, Called, lines, outcomeOf, callIn, callBy, exhaustiveCall}

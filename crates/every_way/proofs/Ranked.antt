@@ -19,9 +19,9 @@ use Rattle.statistics.specs.declared.Statistic.the-variants.{Finite, Unbounded}
 use Rattle.statistics.specs.Hits.{statistic, hit}
 use Rattle.ways.specs.Level.{KeepsLevel, Ranks}
 use Rattle.ways.proofs.Level.{level, always}
-use Rattle.judging.specs.declared.Assignment.{Assignment}
-use Rattle.judging.specs.declared.Assignment.the-variants.{Right, Withheld}
-use Rattle.judging.specs.Assignments.{asRight, isGiven}
+use Rattle.way_hits.specs.declared.Assignment.{Assignment}
+use Rattle.way_hits.specs.declared.Assignment.the-variants.{Right, Withheld}
+use Rattle.way_hits.specs.WayHits.{asRight, isGiven}
 
 leb-total : (a b : ℕ) → (leb a b ≡ true) ⊎ (leb b a ≡ true)
 leb-total a b = elim (decLe a b) [ yes h ↦ inl (le-leb a b h) | no h ↦ inr (le-leb b a (omega arith)) ]

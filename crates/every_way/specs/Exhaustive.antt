@@ -17,8 +17,9 @@ use Rattle.statistics.specs.Warnings.{warned}
 use Rattle.coordinates.specs.Finish.{Coordinates}
 use Rattle.coordinates.specs.Pcoa.{pcoa}
 use Rattle.ways.specs.Ways.{ways, wayCount}
-use Rattle.judging.specs.declared.Assignment.{Assignment}
-use Rattle.judging.specs.Assignments.{assignment, asRight}
+use Rattle.way_hits.specs.declared.Assignment.{Assignment}
+use Rattle.way_hits.specs.WayHits.{asRight}
+use Rattle.judging.specs.Assignments.{assignment}
 use Rattle.verdict.specs.declared.Judgement.{Judgement}
 use Rattle.verdict.specs.Answered.{columnsOf}
 

@@ -40,9 +40,9 @@ use Rattle.discriminant.specs.Dapc.{leading}
 use Rattle.discriminant.specs.Outputs.{leaves}
 use Rattle.dapc.specs.Call.{misfits, badCoordinate, shapeLines, groupLines, dapcLines, callBy, dapcCall}
 use Rattle.ways.specs.Ways.{spend, deal, waysOf, ways, sizeFactorials, labelFactorials, wayCountOf, wayCount}
-use Rattle.judging.specs.declared.Assignment.the-variants.{Withheld}
+use Rattle.way_hits.specs.declared.Assignment.the-variants.{Withheld}
 use Rattle.judging.specs.Assignments.{rightCount, assignment}
-use Rattle.judging.proofs.Cases.{none-seen}
+use Rattle.way_hits.proofs.WayHits.{none-seen}
 use Rattle.verdict.specs.declared.Judgement.{Judgement}
 use Rattle.every_way.specs.Exhaustive as every
 use Rattle.every_way.specs.Exhaustive.{locationOf, dispersionOf, assignmentOf, hits, locationHits, dispersionHits, assignmentHits, coordinates, exhaustive}

@@ -51,8 +51,9 @@ use Rattle.coordinates.specs.Pcoa.{pcoa}
 use Rattle.discriminant.specs.Dapc.{leading}
 use Rattle.dapc.proofs.Grouping.{half-groups}
 use Rattle.ways.specs.Ways.{mostWays, ways, wayCountOf, wayCount}
-use Rattle.judging.specs.declared.Assignment.{Assignment}
-use Rattle.judging.specs.Assignments.{assignment, asRight}
+use Rattle.way_hits.specs.declared.Assignment.{Assignment}
+use Rattle.way_hits.specs.WayHits.{asRight}
+use Rattle.judging.specs.Assignments.{assignment}
 use Rattle.judging.specs.Judging.{locationBy, dispersionBy, barredBy, assignmentBy, Judged}
 use Rattle.judging.proofs.Assigned.{way-judged, assignment-way}
 use Rattle.walk.specs.Walked.{hitsAmong, Walkable}

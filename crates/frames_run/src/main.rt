@@ -6,7 +6,6 @@ ghost use mathlib.Core.Path.{_≡_};
 ghost use Prim.Native.Nat.{_+_, _<_, _≤_, min};
 ghost use lib.ListN.{length};
 use every_way::Answer;
-use judging::Assignment;
 use libc::STDIN_FILENO;
 use libc::STDOUT_FILENO;
 use outcome::Refusal;
@@ -14,6 +13,7 @@ use statistics::Statistic;
 use verdict::Assigned;
 use verdict::Judgement;
 use verdict::Tested;
+use way_hits::Assignment;
 
 // The first n bytes of s.
 fn write_front(s: &[u8], n: usize) {

@@ -24,8 +24,8 @@ use Rattle.discriminant.specs.Dapc.{Scores, leading, axesOf, discriminate, dapc
 use Rattle.discriminant.specs.Outputs.{leaves}
 use Rattle.dapc.specs.Call.{misfits, badCoordinate, shapeLines, groupLines, dapcLines, callBy, dapcCall}
 use Rattle.dapc.proofs.Grouping.{grouped-kept, numbered-each}
-use Rattle.judging.specs.declared.Assignment.{Assignment}
-use Rattle.judging.specs.declared.Assignment.the-variants.{Right, Withheld}
+use Rattle.way_hits.specs.declared.Assignment.{Assignment}
+use Rattle.way_hits.specs.declared.Assignment.the-variants.{Right, Withheld}
 use Rattle.judging.specs.Assignments.{rightCount, assignment}
 use Rattle.judging.specs.Judging.{placed, found, barredBy, assignmentBy, Judged}
 use Rattle.judging.proofs.Cases.{answer-found}

@@ -1,10 +1,10 @@
 -- A way's assignment by cases, as the code takes it apart. Assumes nothing.
 use mathlib.Core.Path.{_≡_, refl, sym, ap, ap₂, subst, _∙_}
-use mathlib.Core.Bool.{Bool, true, false, _||_, cond}
+use mathlib.Core.Bool.{Bool, true, false, _||_}
 use mathlib.Core.List.{List}
 use Prim.Native.Nat.{ℕ, _+_, _*_, _≤_}
 use native.Mathlib.Omega.{arith}
-use lib.Dec.{leb, ltb}
+use lib.Dec.{ltb}
 use lib.ListN.{length, getD, set, replicate}
 use lib.Ieee.{Float}
 use Rattle.lists.specs.Loops.{inTurn}
@@ -19,14 +19,16 @@ use Rattle.means.specs.Means.{Numbered, grouped}
 use Rattle.discriminant.specs.Dapc.{Scores, axesOf, discriminate}
 use Rattle.discriminant.specs.Outputs.{Called, leaves, called, outcomeOf, Ready}
 use Rattle.dapc.specs.Call.{badCoordinate}
-use Rattle.judging.specs.declared.Assignment.{Assignment}
-use Rattle.judging.specs.declared.Assignment.the-variants.{Right, Withheld}
+use Rattle.way_hits.specs.declared.Assignment.{Assignment}
+use Rattle.way_hits.specs.declared.Assignment.the-variants.{Right, Withheld}
 use Rattle.statistics.specs.declared.Statistic.{Statistic}
 use Rattle.statistics.specs.Hits.{hit}
-use Rattle.judging.specs.declared.Seen.{Seen}
-use Rattle.judging.specs.declared.Hits.{Hits}
-use Rattle.judging.specs.Assignments.{rightCount, asRight}
-use Rattle.judging.specs.Judging.{placed, found, barredBy, assignmentBy, Prepared, Judged, Placing, hitsOf}
+use Rattle.way_hits.specs.declared.Seen.{Seen}
+use Rattle.way_hits.specs.declared.Hits.{Hits}
+use Rattle.way_hits.specs.WayHits.{asRight}
+use Rattle.judging.specs.Assignments.{rightCount}
+use Rattle.way_hits.specs.WayHits.{hitsOf}
+use Rattle.judging.specs.Judging.{placed, found, barredBy, assignmentBy, Prepared, Judged, Placing}
 
 -- ---- what `dapc` answers
 
@@ -111,25 +113,7 @@ module _ (n columns lead : ℕ) (x : List Float) (ks : List ℕ) (g : ℕ) (way 
 
 -- ---- hits
 
-pub none-seen : {o : Assignment} (s : Assignment) → o ≡ Withheld → false ≡ asRight o s
-unfolding asRight
-none-seen (Right r) e = rw e
-none-seen Withheld e = rw e
-
-pub none-found : {o s : Assignment} {r : ℕ} → o ≡ Right r → s ≡ Withheld → false ≡ asRight o s
-unfolding asRight
-none-found e f = rw (e, f)
-
-pub both-right : {o s : Assignment} {a b : ℕ} → o ≡ Right a → s ≡ Right b → leb a b ≡ asRight o s
-unfolding asRight
-both-right e f = rw (e, f)
-
-pub hits-are : {a b c : Bool} {x y z : ℕ} {a′ b′ c′ : Bool} → a ≡ a′ → b ≡ b′ → c ≡ c′ → x ≡ cond a 1 0 → y ≡ cond b 1 0 → z ≡ cond c 1 0
-    → record { location = x; dispersion = y; assignment = z } ≡ hitsOf a′ b′ c′
-unfolding hitsOf
-hits-are ea eb ec ex ey ez = rw (ex, ey, ez, ea, eb, ec)
-
--- the same with the statistics that were found
+-- with the statistics that were found
 pub hits-by : (observed found : Seen) {l d : Statistic} {a : Assignment} {r : Hits}
     → r ≡ hitsOf (hit (observed .location) (found .location)) (hit (observed .dispersion) (found .dispersion)) (asRight (observed .assignment) (found .assignment))
     → found .location ≡ l → found .dispersion ≡ d → found .assignment ≡ a → r ≡ hitsOf (hit (observed .location) l) (hit (observed .dispersion) d) (asRight (observed .assignment) a)

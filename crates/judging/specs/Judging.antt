@@ -21,11 +21,10 @@ use Rattle.statistics.specs.Hits.{statistic, hit}
 use Rattle.means.specs.Means.{Numbered, grouped}
 use Rattle.discriminant.specs.Dapc.{Scores, axesOf, discriminate}
 use Rattle.dapc.specs.Call.{badCoordinate}
-use Rattle.judging.specs.declared.Assignment.{Assignment}
-use Rattle.judging.specs.declared.Assignment.the-variants.{Right, Withheld}
-use Rattle.judging.specs.declared.Seen.{Seen}
-use Rattle.judging.specs.declared.Hits.{Hits}
-use Rattle.judging.specs.Assignments.{asRight}
+use Rattle.way_hits.specs.declared.Assignment.{Assignment}
+use Rattle.way_hits.specs.declared.Assignment.the-variants.{Right, Withheld}
+use Rattle.way_hits.specs.declared.Seen.{Seen}
+use Rattle.way_hits.specs.WayHits.{asRight}
 
 -- ---- the statistics
 
@@ -91,7 +90,7 @@ pub record Placing (n m g columns lead : ℕ) (x : List Float) (ks way : List �
   pub few : n ≤ 256
   pub room : axesOf g lead + n * axesOf g lead ≤ scores
 
--- ---- whether a way is a hit of what was seen, and 1 for each such
+-- ---- whether a way is a hit of what was seen
 
 abbrev pub locationHit : Seen → List Float → List Float → Float → ℕ → ℕ → List ℕ → Bool
 locationHit seen t w total m g way = hit (seen .location) (locationBy t w total m g way)
@@ -101,6 +100,3 @@ dispersionHit seen p t w m g way = hit (seen .dispersion) (dispersionBy p t w m 
 
 abbrev pub assignmentHit : Seen → Bool → ℕ → ℕ → ℕ → List Float → List ℕ → ℕ → List ℕ → Bool
 assignmentHit seen barred n columns lead x ks g way = asRight (seen .assignment) (assignmentBy barred n columns lead x ks g way)
-
-unfoldable pub hitsOf : Bool → Bool → Bool → Hits
-hitsOf a b c = record { location = cond a 1 0; dispersion = cond b 1 0; assignment = cond c 1 0 }

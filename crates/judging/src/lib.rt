@@ -1,39 +1,20 @@
 // Section 6: the three statistics of one way, from what is worked out once for all ways.
 use statistics::Statistic;
+use way_hits::Assignment;
+use way_hits::Hits;
+use way_hits::Seen;
 ghost use mathlib.Core.Path.{_≡_};
-ghost use mathlib.Core.Bool.{cond};
-ghost use Prim.Native.Nat.{_+_, _*_, _<_, _≤_};
+ghost use Prim.Native.Nat.{_*_, _≤_};
 ghost use lib.ListN.{length, getD, set, replicate};
 ghost use Rattle.lists.specs.Loops.{inTurn};
 ghost use Rattle.lists.specs.Numbers.{Below};
-ghost use Rattle.outcome.specs.Outcome.{Outcome};
 ghost use Rattle.lot.specs.Lot.{none};
 ghost use Rattle.members.specs.Members.{Grouped};
-ghost use Rattle.statistics.specs.Hits.{hit};
 ghost use Rattle.discriminant.specs.Dapc.{discriminate};
 ghost use Rattle.discriminant.specs.Outputs.{outcomeOf};
-ghost use Rattle.judging.specs.Assignments.{rightCount, asRight};
-ghost use Rattle.judging.specs.Judging.{locationBy, dispersionBy, placed, found, barredBy, assignmentBy, Prepared, Judged, Placing, locationHit, dispersionHit, assignmentHit, hitsOf};
-
-// How many kept samples were found to be in their own group, or none where `dapc` refuses.
-pub enum Assignment {
-    Right(usize),
-    Withheld,
-}
-
-// What is observed.
-pub struct Seen {
-    pub location: Statistic,
-    pub dispersion: Statistic,
-    pub assignment: Assignment,
-}
-
-// How many ways are hits of each.
-pub struct Hits {
-    pub location: usize,
-    pub dispersion: usize,
-    pub assignment: usize,
-}
+ghost use Rattle.judging.specs.Assignments.{rightCount};
+ghost use Rattle.way_hits.specs.WayHits.{hitsOf};
+ghost use Rattle.judging.specs.Judging.{locationBy, dispersionBy, placed, found, barredBy, assignmentBy, Prepared, Judged, Placing, locationHit, dispersionHit, assignmentHit};
 
 // ---- location and dispersion
 
@@ -231,25 +212,6 @@ pub fn assignment_of(
 
 // ---- hits
 
-// Whether a way's assignment is a hit of the observed one.
-fn as_right(observed: Assignment, found: Assignment) -> bool
-    ensures { λ r. ⌜ r ≡ asRight observed found ⌝ }
-{
-    let Assignment::Right(seen) = observed else {
-        return false;
-    };
-    let Assignment::Right(right) = found else {
-        return false;
-    };
-    seen <= right
-}
-
-fn one_if(yes: bool) -> usize
-    ensures { λ r. ⌜ r ≡ cond yes 1 0 ⌝ }
-{
-    if yes { 1 } else { 0 }
-}
-
 // The three statistics of a way.
 fn see(
     scores: &mut [f64],
@@ -277,26 +239,6 @@ fn see(
     let location = b.location;
     let dispersion = b.dispersion;
     Seen {
-        location,
-        dispersion,
-        assignment,
-    }
-}
-
-// Which of the three that were observed a way's own are hits of: 1 for each.
-fn hits_of(observed: Seen, found: Seen) -> Hits
-    ensures { λ r. ⌜ r ≡ hitsOf (hit (observed .location) (found .location)) (hit (observed .dispersion) (found .dispersion)) (asRight (observed .assignment) (found .assignment)) ⌝ }
-{
-    let a = observed.location;
-    let b = found.location;
-    let location = one_if(statistics::hit(a, b));
-    let c = observed.dispersion;
-    let d = found.dispersion;
-    let dispersion = one_if(statistics::hit(c, d));
-    let e = observed.assignment;
-    let f = found.assignment;
-    let assignment = one_if(as_right(e, f));
-    Hits {
         location,
         dispersion,
         assignment,
@@ -342,5 +284,5 @@ pub fn judge_way(
         lead,
         barred,
     );
-    hits_of(observed, found)
+    way_hits::hits_of(observed, found)
 }

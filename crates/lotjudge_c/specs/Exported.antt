@@ -14,8 +14,8 @@ use Rattle.measurement.specs.declared.TestResult.{TestResult}
 use Rattle.sampled.specs.Call as test
 use Rattle.statistics.specs.declared.Statistic.{Statistic}
 use Rattle.statistics.specs.declared.Statistic.the-variants.{Finite, Unbounded}
-use Rattle.judging.specs.declared.Assignment.{Assignment}
-use Rattle.judging.specs.declared.Assignment.the-variants.{Right, Withheld}
+use Rattle.way_hits.specs.declared.Assignment.{Assignment}
+use Rattle.way_hits.specs.declared.Assignment.the-variants.{Right, Withheld}
 use Rattle.verdict.specs.declared.Judgement.{Judgement}
 use Rattle.every_way.specs.Call as ways
 use Rattle.pcoa.specs.Call as pcoa

@@ -9,9 +9,9 @@ use Rattle.outcome.specs.Refusals.{number}
 use Rattle.outcome.specs.Outcome.{Outcome, answered, refused}
 use Rattle.statistics.specs.declared.Statistic.{Statistic}
 use Rattle.statistics.specs.declared.Statistic.the-variants.{Finite, Unbounded}
-use Rattle.judging.specs.declared.Assignment.{Assignment}
-use Rattle.judging.specs.declared.Assignment.the-variants.{Right, Withheld}
-use Rattle.judging.specs.Assignments.{rightOf}
+use Rattle.way_hits.specs.declared.Assignment.{Assignment}
+use Rattle.way_hits.specs.declared.Assignment.the-variants.{Right, Withheld}
+use Rattle.way_hits.specs.WayHits.{rightOf}
 use Rattle.verdict.specs.declared.Judgement.{Judgement}
 use Rattle.printing.specs.Hex.{hex, feed}
 

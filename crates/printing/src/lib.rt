@@ -5,16 +5,16 @@ ghost use Prim.Native.Nat.{_+_, _<_, _≤_};
 ghost use lib.ListN.{length};
 ghost use Rattle.every_way.specs.Call.{answerOf};
 ghost use Rattle.printing.specs.Hex.{digit, hex, feed};
-ghost use Rattle.judging.specs.Assignments.{rightOf};
+ghost use Rattle.way_hits.specs.WayHits.{rightOf};
 ghost use Rattle.printing.specs.Printed.{stateOf, patternOf, givenOf, testedLine, assignedLine, verdictLines, refusalLine, printed, page, onto};
 ghost use Rattle.printing.specs.Wrote.{Wrote};
 use every_way::Answer;
-use judging::Assignment;
 use outcome::Refusal;
 use statistics::Statistic;
 use verdict::Assigned;
 use verdict::Judgement;
 use verdict::Tested;
+use way_hits::Assignment;
 
 // ---- numbers
 

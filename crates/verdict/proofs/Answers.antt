@@ -26,9 +26,9 @@ use Rattle.observation.specs.Room.{Weighed}
 use Rattle.discriminant.specs.Dapc.{leading, axesOf}
 use Rattle.ways.specs.Onward.{HasRows}
 use Rattle.ways.proofs.Counts.{rows-below}
-use Rattle.judging.specs.declared.Assignment.{Assignment}
-use Rattle.judging.specs.declared.Seen.{Seen}
-use Rattle.judging.specs.declared.Hits.{Hits}
+use Rattle.way_hits.specs.declared.Assignment.{Assignment}
+use Rattle.way_hits.specs.declared.Seen.{Seen}
+use Rattle.way_hits.specs.declared.Hits.{Hits}
 use Rattle.judging.specs.Judging.{barredBy, assignmentBy, Prepared, Judged, Placing, locationHit, dispersionHit, assignmentHit}
 use Rattle.judging.proofs.Cases.{prepared-placing}
 use Rattle.walk.specs.Walked.{hitsAmong, Walkable}

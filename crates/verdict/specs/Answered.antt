@@ -19,9 +19,9 @@ use Rattle.statistics.specs.Warnings.{bit, leftOut}
 use Rattle.observation.specs.declared.Observed.{Observed}
 use Rattle.observation.specs.Observed.{observed}
 use Rattle.discriminant.specs.Dapc.{leading}
-use Rattle.judging.specs.declared.Assignment.{Assignment}
-use Rattle.judging.specs.declared.Seen.{Seen}
-use Rattle.judging.specs.declared.Hits.{Hits}
+use Rattle.way_hits.specs.declared.Assignment.{Assignment}
+use Rattle.way_hits.specs.declared.Seen.{Seen}
+use Rattle.way_hits.specs.declared.Hits.{Hits}
 use Rattle.judging.specs.Judging.{Judged, barredBy, assignmentBy, locationHit, dispersionHit, assignmentHit}
 use Rattle.walk.specs.Walked.{hitsAmong, Walkable}
 use Rattle.verdict.specs.declared.Judgement.{Judgement}

@@ -1,9 +1,9 @@
 // Section 6: what is answered for the kept samples of a lot, over every way of their labels within strata.
-use judging::Assignment;
-use judging::Hits;
-use judging::Seen;
 use observation::Observed;
 use statistics::Statistic;
+use way_hits::Assignment;
+use way_hits::Hits;
+use way_hits::Seen;
 ghost use mathlib.Core.Path.{_≡_};
 ghost use mathlib.Core.List.{map};
 ghost use Prim.Native.Nat.{_+_, _*_, _<_, _≤_};

@@ -10,7 +10,7 @@ use Rattle.ways.specs.Ways.{mostWays}
 use Rattle.ways.specs.Onward.{HasRows, tallies, onward, Ahead}
 use Rattle.ways.proofs.Turns.{reached-ways, onward-count, ahead-ways}
 use Rattle.ways.proofs.Counts.{length-tallies}
-use Rattle.judging.specs.declared.Hits.{Hits}
+use Rattle.way_hits.specs.declared.Hits.{Hits}
 use Rattle.judging.specs.Judging.{Judged}
 use Rattle.walk.specs.Walked.{Walked, hitsAmong, Walkable}
 

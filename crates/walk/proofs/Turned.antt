@@ -6,8 +6,8 @@ use Prim.Native.Nat.{ℕ, _+_, _≤_, _<_}
 use lib.ListN.{length, getD, set}
 use Rattle.ways.specs.Onward.{onward, HasRows, tallies}
 use Rattle.ways.proofs.Turns.{place, taken, Turn, so-far, so-far-none, turns-counted, empty-counted, placed-counted, placed-fits, reached-leaf, reached-ways}
-use Rattle.judging.specs.declared.Hits.{Hits}
-use Rattle.judging.specs.Judging.{hitsOf}
+use Rattle.way_hits.specs.declared.Hits.{Hits}
+use Rattle.way_hits.specs.WayHits.{hitsOf}
 use Rattle.walk.specs.Walked.{Walked, hitsAmong}
 
 -- what the labels below j have brought

@@ -8,7 +8,7 @@ use Rattle.lists.specs.Filters.{countIf}
 use Rattle.lists.specs.Numbers.{Below}
 use Rattle.ways.specs.Ways.{waysOf, wayCountOf, mostWays}
 use Rattle.ways.specs.Onward.{reached}
-use Rattle.judging.specs.declared.Hits.{Hits}
+use Rattle.way_hits.specs.declared.Hits.{Hits}
 use Rattle.judging.specs.Judging.{Judged}
 
 -- of the ways to go on

@@ -1,6 +1,6 @@
 // Section 6: one walk over all ways that counts the hits of three statistics.
-use judging::Hits;
-use judging::Seen;
+use way_hits::Hits;
+use way_hits::Seen;
 ghost use mathlib.Core.Path.{_≡_};
 ghost use Prim.Native.Nat.{_≤_, _<_, _^_};
 ghost use lib.ListN.{length, take};

@@ -1,13 +1,13 @@
--- `judging::hits_of` meets its contract. Three tests.
+-- `way_hits::hits_of` meets its contract. Three tests.
 -- Assumes nothing.
 use Prim.Native.Nat.{_-_}
 use borrow.Author.Needs.{needs}
 use Rattle.statistics.specs.Hits.{hit}
-use Rattle.judging.proofs.Cases.{hits-are}
+use Rattle.way_hits.proofs.WayHits.{hits-are}
 use Rattle.statistics.specs.Hits.{hit}
-use Rattle.judging.proofs.Cases.{hits-are}
-use Rattle.judging.proofs.hits_of.Statement.{statement}
-use Rattle.judging.proofs.hits_of.Tie as tie
+use Rattle.way_hits.proofs.WayHits.{hits-are}
+use Rattle.way_hits.proofs.hits_of.Statement.{statement}
+use Rattle.way_hits.proofs.hits_of.Tie as tie
 
 hit-requires : tie.Need-hit-requires
 hit-requires c κs = search needs

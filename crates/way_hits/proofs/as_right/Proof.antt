@@ -1,13 +1,11 @@
--- `judging::as_right` meets its contract. Case by case of the two.
+-- `way_hits::as_right` meets its contract. Case by case of the two.
 -- Assumes nothing.
 use Prim.Native.Nat.{_-_}
 use borrow.Author.Needs.{needs}
-use Rattle.judging.specs.Judging.{found}
-use Rattle.judging.proofs.Cases.{none-seen, none-found, both-right}
-use Rattle.judging.specs.Judging.{found}
-use Rattle.judging.proofs.Cases.{none-seen, none-found, both-right}
-use Rattle.judging.proofs.as_right.Statement.{statement}
-use Rattle.judging.proofs.as_right.Tie as tie
+use Rattle.way_hits.proofs.WayHits.{none-seen, none-found, both-right}
+use Rattle.way_hits.proofs.WayHits.{none-seen, none-found, both-right}
+use Rattle.way_hits.proofs.as_right.Statement.{statement}
+use Rattle.way_hits.proofs.as_right.Tie as tie
 
 enum-known-observed : tie.Need-enum-known-observed
 enum-known-observed c = search needs

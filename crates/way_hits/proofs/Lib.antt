@@ -1,0 +1,2 @@
+-- The laws of hits.
+pub mod WayHits

@@ -1,0 +1,26 @@
+-- Hits by cases, as the code takes them apart. Assumes nothing.
+use mathlib.Core.Path.{_≡_}
+use mathlib.Core.Bool.{Bool, false, cond}
+use Prim.Native.Nat.{ℕ}
+use lib.Dec.{leb}
+use Rattle.way_hits.specs.declared.Assignment.{Assignment}
+use Rattle.way_hits.specs.declared.Assignment.the-variants.{Right, Withheld}
+use Rattle.way_hits.specs.WayHits.{asRight, hitsOf}
+
+pub none-seen : {o : Assignment} (s : Assignment) → o ≡ Withheld → false ≡ asRight o s
+unfolding asRight
+none-seen (Right r) e = rw e
+none-seen Withheld e = rw e
+
+pub none-found : {o s : Assignment} {r : ℕ} → o ≡ Right r → s ≡ Withheld → false ≡ asRight o s
+unfolding asRight
+none-found e f = rw (e, f)
+
+pub both-right : {o s : Assignment} {a b : ℕ} → o ≡ Right a → s ≡ Right b → leb a b ≡ asRight o s
+unfolding asRight
+both-right e f = rw (e, f)
+
+pub hits-are : {a b c : Bool} {x y z : ℕ} {a′ b′ c′ : Bool} → a ≡ a′ → b ≡ b′ → c ≡ c′ → x ≡ cond a 1 0 → y ≡ cond b 1 0 → z ≡ cond c 1 0
+    → record { location = x; dispersion = y; assignment = z } ≡ hitsOf a′ b′ c′
+unfolding hitsOf
+hits-are ea eb ec ex ey ez = rw (ex, ey, ez, ea, eb, ec)
