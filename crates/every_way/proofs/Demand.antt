@@ -24,7 +24,7 @@ use Rattle.coordinates.specs.Finish.{Coordinates}
 use Rattle.ways.specs.Ways.{ways}
 use Rattle.way_hits.specs.declared.Assignment.{Assignment}
 use Rattle.way_hits.specs.WayHits.{asRight, isGiven}
-use Rattle.verdict.specs.declared.Judgement.{Judgement}
+use Rattle.judgement.specs.declared.Judgement.{Judgement}
 use Rattle.every_way.specs.Exhaustive.{locationOf, dispersionOf, assignmentOf, hits, locationHits, dispersionHits, assignmentHits, coordinates, judgement, exhaustive}
 use Rattle.every_way.specs.Call.{Slices, NoShorter, Called, lines, outcomeOf, callIn, callBy, exhaustiveCall}
 use Rattle.every_way.specs.Level.{Exact, Accepted, passes, calls, Level, Demand3}

@@ -18,7 +18,7 @@ use Rattle.anova.specs.Anova.{meanZ}
 use Rattle.statistics.specs.Statistics.{zOf}
 use Rattle.statistics.specs.Warnings.{sizesOf}
 use Rattle.ways.specs.Ways.{mostWays, wayCount}
-use Rattle.verdict.specs.declared.Judgement.{Judgement}
+use Rattle.judgement.specs.declared.Judgement.{Judgement}
 use Rattle.every_way.specs.declared.Answer.{Answer}
 use Rattle.every_way.specs.declared.Answer.the-variants.{Judged, Refused}
 use Rattle.every_way.specs.Exhaustive.{exhaustive}

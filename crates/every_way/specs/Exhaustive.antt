@@ -20,7 +20,7 @@ use Rattle.ways.specs.Ways.{ways, wayCount}
 use Rattle.way_hits.specs.declared.Assignment.{Assignment}
 use Rattle.way_hits.specs.WayHits.{asRight}
 use Rattle.judging.specs.Assignments.{assignment}
-use Rattle.verdict.specs.declared.Judgement.{Judgement}
+use Rattle.judgement.specs.declared.Judgement.{Judgement}
 use Rattle.verdict.specs.Answered.{columnsOf}
 
 -- ---- for each way

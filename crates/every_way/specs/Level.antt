@@ -15,7 +15,7 @@ use Rattle.coordinates.specs.Finish.{Coordinates}
 use Rattle.ways.specs.Ways.{ways, wayCount, mostWays}
 use Rattle.ways.specs.Every.{Every}
 use Rattle.way_hits.specs.WayHits.{asRight, isGiven}
-use Rattle.verdict.specs.declared.Judgement.{Judgement}
+use Rattle.judgement.specs.declared.Judgement.{Judgement}
 use Rattle.every_way.specs.Exhaustive.{locationOf, dispersionOf, assignmentOf, hits, coordinates}
 use Rattle.every_way.specs.Call.{Slices, NoShorter, Called, exhaustiveCall}
 

@@ -1,6 +1,6 @@
 // Section 6 of document 01: what the exhaustive test answers.
+use judgement::Judgement;
 use outcome::Refusal;
-use verdict::Judgement;
 
 pub enum Answer {
     Judged(Judgement),

@@ -43,7 +43,7 @@ use Rattle.ways.specs.Ways.{spend, deal, waysOf, ways, sizeFactorials, labelFac
 use Rattle.way_hits.specs.declared.Assignment.the-variants.{Withheld}
 use Rattle.judging.specs.Assignments.{rightCount, assignment}
 use Rattle.way_hits.proofs.WayHits.{none-seen}
-use Rattle.verdict.specs.declared.Judgement.{Judgement}
+use Rattle.judgement.specs.declared.Judgement.{Judgement}
 use Rattle.every_way.specs.Exhaustive as every
 use Rattle.every_way.specs.Exhaustive.{locationOf, dispersionOf, assignmentOf, hits, locationHits, dispersionHits, assignmentHits, coordinates, exhaustive}
 use Rattle.judge.specs.Judge.{lines, judgement}

@@ -57,8 +57,9 @@ use Rattle.judging.specs.Assignments.{assignment}
 use Rattle.judging.specs.Judging.{locationBy, dispersionBy, barredBy, assignmentBy, Judged}
 use Rattle.judging.proofs.Assigned.{way-judged, assignment-way}
 use Rattle.walk.specs.Walked.{hitsAmong, Walkable}
-use Rattle.verdict.specs.declared.Judgement.{Judgement}
-use Rattle.verdict.specs.Answered.{columnsOf, seenBy, countedBy, warnedBy, concluded, answerFor, meansFor}
+use Rattle.judgement.specs.declared.Judgement.{Judgement}
+use Rattle.judgement.specs.Concluded.{warnedBy, concluded}
+use Rattle.verdict.specs.Answered.{columnsOf, seenBy, countedBy, answerFor, meansFor}
 use Rattle.every_way.specs.Exhaustive.{locationOf, dispersionOf, assignmentOf, hits, locationHits, dispersionHits, assignmentHits, judgement, coordinates, exhaustive}
 use Rattle.every_way.specs.Call.{Slices, Called, Long, lengthsOf, lentOf, tooShort, early, lines, called, callIn, callBy, outcomeOf, exhaustiveCall}
 use Rattle.settling.specs.Settled.{coordsOf, Sized, outcomeFor, callFew, Ready}

@@ -1,7 +1,7 @@
 // Two lots: 8 and 8 samples in one stratum, and the example of document 01's section 7. For each M and the three hit counts.
 use every_way::Answer;
+use judgement::Judgement;
 use libc::STDOUT_FILENO;
-use verdict::Judgement;
 
 const DISTANCES: [f64; 256] = [
     0.000,

@@ -6,13 +6,13 @@ ghost use mathlib.Core.Path.{_≡_};
 ghost use Prim.Native.Nat.{_+_, _<_, _≤_, min};
 ghost use lib.ListN.{length};
 use every_way::Answer;
+use judgement::Assigned;
+use judgement::Judgement;
+use judgement::Tested;
 use libc::STDIN_FILENO;
 use libc::STDOUT_FILENO;
 use outcome::Refusal;
 use statistics::Statistic;
-use verdict::Assigned;
-use verdict::Judgement;
-use verdict::Tested;
 use way_hits::Assignment;
 
 // The first n bytes of s.

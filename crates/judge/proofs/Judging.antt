@@ -18,7 +18,7 @@ use Rattle.outcome.specs.Refusals.{first, short}
 use Rattle.outcome.specs.Outcome.{Outcome, refused, judged, andThen}
 use Rattle.lot.specs.Lot.{Lot}
 use Rattle.lot.specs.Lines.{testLines}
-use Rattle.verdict.specs.declared.Judgement.{Judgement}
+use Rattle.judgement.specs.declared.Judgement.{Judgement}
 use Rattle.every_way.specs.declared.Answer.{Answer}
 use Rattle.every_way.specs.Exhaustive.{exhaustive}
 use Rattle.every_way.specs.Call as test

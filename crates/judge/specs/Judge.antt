@@ -10,7 +10,7 @@ use Rattle.lot.specs.Lot.{Lot}
 use Rattle.lot.specs.Kept.{groupCount}
 use Rattle.lot.specs.Lines.{badDistance}
 use Rattle.ways.specs.Ways.{mostWays, wayCount}
-use Rattle.verdict.specs.declared.Judgement.{Judgement}
+use Rattle.judgement.specs.declared.Judgement.{Judgement}
 use Rattle.every_way.specs.Exhaustive.{exhaustive}
 use Rattle.frames.specs.Frames.{readLot}
 use Rattle.printing.specs.Printed.{printed}

@@ -11,7 +11,7 @@ use Rattle.measurement.specs.declared.TestResult.{TestResult}
 use Rattle.sampled.specs.declared.Answer as test-answer
 use Rattle.sampled.specs.declared.Answer.the-variants as tested
 use Rattle.sampled.specs.Call as test
-use Rattle.verdict.specs.declared.Judgement.{Judgement}
+use Rattle.judgement.specs.declared.Judgement.{Judgement}
 use Rattle.every_way.specs.declared.Answer as ways-answer
 use Rattle.every_way.specs.declared.Answer.the-variants as judged
 use Rattle.every_way.specs.Call as ways

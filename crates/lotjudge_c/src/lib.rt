@@ -1,11 +1,11 @@
 // The library for other languages (include/lotjudge.h): each operation on numbers and slices, with a number for its outcome: 0, or the refusal's.
 use chances::Chance;
 use discriminant::Separation;
+use judgement::Judgement;
 use measurement::TestResult;
 use outcome::Check;
 use outcome::number_of;
 use statistics::Statistic;
-use verdict::Judgement;
 use way_hits::Assignment;
 ghost use mathlib.Core.Path.{_≡_};
 ghost use Rattle.lot.specs.Lot.{lotOf};

@@ -10,7 +10,7 @@ use lib.Seq.{sets, length-sets}
 use Rattle.lists.specs.Writes.{over}
 use Rattle.lists.proofs.Writes.{over-none, over-next}
 use Rattle.outcome.specs.declared.Refusal.{Refusal}
-use Rattle.verdict.specs.declared.Judgement.{Judgement}
+use Rattle.judgement.specs.declared.Judgement.{Judgement}
 use Rattle.every_way.specs.declared.Answer.{Answer}
 use Rattle.every_way.specs.declared.Answer.the-variants.{Judged, Refused}
 use Rattle.every_way.specs.Call.{answerOf}

@@ -12,7 +12,7 @@ use Rattle.statistics.specs.declared.Statistic.the-variants.{Finite, Unbounded}
 use Rattle.way_hits.specs.declared.Assignment.{Assignment}
 use Rattle.way_hits.specs.declared.Assignment.the-variants.{Right, Withheld}
 use Rattle.way_hits.specs.WayHits.{rightOf}
-use Rattle.verdict.specs.declared.Judgement.{Judgement}
+use Rattle.judgement.specs.declared.Judgement.{Judgement}
 use Rattle.printing.specs.Hex.{hex, feed}
 
 -- 01 finite, 00 unbounded; F's bits, 0 if unbounded

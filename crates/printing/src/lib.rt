@@ -9,11 +9,11 @@ ghost use Rattle.way_hits.specs.WayHits.{rightOf};
 ghost use Rattle.printing.specs.Printed.{stateOf, patternOf, givenOf, testedLine, assignedLine, verdictLines, refusalLine, printed, page, onto};
 ghost use Rattle.printing.specs.Wrote.{Wrote};
 use every_way::Answer;
+use judgement::Assigned;
+use judgement::Judgement;
+use judgement::Tested;
 use outcome::Refusal;
 use statistics::Statistic;
-use verdict::Assigned;
-use verdict::Judgement;
-use verdict::Tested;
 use way_hits::Assignment;
 
 // ---- numbers

@@ -15,7 +15,7 @@ use Rattle.lot.specs.Kept.{sizes}
 use Rattle.coordinates.specs.Finish.{Coordinates}
 use Rattle.coordinates.specs.Pcoa.{pcoa}
 use Rattle.ways.specs.Ways.{mostWays, wayCountOf}
-use Rattle.verdict.specs.declared.Judgement.{Judgement}
+use Rattle.judgement.specs.declared.Judgement.{Judgement}
 use Rattle.verdict.specs.Answered.{columnsOf, answerFor, meansFor, Kept}
 use Rattle.every_way.specs.Call.{Slices, Called, Long, callIn}
 

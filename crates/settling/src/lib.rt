@@ -1,7 +1,7 @@
 // The exhaustive test of kept samples (document 01, section 6): ordination, once for all ways, and the answer by its coordinates.
 use every_way::Answer;
+use judgement::Judgement;
 use outcome::Check;
-use verdict::Judgement;
 ghost use mathlib.Core.Path.{_≡_};
 ghost use Prim.Native.Nat.{_+_, _*_, _≤_};
 ghost use lib.ListN.{length};

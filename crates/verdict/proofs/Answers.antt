@@ -1,16 +1,12 @@
 -- What is seen, counted and answered, from its parts. Assumes nothing.
 use mathlib.Core.Path.{_≡_, refl, sym, ap, ap₂, subst, _∙_}
-use mathlib.Core.Bool.{Bool, not, _&&_}
-use mathlib.Core.List.{List, [], _∷_, map}
+use mathlib.Core.Bool.{Bool}
+use mathlib.Core.List.{List, map}
 use Prim.Native.Nat.{ℕ, _+_, _-_, _*_, _≤_, _<_, min}
 use native.Mathlib.Nat.{min-le-left, min-le-right, mul-le-mul}
 use native.Mathlib.Omega.{arith}
-use lib.Dec.{eqb, ltb}
 use lib.ListN.{length}
-use lib.Ieee.{Float, lt}
-use Rattle.float.specs.Floats.{_⊘_, num, 0·5}
-use Rattle.lists.specs.Filters.{any}
-use Rattle.lists.specs.Numbers.{addUp}
+use lib.Ieee.{Float}
 use Rattle.lists.specs.Writes.{over}
 use Rattle.lot.specs.Kept.{sizes}
 use Rattle.lot.specs.Strata.{informative}
@@ -19,7 +15,6 @@ use Rattle.dispersion.specs.Dispersion.{zOf}
 use Rattle.anova.specs.Anova.{meanZ}
 use Rattle.statistics.specs.declared.Statistic.{Statistic}
 use Rattle.statistics.specs.Hits.{statistic}
-use Rattle.statistics.specs.Warnings.{bit, leftOut}
 use Rattle.observation.specs.declared.Observed.{Observed}
 use Rattle.observation.specs.Observed.{observed}
 use Rattle.observation.specs.Room.{Weighed}
@@ -32,9 +27,10 @@ use Rattle.way_hits.specs.declared.Hits.{Hits}
 use Rattle.judging.specs.Judging.{barredBy, assignmentBy, Prepared, Judged, Placing, locationHit, dispersionHit, assignmentHit}
 use Rattle.judging.proofs.Cases.{prepared-placing}
 use Rattle.walk.specs.Walked.{hitsAmong, Walkable}
-use Rattle.verdict.specs.declared.Counted.{Counted}
-use Rattle.verdict.specs.declared.Judgement.{Judgement}
-use Rattle.verdict.specs.Answered.{columnsOf, seenBy, countedBy, warnedBy, concluded, answerFor, meansFor, Ways, Kept}
+use Rattle.judgement.specs.declared.Counted.{Counted}
+use Rattle.judgement.specs.declared.Judgement.{Judgement}
+use Rattle.judgement.specs.Concluded.{concluded}
+use Rattle.verdict.specs.Answered.{columnsOf, seenBy, countedBy, answerFor, meansFor, Ways, Kept}
 
 -- ---- what is seen and counted
 
@@ -63,47 +59,6 @@ counted-by t p w x ks gs ss n m g o {columns} {lead} ec el eb e =
     ∙ ap (λ (b : Bool). countedBy t p w x ks gs ss n m g columns lead b o) eb
     ∙ ap (λ (l : ℕ). countedBy t p w x ks gs ss n m g columns l (barredBy x l) o) el
     ∙ ap (λ (c : ℕ). countedBy t p w x ks gs ss n m g c (leading c m g) (barredBy x (leading c m g)) o) ec
-
--- ---- the answer
-
-pub warned-is : (labels : List ℕ) (stratified : Bool) (informing : ℕ) (fraction : Float) (counts : List ℕ) (negative : Bool) {left none few small : Bool} {r : ℕ}
-    → left ≡ leftOut labels → none ≡ (stratified && eqb informing 0) → few ≡ (lt fraction 0·5 && not (eqb informing 0)) → small ≡ any (λ c. ltb c 5) counts
-    → r ≡ addUp (bit 1 left ∷ bit 2 none ∷ bit 4 few ∷ bit 8 small ∷ bit 16 negative ∷ []) → r ≡ warnedBy labels stratified informing fraction counts negative
-unfolding warnedBy
-warned-is labels stratified informing fraction counts negative el en ef es e =
-    e ∙ (λ i. addUp (bit 1 (el i) ∷ bit 2 (en i) ∷ bit 4 (ef i) ∷ bit 8 (es i) ∷ bit 16 negative ∷ []))
-
-module _ (labels ss gs counts : List ℕ) (stratified : Bool) (m g ways : ℕ) (o : Observed) (c : Counted) (es : length ss ≡ m) where
-  pub concluded-is : {informing : ℕ} {fraction : Float} {warnings : ℕ} → informing ≡ informative ss gs (length ss) → fraction ≡ num informing ⊘ num m
-      → warnings ≡ warnedBy labels stratified informing fraction counts (o .negative)
-      → record {
-        n = m;
-        «n_groups» = g;
-        ways = ways;
-        location = record { statistic = c .seen .location; hits = c .hits .location };
-        r2 = o .r2;
-        dispersion = record { statistic = c .seen .dispersion; hits = c .hits .dispersion };
-        assigned = record { assignment = c .seen .assignment; hits = c .hits .assignment };
-        «informative_fraction» = fraction;
-        warnings = warnings;
-      } ≡ concluded labels stratified m g ways (informative ss gs m) counts o c
-  unfolding concluded
-  concluded-is {informing} ei ef ew =
-      let same : informing ≡ informative ss gs m = ei ∙ ap (informative ss gs) es in
-      let made : ℕ → Float → ℕ → Judgement = λ informing fraction warnings. record {
-        n = m;
-        «n_groups» = g;
-        ways = ways;
-        location = record { statistic = c .seen .location; hits = c .hits .location };
-        r2 = o .r2;
-        dispersion = record { statistic = c .seen .dispersion; hits = c .hits .dispersion };
-        assigned = record { assignment = c .seen .assignment; hits = c .hits .assignment };
-        «informative_fraction» = fraction;
-        warnings = warnings;
-      } in
-      ap (made 0 _) ew
-      ∙ ap (λ (f : Float). made 0 f (warnedBy labels stratified informing f counts (o .negative))) ef
-      ∙ ap (λ (k : ℕ). made 0 (num k ⊘ num m) (warnedBy labels stratified k (num k ⊘ num m) counts (o .negative))) same
 
 -- ---- what is asked
 

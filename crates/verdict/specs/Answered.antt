@@ -1,21 +1,17 @@
 -- What is answered for kept samples ks in groups gs and strata ss, with coordinates x of all n. Definitions and statements only.
 use mathlib.Core.Path.{_≡_}
-use mathlib.Core.Bool.{Bool, true, not, _&&_}
-use mathlib.Core.List.{List, [], _∷_, map}
+use mathlib.Core.Bool.{Bool, true}
+use mathlib.Core.List.{List, map}
 use Prim.Native.Nat.{ℕ, _+_, _*_, _≤_, min}
-use lib.Dec.{eqb, ltb}
 use lib.ListN.{length}
-use lib.Ieee.{Float, lt}
-use Rattle.float.specs.Floats.{_⊘_, num, 0·5}
-use Rattle.lists.specs.Filters.{any}
-use Rattle.lists.specs.Numbers.{addUp, Below}
+use lib.Ieee.{Float}
+use Rattle.lists.specs.Numbers.{Below}
 use Rattle.lot.specs.Kept.{sizes}
 use Rattle.lot.specs.Strata.{informative}
 use Rattle.squares.specs.Squares.{weightAt, terms, pulls}
 use Rattle.dispersion.specs.Dispersion.{zOf}
 use Rattle.anova.specs.Anova.{meanZ}
 use Rattle.statistics.specs.Hits.{statistic}
-use Rattle.statistics.specs.Warnings.{bit, leftOut}
 use Rattle.observation.specs.declared.Observed.{Observed}
 use Rattle.observation.specs.Observed.{observed}
 use Rattle.discriminant.specs.Dapc.{leading}
@@ -24,8 +20,9 @@ use Rattle.way_hits.specs.declared.Seen.{Seen}
 use Rattle.way_hits.specs.declared.Hits.{Hits}
 use Rattle.judging.specs.Judging.{Judged, barredBy, assignmentBy, locationHit, dispersionHit, assignmentHit}
 use Rattle.walk.specs.Walked.{hitsAmong, Walkable}
-use Rattle.verdict.specs.declared.Judgement.{Judgement}
-use Rattle.verdict.specs.declared.Counted.{Counted}
+use Rattle.judgement.specs.declared.Judgement.{Judgement}
+use Rattle.judgement.specs.declared.Counted.{Counted}
+use Rattle.judgement.specs.Concluded.{concluded}
 
 -- `pcoa` has 8 components, or n where n is less
 abbrev pub columnsOf : ℕ → ℕ
@@ -45,32 +42,7 @@ countedBy t p w x ks gs ss n m g columns lead barred o =
           hitsAmong (locationHit seen t w (o .total) m g) (dispersionHit seen p t w m g) (assignmentHit seen barred n columns lead x ks g) g ss gs;
     }
 
--- warning bits 0 to 4
-unfoldable pub warnedBy : List ℕ → Bool → ℕ → Float → List ℕ → Bool → ℕ
-warnedBy labels stratified informing fraction counts negative = addUp (
-    bit 1 (leftOut labels)
-    ∷ bit 2 (stratified && eqb informing 0)
-    ∷ bit 4 (lt fraction 0·5 && not (eqb informing 0))
-    ∷ bit 8 (any (λ c. ltb c 5) counts)
-    ∷ bit 16 negative
-    ∷ [])
-
 -- the answer
-unfoldable pub concluded : List ℕ → Bool → ℕ → ℕ → ℕ → ℕ → List ℕ → Observed → Counted → Judgement
-concluded labels stratified m g ways informing counts o c =
-    let fraction = num informing ⊘ num m in
-    record {
-      n = m;
-      «n_groups» = g;
-      ways = ways;
-      location = record { statistic = c .seen .location; hits = c .hits .location };
-      r2 = o .r2;
-      dispersion = record { statistic = c .seen .dispersion; hits = c .hits .dispersion };
-      assigned = record { assignment = c .seen .assignment; hits = c .hits .assignment };
-      «informative_fraction» = fraction;
-      warnings = warnedBy labels stratified informing fraction counts (o .negative);
-    }
-
 unfoldable pub answerFor : List Float → ℕ → List ℕ → List ℕ → List ℕ → List ℕ → List Float → Bool → Bool → List Float → ℕ → ℕ → ℕ → Judgement
 answerFor d n labels ks gs ss x stratified weighted weights m g ways =
     let w = map (weightAt weighted weights) ks in

@@ -1,13 +1,13 @@
--- `verdict::conclude` meets its contract. The parts are put together.
+-- `judgement::conclude` meets its contract. The parts are put together.
 -- Assumes nothing.
 use Prim.Native.Nat.{_-_}
 use native.Mathlib.Omega.{arith}
 use borrow.Author.Needs.{needs}
 use lib.ListN.{length}
 use Rattle.lot.proofs.Informing.{informing-few}
-use Rattle.verdict.proofs.Answers.{concluded-is}
-use Rattle.verdict.proofs.conclude.Statement.{statement}
-use Rattle.verdict.proofs.conclude.Tie as tie
+use Rattle.judgement.proofs.Concluded.{concluded-is}
+use Rattle.judgement.proofs.conclude.Statement.{statement}
+use Rattle.judgement.proofs.conclude.Tie as tie
 
 informative-requires : tie.Need-informative-requires
 informative-requires c κs = search needs

@@ -1,10 +1,10 @@
--- `verdict::warn` meets its contract. Five bits.
+-- `judgement::warn` meets its contract. Five bits.
 -- Assumes nothing.
 use Prim.Native.Nat.{_-_}
 use borrow.Author.Needs.{needs}
-use Rattle.verdict.proofs.Answers.{warned-is}
-use Rattle.verdict.proofs.warn.Statement.{statement}
-use Rattle.verdict.proofs.warn.Tie as tie
+use Rattle.judgement.proofs.Concluded.{warned-is}
+use Rattle.judgement.proofs.warn.Statement.{statement}
+use Rattle.judgement.proofs.warn.Tie as tie
 
 left-out-requires : tie.Need-left-out-requires
 left-out-requires c κs = search needs

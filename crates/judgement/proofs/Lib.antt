@@ -1,0 +1,2 @@
+-- The answer from its parts.
+pub mod Concluded
