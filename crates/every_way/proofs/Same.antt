@@ -24,9 +24,8 @@ use Rattle.coordinates.specs.Finish.{Coordinates}
 use Rattle.ways.specs.Ways.{ways, wayCount}
 use Rattle.ways.specs.Every.{Every}
 use Rattle.ways.proofs.Every as every
-use Rattle.judging.specs.Assignments.{assignment}
+use Rattle.judging.specs.Assignments.{assignment, columnsOf}
 use Rattle.every_way.specs.Exhaustive.{locationOf, dispersionOf, assignmentOf, coordinates, judgement, exhaustive}
-use Rattle.verdict.specs.Answered.{columnsOf}
 use Rattle.every_way.proofs.Handed.{handed-again}
 
 -- ---- the ways of a lot

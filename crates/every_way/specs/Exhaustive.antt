@@ -19,9 +19,8 @@ use Rattle.coordinates.specs.Pcoa.{pcoa}
 use Rattle.ways.specs.Ways.{ways, wayCount}
 use Rattle.way_hits.specs.declared.Assignment.{Assignment}
 use Rattle.way_hits.specs.WayHits.{asRight}
-use Rattle.judging.specs.Assignments.{assignment}
+use Rattle.judging.specs.Assignments.{assignment, columnsOf}
 use Rattle.judgement.specs.declared.Judgement.{Judgement}
-use Rattle.verdict.specs.Answered.{columnsOf}
 
 -- ---- for each way
 

@@ -9,7 +9,7 @@ use borrow.Author.Tests.{ltb-false}
 use lib.Dec.{ltb}
 use lib.ListN.{length, getD, take}
 use lib.Ieee.{Float}
-use Rattle.lists.specs.Filters.{countIf, any}
+use Rattle.lists.specs.Filters.{countIf, any, all}
 use Rattle.lists.specs.Numbers.{howMany, Below}
 use Rattle.outcome.specs.declared.Refusal.{Refusal}
 use Rattle.outcome.specs.declared.Refusal.the-variants.{Ways}
@@ -18,7 +18,6 @@ use Rattle.outcome.specs.declared.Check.the-variants as check
 use Rattle.outcome.specs.Refusals.{Line, Lent, _when_, first, short, _of_}
 use Rattle.outcome.specs.Outcome.{Outcome, answered, refused, judged, andThen}
 use Rattle.outcome.specs.Slices.{untouched, output, work}
-use Rattle.lists.specs.Filters.{all}
 use Rattle.lists.proofs.Writes.{take-over}
 use Rattle.outcome.proofs.Table.{first-untouched}
 use Rattle.lists.proofs.Truths.{or-neither}
@@ -53,13 +52,13 @@ use Rattle.dapc.proofs.Grouping.{half-groups}
 use Rattle.ways.specs.Ways.{mostWays, ways, wayCountOf, wayCount}
 use Rattle.way_hits.specs.declared.Assignment.{Assignment}
 use Rattle.way_hits.specs.WayHits.{asRight}
-use Rattle.judging.specs.Assignments.{assignment}
+use Rattle.judging.specs.Assignments.{assignment, columnsOf}
 use Rattle.judging.specs.Judging.{locationBy, dispersionBy, barredBy, assignmentBy, Judged}
 use Rattle.judging.proofs.Assigned.{way-judged, assignment-way}
 use Rattle.walk.specs.Walked.{hitsAmong, Walkable}
 use Rattle.judgement.specs.declared.Judgement.{Judgement}
 use Rattle.judgement.specs.Concluded.{warnedBy, concluded}
-use Rattle.verdict.specs.Answered.{columnsOf, seenBy, countedBy, answerFor, meansFor}
+use Rattle.verdict.specs.Answered.{seenBy, countedBy, answerFor, meansFor}
 use Rattle.every_way.specs.Exhaustive.{locationOf, dispersionOf, assignmentOf, hits, locationHits, dispersionHits, assignmentHits, judgement, coordinates, exhaustive}
 use Rattle.every_way.specs.Call.{Slices, Called, Long, lengthsOf, lentOf, tooShort, early, lines, called, callIn, callBy, outcomeOf, exhaustiveCall}
 use Rattle.settling.specs.Settled.{coordsOf, Sized, outcomeFor, callFew, Ready}

@@ -25,9 +25,8 @@ use Rattle.statistics.specs.declared.Statistic.{Statistic}
 use Rattle.statistics.specs.Hits.{hit}
 use Rattle.way_hits.specs.declared.Seen.{Seen}
 use Rattle.way_hits.specs.declared.Hits.{Hits}
-use Rattle.way_hits.specs.WayHits.{asRight}
+use Rattle.way_hits.specs.WayHits.{asRight, hitsOf}
 use Rattle.judging.specs.Assignments.{rightCount}
-use Rattle.way_hits.specs.WayHits.{hitsOf}
 use Rattle.judging.specs.Judging.{placed, found, barredBy, assignmentBy, Prepared, Judged, Placing}
 
 -- ---- what `dapc` answers

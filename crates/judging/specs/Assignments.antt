@@ -1,5 +1,5 @@
 -- Section 6: the assignment of labels by `dapc`. Definitions only.
-use Prim.Native.Nat.{ℕ, _+_, _*_}
+use Prim.Native.Nat.{ℕ, _+_, _*_, min}
 use mathlib.Core.List.{List}
 use lib.ListN.{replicate}
 use lib.Ieee.{Float}
@@ -9,6 +9,10 @@ use Rattle.discriminant.specs.declared.Separation.{Separation}
 use Rattle.dapc.specs.Call.{dapcCall}
 use Rattle.way_hits.specs.declared.Assignment.{Assignment}
 use Rattle.way_hits.specs.declared.Assignment.the-variants.{Right, Withheld}
+
+-- `pcoa` has 8 components, or n where n is less
+abbrev pub columnsOf : ℕ → ℕ
+columnsOf n = min 8 n
 
 -- the right count of what `dapc` answers, or none where it refuses
 unfoldable pub rightCount : Outcome Separation → Assignment

@@ -29,7 +29,8 @@ use Rattle.pcoa.proofs.Call.{late-pcoa, ordinate-min}
 use Rattle.ways.specs.Ways.{mostWays, wayCountOf, capped}
 use Rattle.ways.proofs.Number.{many-ways}
 use Rattle.judgement.specs.declared.Judgement.{Judgement}
-use Rattle.verdict.specs.Answered.{columnsOf, answerFor, meansFor, Kept}
+use Rattle.judging.specs.Assignments.{columnsOf}
+use Rattle.verdict.specs.Answered.{answerFor, meansFor, Kept}
 use Rattle.every_way.specs.declared.Answer.the-variants.{Judged, Refused}
 use Rattle.every_way.specs.Call.{Slices, Called, callIn, slicesOf, called}
 use Rattle.clearing.specs.Turned.{turned}

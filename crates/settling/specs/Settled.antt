@@ -16,7 +16,8 @@ use Rattle.coordinates.specs.Finish.{Coordinates}
 use Rattle.coordinates.specs.Pcoa.{pcoa}
 use Rattle.ways.specs.Ways.{mostWays, wayCountOf}
 use Rattle.judgement.specs.declared.Judgement.{Judgement}
-use Rattle.verdict.specs.Answered.{columnsOf, answerFor, meansFor, Kept}
+use Rattle.judging.specs.Assignments.{columnsOf}
+use Rattle.verdict.specs.Answered.{answerFor, meansFor, Kept}
 use Rattle.every_way.specs.Call.{Slices, Called, Long, callIn}
 
 -- ---- the coordinates

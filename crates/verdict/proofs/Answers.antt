@@ -30,7 +30,8 @@ use Rattle.walk.specs.Walked.{hitsAmong, Walkable}
 use Rattle.judgement.specs.declared.Counted.{Counted}
 use Rattle.judgement.specs.declared.Judgement.{Judgement}
 use Rattle.judgement.specs.Concluded.{concluded}
-use Rattle.verdict.specs.Answered.{columnsOf, seenBy, countedBy, answerFor, meansFor, Ways, Kept}
+use Rattle.judging.specs.Assignments.{columnsOf}
+use Rattle.verdict.specs.Answered.{seenBy, countedBy, answerFor, meansFor, Ways, Kept}
 
 -- ---- what is seen and counted
 

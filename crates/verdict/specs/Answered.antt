@@ -2,7 +2,7 @@
 use mathlib.Core.Path.{_≡_}
 use mathlib.Core.Bool.{Bool, true}
 use mathlib.Core.List.{List, map}
-use Prim.Native.Nat.{ℕ, _+_, _*_, _≤_, min}
+use Prim.Native.Nat.{ℕ, _+_, _*_, _≤_}
 use lib.ListN.{length}
 use lib.Ieee.{Float}
 use Rattle.lists.specs.Numbers.{Below}
@@ -18,15 +18,12 @@ use Rattle.discriminant.specs.Dapc.{leading}
 use Rattle.way_hits.specs.declared.Assignment.{Assignment}
 use Rattle.way_hits.specs.declared.Seen.{Seen}
 use Rattle.way_hits.specs.declared.Hits.{Hits}
+use Rattle.judging.specs.Assignments.{columnsOf}
 use Rattle.judging.specs.Judging.{Judged, barredBy, assignmentBy, locationHit, dispersionHit, assignmentHit}
 use Rattle.walk.specs.Walked.{hitsAmong, Walkable}
 use Rattle.judgement.specs.declared.Judgement.{Judgement}
 use Rattle.judgement.specs.declared.Counted.{Counted}
 use Rattle.judgement.specs.Concluded.{concluded}
-
--- `pcoa` has 8 components, or n where n is less
-abbrev pub columnsOf : ℕ → ℕ
-columnsOf n = min 8 n
 
 -- the statistics of what is observed
 unfoldable pub seenBy : Observed → Assignment → Seen

@@ -9,10 +9,10 @@ ghost use lib.ListN.{length};
 ghost use Rattle.lists.specs.Writes.{over};
 ghost use Rattle.lot.specs.Kept.{sizes};
 ghost use Rattle.ways.specs.Onward.{HasRows};
-ghost use Rattle.judging.specs.Judging.{Prepared, Placing};
+ghost use Rattle.judging.specs.Judging.{Prepared, Placing, barredBy, assignmentBy};
 ghost use Rattle.walk.specs.Walked.{Walkable};
-ghost use Rattle.judging.specs.Judging.{barredBy, assignmentBy};
-ghost use Rattle.verdict.specs.Answered.{columnsOf, seenBy, countedBy, answerFor, meansFor, Ways, Kept};
+ghost use Rattle.judging.specs.Assignments.{columnsOf};
+ghost use Rattle.verdict.specs.Answered.{seenBy, countedBy, answerFor, meansFor, Ways, Kept};
 ghost use Rattle.discriminant.specs.Dapc.{leading};
 
 // ---- all ways

@@ -3,8 +3,7 @@ use statistics::Statistic;
 ghost use mathlib.Core.Path.{_≡_};
 ghost use mathlib.Core.Bool.{cond};
 ghost use Rattle.statistics.specs.Hits.{hit};
-ghost use Rattle.way_hits.specs.WayHits.{asRight};
-ghost use Rattle.way_hits.specs.WayHits.{hitsOf};
+ghost use Rattle.way_hits.specs.WayHits.{asRight, hitsOf};
 
 // How many kept samples were found to be in their own group, or none where `dapc` refuses.
 pub enum Assignment {

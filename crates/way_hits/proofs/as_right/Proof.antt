@@ -3,7 +3,6 @@
 use Prim.Native.Nat.{_-_}
 use borrow.Author.Needs.{needs}
 use Rattle.way_hits.proofs.WayHits.{none-seen, none-found, both-right}
-use Rattle.way_hits.proofs.WayHits.{none-seen, none-found, both-right}
 use Rattle.way_hits.proofs.as_right.Statement.{statement}
 use Rattle.way_hits.proofs.as_right.Tie as tie
 

@@ -4,8 +4,6 @@ use Prim.Native.Nat.{_-_}
 use borrow.Author.Needs.{needs}
 use Rattle.statistics.specs.Hits.{hit}
 use Rattle.way_hits.proofs.WayHits.{hits-are}
-use Rattle.statistics.specs.Hits.{hit}
-use Rattle.way_hits.proofs.WayHits.{hits-are}
 use Rattle.way_hits.proofs.hits_of.Statement.{statement}
 use Rattle.way_hits.proofs.hits_of.Tie as tie
 
