@@ -21,10 +21,11 @@ use Rattle.outcome.specs.Slices.{output}
 use Rattle.moments.specs.Moments.{Filled, grouped, meanOf, groupMeans, scatterWithin, scatterBetween, ridged}
 use Rattle.cholesky.specs.Cholesky.{factor, pivotFails, whitened}
 use Rattle.rotation.specs.Rotation.{turned}
-use Rattle.rotation.specs.Sweeps.{sweepsFrom}
+use Rattle.diagonal.specs.Sweeps.{sweepsFrom}
 use Rattle.jacobi.specs.declared.Answer as jacobi-answer
 use Rattle.jacobi.specs.declared.Answer.the-variants as jacobi-answers
-use Rattle.jacobi.specs.Eigen.{Eigen, identity, diagonal, eigenpairs, jacobi}
+use Rattle.jacobi.specs.Eigen.{Eigen, eigenpairs, jacobi}
+use Rattle.diagonal.specs.Diagonal.{identity, diagonal}
 use Rattle.jacobi.specs.Call.{eigenOf}
 use Rattle.dapc.specs.Dapc.{Scores, assign, separated, discriminate}
 use Rattle.dapc.specs.Call.{Called, refusal, leaves}
