@@ -7,7 +7,7 @@ use Rattle.float.specs.Floats.{_⊕_, _⊖_, _⊗_, _⊘_, num, -0·5}
 use Rattle.lists.specs.Ranges.{table, grid}
 use Rattle.lists.specs.Rows.{entry, row}
 use Rattle.lists.specs.Sums.{sum⁻}
-use Rattle.jacobi.specs.Eigen.{diagonal}
+use Rattle.diagonal.specs.Diagonal.{diagonal}
 
 -- the squared distances
 abbrev pub square : Float → Float

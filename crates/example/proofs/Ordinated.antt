@@ -12,8 +12,10 @@ use Rattle.lists.specs.Sums.{sumFrom}
 use Rattle.lists.specs.Rows.{entry, row, putRow, onRow}
 use Rattle.outcome.specs.Outcome.{Outcome, answered, refused, andThen}
 use Rattle.rotation.specs.Rotation.{turnEntries, turnColumns, turnRows, tangent, cosine, turnPair, rotate}
-use Rattle.rotation.specs.Sweeps.{sweepRow, sweep, squaresBut, offDiagonal, sweepsFrom}
-use Rattle.jacobi.specs.Eigen.{unit, identity, diagonal, eigenpairs, jacobi}
+use Rattle.sweep.specs.Pairs.{sweepRow, sweep}
+use Rattle.diagonal.specs.Sweeps.{squaresBut, offDiagonal, sweepsFrom}
+use Rattle.diagonal.specs.Diagonal.{unit, identity, diagonal}
+use Rattle.jacobi.specs.Eigen.{eigenpairs, jacobi}
 use Rattle.topeigs.specs.TopEigs.{leading, topEigs}
 use Rattle.coordinates.specs.Centred.{squares, mean, rowMeans, centring, centredAt, centred}
 use Rattle.coordinates.specs.Pcoa.{ordinate, pcoa}

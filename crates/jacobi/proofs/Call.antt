@@ -24,14 +24,17 @@ use Rattle.outcome.specs.Slices.{output, work, untouched}
 use Rattle.jacobi.specs.declared.Answer.{Answer}
 use Rattle.jacobi.specs.declared.Answer.the-variants.{Sweeps, Refused}
 use Rattle.rotation.specs.Rotation.{turned}
-use Rattle.rotation.specs.Sweeps.{Swept, swept, sweepsFrom}
-use Rattle.jacobi.specs.Eigen.{identity, diagonal, descending, valuesIn, vectorsIn, Eigen, eigenpairs, jacobi}
-use Rattle.jacobi.specs.Call.{misfits, notFinite, jacobiLines, sweepsOf, written, Called, leaves, jacobiCall, outcomeOf, called, eigenOf, Solved, solved, solution}
+use Rattle.diagonal.specs.Sweeps.{Swept, swept, sweepsFrom}
+use Rattle.diagonal.specs.Diagonal.{identity, diagonal}
+use Rattle.descending.specs.Descending.{descending, valuesIn, vectorsIn}
+use Rattle.jacobi.specs.Eigen.{Eigen, eigenpairs, jacobi}
+use Rattle.jacobi.specs.Call.{misfits, jacobiLines, sweepsOf, written, Called, leaves, jacobiCall, outcomeOf, called, eigenOf, Solved, solved, solution}
+use Rattle.matrix.specs.Finite.{notFinite}
 use Rattle.lists.proofs.Parts.{over-front}
 use Rattle.lists.proofs.Truths.{or-neither}
 use Rattle.outcome.proofs.Table.{first-passed, first-untouched}
-use Rattle.jacobi.proofs.Order.{length-descending, descending-below}
-use Rattle.jacobi.proofs.Filling.{length-gathered}
+use Rattle.descending.proofs.Order.{length-descending, descending-below}
+use Rattle.descending.proofs.Gathered.{length-gathered}
 
 -- ---- how many values and how many entries of vectors are written
 

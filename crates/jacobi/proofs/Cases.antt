@@ -13,12 +13,15 @@ use Rattle.lists.specs.Sums.{sumFrom}
 use Rattle.lists.specs.Rows.{entry, row, putRow, onRow}
 use Rattle.lists.specs.Writes.{over, cleared}
 use Rattle.rotation.specs.Rotation.{turnEntries, turnColumns, turnRows, tangent, cosine, turnPair, rotate}
-use Rattle.rotation.specs.Sweeps.{sweepRow, sweep, squaresBut, offDiagonal, sweepsFrom}
+use Rattle.sweep.specs.Pairs.{sweepRow, sweep}
+use Rattle.diagonal.specs.Sweeps.{squaresBut, offDiagonal, sweepsFrom}
 use Rattle.outcome.specs.Refusals.{first, short}
 use Rattle.outcome.specs.Outcome.{andThen}
 use Rattle.outcome.specs.Slices.{output, work}
 use Rattle.jacobi.specs.declared.Answer.the-variants.{Sweeps}
-use Rattle.jacobi.specs.Eigen.{unit, identity, diagonal, insertAt, insertDown, descending, valuesIn, vectorsIn, eigenpairs, jacobi}
+use Rattle.diagonal.specs.Diagonal.{unit, identity, diagonal}
+use Rattle.descending.specs.Descending.{insertAt, insertDown, descending, valuesIn, vectorsIn}
+use Rattle.jacobi.specs.Eigen.{eigenpairs, jacobi}
 use Rattle.jacobi.specs.Call.{misfits, jacobiLines, sweepsOf, written, leaves, jacobiCall, called}
 
 -- (k) diagonal 1, 3: values 3, 1, and the vectors in that order. No sweep is made, what lies behind the output's first part stays, and the work is zero.

@@ -1,17 +1,17 @@
 -- Section 4, `jacobi_eigen`: a whole call, its answer and what all that is lent holds afterwards (document 01, the table and below it). Definitions only.
 use Prim.Native.Nat.{ℕ, _+_, _*_}
-use mathlib.Core.Bool.{Bool, not, _||_}
+use mathlib.Core.Bool.{Bool, _||_}
 use mathlib.Core.List.{List, [], _∷_, _++_}
 use lib.Dec.{ltb}
 use lib.ListN.{length, take, drop}
 use lib.Ieee.{Float}
-use lib.Ieee.Scale.{finite}
 use Rattle.float.specs.Floats.{zero⁺}
 use Rattle.lists.specs.Filters.{any}
 use Rattle.outcome.specs.declared.Refusal.the-variants.{Length, Limit, Value}
 use Rattle.outcome.specs.Refusals.{Line, _when_, first, unfit, _of_, short}
 use Rattle.outcome.specs.Outcome.{Outcome, answered, refused, judged, andThen}
 use Rattle.outcome.specs.Slices.{output, work}
+use Rattle.matrix.specs.Finite.{notFinite}
 use Rattle.jacobi.specs.declared.Answer.{Answer}
 use Rattle.jacobi.specs.declared.Answer.the-variants.{Sweeps, Refused}
 use Rattle.jacobi.specs.Eigen.{Eigen, jacobi}
@@ -19,10 +19,6 @@ use Rattle.jacobi.specs.Eigen.{Eigen, jacobi}
 -- line 1: the matrix does not have n * n entries, or a slice of this length is short
 unfoldable pub misfits : ℕ → List Float → ℕ → ℕ → ℕ → Bool
 misfits n a out m v = unfit a (n * n) || short ((out of n + n * n) ∷ (m of n * n) ∷ (v of n * n) ∷ [])
-
--- line 3: an entry that is not finite
-abbrev pub notFinite : Float → Bool
-notFinite x = not (finite x)
 
 -- lines 1 to 3 of the table
 unfoldable pub jacobiLines : ℕ → List Float → ℕ → ℕ → ℕ → List Line

@@ -14,9 +14,10 @@ use Rattle.lists.proofs.Writes.{over-all}
 use Rattle.outcome.specs.declared.Refusal.{Refusal}
 use Rattle.outcome.specs.Outcome.{Outcome, answered, refused, andThen}
 use Rattle.outcome.specs.Slices.{untouched, output, work}
-use Rattle.rotation.specs.Sweeps.{Swept, sweepsFrom}
+use Rattle.diagonal.specs.Sweeps.{Swept, sweepsFrom}
 use Rattle.rotation.specs.Rotation.{turned}
-use Rattle.jacobi.specs.Eigen.{identity, diagonal, eigenpairs, jacobi}
+use Rattle.diagonal.specs.Diagonal.{identity, diagonal}
+use Rattle.jacobi.specs.Eigen.{eigenpairs, jacobi}
 use Rattle.lists.proofs.Parts.{over-front}
 use Rattle.ritz.specs.Ritz.{Pairs, rayleighRitz}
 use Rattle.topeigs.specs.TopEigs.{leading, byBlock, topEigs}

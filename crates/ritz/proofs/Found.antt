@@ -19,10 +19,11 @@ use Rattle.outcome.specs.declared.Check.the-variants.{Passed, Refused}
 use Rattle.outcome.specs.Outcome.{Outcome, answered, refused, andThen}
 use Rattle.outcome.specs.Slices.{output}
 use Rattle.rotation.specs.Rotation.{turned}
-use Rattle.rotation.specs.Sweeps.{sweepsFrom}
+use Rattle.diagonal.specs.Sweeps.{sweepsFrom}
 use Rattle.jacobi.specs.declared.Answer.{Answer}
 use Rattle.jacobi.specs.declared.Answer.the-variants as jacobi-answers
-use Rattle.jacobi.specs.Eigen.{Eigen, identity, diagonal, eigenpairs, jacobi}
+use Rattle.jacobi.specs.Eigen.{Eigen, eigenpairs, jacobi}
+use Rattle.diagonal.specs.Diagonal.{identity, diagonal}
 use Rattle.jacobi.specs.Call.{eigenOf}
 use Rattle.ritz.specs.Ritz.{combinedAt, combined, Pairs}
 use Rattle.ritz.specs.Given.{written, given, gives}

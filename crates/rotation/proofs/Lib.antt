@@ -1,4 +1,3 @@
 -- What the proofs of the functions share.
 pub mod Apart
 pub mod Rotation
-pub mod Sweeping

@@ -1,3 +1,2 @@
--- Section 4 of document 01, `jacobi_eigen`: rotations and sweeps.
+-- Section 4 of document 01, `jacobi_eigen`: rotations.
 pub mod Rotation
-pub mod Sweeps

@@ -24,10 +24,11 @@ use Rattle.moments.specs.Moments.{Filled}
 use Rattle.whitening.specs.Whitened.{whitened}
 use Rattle.cholesky.specs.Cholesky.{factor, pivotFails}
 use Rattle.rotation.specs.Rotation.{turned}
-use Rattle.rotation.specs.Sweeps.{sweepsFrom}
+use Rattle.diagonal.specs.Sweeps.{sweepsFrom}
 use Rattle.jacobi.specs.declared.Answer as jacobi-answer
 use Rattle.jacobi.specs.declared.Answer.the-variants as jacobi-answers
-use Rattle.jacobi.specs.Eigen.{Eigen, identity, diagonal, eigenpairs, jacobi}
+use Rattle.jacobi.specs.Eigen.{Eigen, eigenpairs, jacobi}
+use Rattle.diagonal.specs.Diagonal.{identity, diagonal}
 use Rattle.jacobi.specs.Call.{eigenOf}
 use Rattle.discriminant.specs.Dapc.{Scores, assign, separated, discriminate}
 use Rattle.discriminant.specs.Outputs.{Called, refusal, leaves}

@@ -20,7 +20,7 @@ use Rattle.outcome.specs.Refusals.{first, short}
 use Rattle.outcome.specs.Outcome.{Outcome, answered, refused, judged, checkOf}
 use Rattle.outcome.specs.Slices.{output, work, untouched}
 use Rattle.outcome.proofs.Table.{first-holds, first-passes, first-passed, first-untouched}
-use Rattle.jacobi.specs.Call.{notFinite}
+use Rattle.matrix.specs.Finite.{notFinite}
 use Rattle.lists.proofs.Parts.{over-front}
 use Rattle.lists.proofs.Truths.{or-neither}
 use Rattle.ritz.specs.Ritz.{Pairs}

@@ -15,8 +15,10 @@ use Rattle.outcome.specs.declared.Check.the-variants.{Passed, Refused}
 use Rattle.outcome.specs.Refusals.{first, short}
 use Rattle.outcome.specs.Outcome.{andThen}
 use Rattle.outcome.specs.Slices.{output, work}
-use Rattle.rotation.specs.Sweeps.{squaresBut, offDiagonal, sweepsFrom}
-use Rattle.jacobi.specs.Eigen.{unit, identity, diagonal, insertAt, insertDown, descending, valuesIn, vectorsIn, eigenpairs, jacobi}
+use Rattle.diagonal.specs.Sweeps.{squaresBut, offDiagonal, sweepsFrom}
+use Rattle.diagonal.specs.Diagonal.{unit, identity, diagonal}
+use Rattle.descending.specs.Descending.{insertAt, insertDown, descending, valuesIn, vectorsIn}
+use Rattle.jacobi.specs.Eigen.{eigenpairs, jacobi}
 use Rattle.ritz.specs.Given.{written}
 use Rattle.topeigs.specs.TopEigs.{leading, topEigs}
 use Rattle.topeigs.specs.Call.{misfits, beyond, topLines, called, leaves, topCall}

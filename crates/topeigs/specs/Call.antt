@@ -13,7 +13,7 @@ use Rattle.outcome.specs.declared.Check.the-variants.{Passed, Refused}
 use Rattle.outcome.specs.Refusals.{Line, _when_, first, _of_, short}
 use Rattle.outcome.specs.Outcome.{Outcome, answered, refused, judged, checkOf}
 use Rattle.outcome.specs.Slices.{work}
-use Rattle.jacobi.specs.Call.{notFinite}
+use Rattle.matrix.specs.Finite.{notFinite}
 use Rattle.ritz.specs.Ritz.{Pairs}
 use Rattle.ritz.specs.Given.{written}
 use Rattle.topeigs.specs.TopEigs.{topEigs}

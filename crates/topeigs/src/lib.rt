@@ -8,7 +8,7 @@ ghost use lib.ListN.{length, take, drop, replicate};
 ghost use Rattle.float.specs.Floats.{zero⁺};
 ghost use Rattle.lists.specs.Filters.{any};
 ghost use Rattle.outcome.specs.Refusals.{first};
-ghost use Rattle.jacobi.specs.Call.{notFinite};
+ghost use Rattle.matrix.specs.Finite.{notFinite};
 ghost use Rattle.products.specs.Products.{timesBlock};
 ghost use Rattle.orthonormal.specs.Orthonormal.{firstBlock};
 ghost use Rattle.ritz.specs.Given.{given, gives};
@@ -252,20 +252,6 @@ fn beyond(n: usize, components: usize) -> bool
     16 < components
 }
 
-// Line 3: whether an entry is not finite.
-fn has_not_finite(a: &[f64]) -> bool
-    ensures { λ r. ⌜ r ≡ any notFinite (now (a .entry)) ⌝ }
-{
-    let mut i: usize = 0;
-    while i < a.len() {
-        if !float::is_finite(a[i]) {
-            return true;
-        }
-        i += 1;
-    }
-    false
-}
-
 // Lines 1 to 3 of the table, for slices of these lengths.
 fn check(
     a: &[f64],
@@ -286,7 +272,7 @@ fn check(
     if beyond(n, components) {
         return Check::Refused(Refusal::Limit);
     }
-    if has_not_finite(a) {
+    if matrix::has_not_finite(a) {
         return Check::Refused(Refusal::Value);
     }
     Check::Passed

@@ -10,7 +10,7 @@ use Rattle.lists.specs.Rows.{entry}
 use Rattle.lists.specs.Sums.{sumFrom}
 use Rattle.lists.proofs.Rows.{cell-below}
 use Rattle.lists.proofs.Sums.{sum-turn, sum-end, sum-table}
-use Rattle.jacobi.specs.Eigen.{diagonal}
+use Rattle.diagonal.specs.Diagonal.{diagonal}
 use Rattle.coordinates.specs.Centred.{trace}
 use Rattle.coordinates.proofs.trace.Statement.{statement}
 use Rattle.coordinates.proofs.trace.Tie as tie

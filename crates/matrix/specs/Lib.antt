@@ -1,0 +1,2 @@
+-- Entries of matrices.
+pub mod Finite

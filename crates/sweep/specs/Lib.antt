@@ -1,0 +1,2 @@
+-- Section 4 of document 01, `jacobi_eigen`: a sweep.
+pub mod Pairs
