@@ -20,6 +20,10 @@
  * output, past the part named below, is as before.
  *
  * Labels and strata are numbers 0 to 65,534; 65,535 means none.
+ *
+ * The lengths that outputs and work must have at least are written below, and told by the functions whose names end in `_lengths`: they write
+ * them in the order of the parameters and return 0. They return 2 and write nothing where n, components or columns are beyond the limits of
+ * refusal 2: then no call is accepted, whatever is lent.
  */
 #ifndef LOTJUDGE_H
 #define LOTJUDGE_H
@@ -48,6 +52,9 @@ uint8_t lotjudge_test(size_t n, const double *distances, size_t distances_len, c
                       size_t counts_len, double *means, size_t means_len, double *terms, size_t terms_len, double *pulls,
                       size_t pulls_len, double values[6], uint64_t numbers[5]);
 
+/* The lengths of names, counts, means, terms, pulls. */
+uint8_t lotjudge_test_lengths(size_t n, size_t lengths[5]);
+
 /* Every way to deal the labels out again within the strata: M of them, and how many are hits of each observed statistic.
  *   distances, labels, strata, weights, names, counts, means, terms, pulls   as for lotjudge_test
  *   coords         work, at least 16 + 8 * n
@@ -64,6 +71,9 @@ uint8_t lotjudge_exhaustive(size_t n, const double *distances, size_t distances_
                             size_t coords_len, double *room, size_t room_len, double *vectors, size_t vectors_len, uint16_t *rows,
                             size_t rows_len, double values[4], uint64_t numbers[11]);
 
+/* The lengths of names, counts, means, terms, pulls, coords, room, vectors, rows. */
+uint8_t lotjudge_exhaustive_lengths(size_t n, size_t lengths[9]);
+
 /* Principal coordinates. With k = components, or n if that is less:
  *   distances      n * n, row by row
  *   out            output, at least k + k + n * k: k values, k shares of the variance, coordinates n by k
@@ -72,6 +82,9 @@ uint8_t lotjudge_exhaustive(size_t n, const double *distances, size_t distances_
  */
 uint8_t lotjudge_pcoa(const double *distances, size_t distances_len, size_t n, size_t components, double *out, size_t out_len,
                       double *b, size_t b_len, double *w, size_t w_len, double *m, size_t m_len, double *v, size_t v_len);
+
+/* The lengths of out, b, w, m, v. */
+uint8_t lotjudge_pcoa_lengths(size_t n, size_t components, size_t lengths[5]);
 
 /* Principal components of sets of hashes: set i has the hashes from offsets[i] to below offsets[i + 1].
  *   hashes         of all sets, one after the other
@@ -84,6 +97,9 @@ uint8_t lotjudge_hash_pca(const uint64_t *hashes, size_t hashes_len, const size_
                           size_t components, double *out, size_t out_len, double *b, size_t b_len, double *w, size_t w_len,
                           double *m, size_t m_len, double *v, size_t v_len, uint64_t *words, size_t words_len, size_t *selected);
 
+/* The lengths of out, b, w, m, v, words. */
+uint8_t lotjudge_hash_pca_lengths(size_t n, size_t components, size_t lengths[6]);
+
 /* Discriminant scores.
  *   x              coordinates, n * columns, row by row
  *   labels         n
@@ -94,12 +110,18 @@ uint8_t lotjudge_hash_pca(const uint64_t *hashes, size_t hashes_len, const size_
 uint8_t lotjudge_dapc(const double *x, size_t x_len, size_t n, size_t columns, const uint16_t *labels, size_t labels_len,
                       double *out, size_t out_len, uint16_t *assigned, size_t assigned_len, size_t numbers[3]);
 
+/* The lengths of out, assigned. */
+uint8_t lotjudge_dapc_lengths(size_t n, size_t columns, size_t lengths[2]);
+
 /* A lot as text, judged by every way: the bytes that the program `lotjudge` prints for it. Never refuses a call: what is wrong with the text or
  * the lot is told in the output.
  *   text           the frames, any bytes
  *   out            the output; the returned number says how many of its bytes are written, the rest stays
  */
 size_t lotjudge_judge(const uint8_t *text, size_t text_len, uint8_t out[93]);
+
+/* The length of out: 93, the most bytes that are ever written. */
+size_t lotjudge_judge_length(void);
 
 #ifdef __cplusplus
 }

@@ -1,34 +1,50 @@
 /* Document 01's example lot, by the sampled test and by every way: four samples, labels 0, 0, 1, 1. */
 #include "lotjudge.h"
 #include <stdio.h>
+#include <stdlib.h>
 
 enum { N = 4 };
 
 static const double distances[N * N] = {0, 2, 8, 10, 2, 0, 6, 8, 8, 6, 0, 2, 10, 8, 2, 0};
 static const uint16_t labels[N] = {0, 0, 1, 1};
 
-int main(void) {
-    uint16_t names[N], counts[N], rows[N * N];
-    double means[N], terms[N * N], pulls[N * N], coords[16 + 8 * N], room[N + N * N], vectors[N * N];
+static double *floats(size_t length) { return calloc(length, sizeof(double)); }
+static uint16_t *numbers(size_t length) { return calloc(length, sizeof(uint16_t)); }
 
+static uint8_t sampled(void) {
+    size_t l[5];
+    uint8_t refused = lotjudge_test_lengths(N, l);
+    if (refused) return refused;
+    uint16_t *names = numbers(l[0]), *counts = numbers(l[1]);
+    double *means = floats(l[2]), *terms = floats(l[3]), *pulls = floats(l[4]);
     double v[6];
     uint64_t k[5];
-    uint8_t refused = lotjudge_test(N, distances, N * N, labels, N, false, NULL, 0, false, NULL, 0, 1, 999, names, N, counts, N, means, N,
-                                    terms, N * N, pulls, N * N, v, k);
-    if (refused) {
-        printf("test: refusal %d\n", refused);
-        return 1;
-    }
-    printf("test: F %g, r2 %g, p %g of %d shuffles\n", v[0], v[1], v[2], 999);
+    refused = lotjudge_test(N, distances, N * N, labels, N, false, NULL, 0, false, NULL, 0, 1, 999, names, l[0], counts, l[1], means, l[2],
+                            terms, l[3], pulls, l[4], v, k);
+    if (!refused) printf("test: F %g, r2 %g, p %g of %d shuffles\n", v[0], v[1], v[2], 999);
+    free(names), free(counts), free(means), free(terms), free(pulls);
+    return refused;
+}
 
-    double w[4];
-    uint64_t h[11];
-    refused = lotjudge_exhaustive(N, distances, N * N, labels, N, false, NULL, 0, false, NULL, 0, names, N, counts, N, means, N, terms,
-                                  N * N, pulls, N * N, coords, 16 + 8 * N, room, N + N * N, vectors, N * N, rows, N * N, w, h);
-    if (refused) {
-        printf("exhaustive: refusal %d\n", refused);
-        return 1;
-    }
-    printf("exhaustive: F %g, %llu of %llu ways are as far apart\n", w[0], (unsigned long long)h[4], (unsigned long long)h[2]);
-    return 0;
+static uint8_t every_way(void) {
+    size_t l[9];
+    uint8_t refused = lotjudge_exhaustive_lengths(N, l);
+    if (refused) return refused;
+    uint16_t *names = numbers(l[0]), *counts = numbers(l[1]), *rows = numbers(l[8]);
+    double *means = floats(l[2]), *terms = floats(l[3]), *pulls = floats(l[4]);
+    double *coords = floats(l[5]), *room = floats(l[6]), *vectors = floats(l[7]);
+    double v[4];
+    uint64_t k[11];
+    refused = lotjudge_exhaustive(N, distances, N * N, labels, N, false, NULL, 0, false, NULL, 0, names, l[0], counts, l[1], means, l[2],
+                                  terms, l[3], pulls, l[4], coords, l[5], room, l[6], vectors, l[7], rows, l[8], v, k);
+    if (!refused) printf("exhaustive: F %g, %llu of %llu ways are as far apart\n", v[0], (unsigned long long)k[4], (unsigned long long)k[2]);
+    free(names), free(counts), free(rows), free(means), free(terms), free(pulls), free(coords), free(room), free(vectors);
+    return refused;
+}
+
+int main(void) {
+    uint8_t refused = sampled();
+    if (!refused) refused = every_way();
+    if (refused) printf("refusal %d\n", refused);
+    return refused != 0;
 }

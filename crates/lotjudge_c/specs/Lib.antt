@@ -1,2 +1,3 @@
 -- The functions for other languages: what they return and write.
 pub mod Exported
+pub mod Lengths

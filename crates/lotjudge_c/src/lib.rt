@@ -1,4 +1,6 @@
 // The library for other languages (include/lotjudge.h): each operation on numbers and slices, with a number for its outcome: 0, or the refusal's.
+mod lengths;
+
 use chances::Chance;
 use discriminant::Separation;
 use judgement::Judgement;

@@ -2,6 +2,7 @@
 
 #[rustfmt::skip]
 extern "C" {
+    fn lotjudge_exhaustive_lengths(n: usize, lengths: *mut [usize; 9]) -> u8;
     fn lotjudge_exhaustive(
         n: usize, distances: *const f64, distances_len: usize, labels: *const u16, labels_len: usize,
         strata_given: bool, strata: *const u16, strata_len: usize, weights_given: bool, weights: *const f64, weights_len: usize,
@@ -19,9 +20,15 @@ fn main() {
     let labels: [u16; 4] = [0, 0, 1, 1];
     let none: [u16; 0] = [];
     let no_weights: [f64; 0] = [];
-    let (mut names, mut counts, mut means) = (vec![0u16; n], vec![0u16; n], vec![0f64; n]);
-    let (mut terms, mut pulls, mut vectors, mut rows) = (vec![0f64; n * n], vec![0f64; n * n], vec![0f64; n * n], vec![0u16; n * n]);
-    let (mut coords, mut room) = (vec![0f64; 16 + 8 * n], vec![0f64; n + n * n]);
+    let mut lengths = [0; 9];
+    if unsafe { lotjudge_exhaustive_lengths(n, &mut lengths) } != 0 {
+        return println!("more than 256 samples");
+    }
+    let numbers_of = |i: usize| vec![0u16; lengths[i]];
+    let floats_of = |i: usize| vec![0f64; lengths[i]];
+    let (mut names, mut counts, mut means) = (numbers_of(0), numbers_of(1), floats_of(2));
+    let (mut terms, mut pulls, mut coords) = (floats_of(3), floats_of(4), floats_of(5));
+    let (mut room, mut vectors, mut rows) = (floats_of(6), floats_of(7), numbers_of(8));
     let (mut values, mut numbers) = ([0.0; 4], [0; 11]);
     let refused = unsafe {
         lotjudge_exhaustive(
