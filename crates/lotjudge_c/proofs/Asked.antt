@@ -10,7 +10,7 @@ use borrow.Author.Tests.{ltb-false, le-ltb}
 use Rattle.lists.specs.Filters.{any}
 use Rattle.outcome.specs.Refusals.{Lent, _of_, short}
 use Rattle.outcome.specs.Outcome.{Outcome, answered, refused}
-use Rattle.verdict.specs.declared.Judgement.{Judgement}
+use Rattle.judgement.specs.declared.Judgement.{Judgement}
 use Rattle.permanova.specs.Call as test
 use Rattle.exhaustive.specs.Call as ways
 use Rattle.pcoa.specs.Call as pcoa
