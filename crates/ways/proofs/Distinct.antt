@@ -18,6 +18,7 @@ use Rattle.lists.proofs.Upward.{Upward, upward-upward}
 use Rattle.lists.proofs.Members.{map-cong, member-upFrom, member-rows}
 use Rattle.lists.proofs.Tallies.{addUp-zeros, multiply-ones}
 use Rattle.lot.proofs.Tallies.{δ-same, δ-other}
+use lib.Dec.{eqb}
 
 module _ {A : Type 0} where
   pub distinct-append : (xs ys : List A) → Distinct xs → Distinct ys → ((x : A) → Member x xs → Member x ys → ⊥) → Distinct (xs ++ ys)
