@@ -11,8 +11,8 @@ use Rattle.lists.specs.Filters.{any}
 use Rattle.outcome.specs.Refusals.{Lent, _of_, short}
 use Rattle.outcome.specs.Outcome.{Outcome, answered, refused}
 use Rattle.judgement.specs.declared.Judgement.{Judgement}
-use Rattle.permanova.specs.Call as test
-use Rattle.exhaustive.specs.Call as ways
+use Rattle.sampled.specs.Call as test
+use Rattle.every_way.specs.Call as ways
 use Rattle.pcoa.specs.Call as pcoa
 use Rattle.hash_pca.specs.Call as hashes
 use Rattle.dapc.specs.Call as dapc
