@@ -16,11 +16,12 @@ use Rattle.sweep.specs.Pairs.{sweepRow, sweep}
 use Rattle.diagonal.specs.Sweeps.{squaresBut, offDiagonal, sweepsFrom}
 use Rattle.diagonal.specs.Diagonal.{unit, identity, diagonal}
 use Rattle.jacobi.specs.Eigen.{eigenpairs, jacobi}
-use Rattle.topeigs.specs.TopEigs.{leading, topEigs}
+use Rattle.topeigs.specs.TopEigs.{topEigs}
 use Rattle.coordinates.specs.Centred.{squares, mean, rowMeans, centring, centredAt, centred}
 use Rattle.coordinates.specs.Pcoa.{ordinate, pcoa}
 use Rattle.every_way.specs.Exhaustive.{coordinates}
 use Rattle.example.proofs.Reading.{distances, lot}
+use Rattle.leading.specs.Leading.{leading}
 
 unfoldable pub answers : {A : Type 0} → Outcome A → Bool
 answers (answered a) = true

@@ -20,7 +20,9 @@ use Rattle.diagonal.specs.Diagonal.{identity, diagonal}
 use Rattle.jacobi.specs.Eigen.{eigenpairs, jacobi}
 use Rattle.lists.proofs.Parts.{over-front}
 use Rattle.ritz.specs.Ritz.{Pairs, rayleighRitz}
-use Rattle.topeigs.specs.TopEigs.{leading, byBlock, topEigs}
+use Rattle.leading.specs.Leading.{leading}
+use Rattle.subspace.specs.Subspace.{byBlock}
+use Rattle.topeigs.specs.TopEigs.{topEigs}
 
 abbrev pub Late : {A : Type 0} → Outcome A → Type 0
 Late (answered a) = Unit

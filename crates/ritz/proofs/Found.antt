@@ -11,7 +11,6 @@ use lib.Ieee.{Float, isNan}
 use Rattle.float.specs.Floats.{zero⁺}
 use Rattle.lists.specs.Filters.{any}
 use Rattle.lists.specs.Writes.{over, cleared}
-use Rattle.lists.proofs.Ranges.{length-grid}
 use Rattle.lists.proofs.Writes.{over-all}
 use Rattle.outcome.specs.declared.Refusal.{Refusal}
 use Rattle.outcome.specs.declared.Refusal.the-variants.{Unordered}
@@ -25,16 +24,12 @@ use Rattle.jacobi.specs.declared.Answer.the-variants as jacobi-answers
 use Rattle.jacobi.specs.Eigen.{Eigen, eigenpairs, jacobi}
 use Rattle.diagonal.specs.Diagonal.{identity, diagonal}
 use Rattle.jacobi.specs.Call.{eigenOf}
-use Rattle.ritz.specs.Ritz.{combinedAt, combined, Pairs}
+use Rattle.ritz.specs.Ritz.{Pairs}
 use Rattle.ritz.specs.Given.{written, given, gives}
 
 -- a block has at most 24 columns
 pub small-square : {b : ℕ} → b ≤ 24 → b * b ≤ 576
 small-square h = mul-le-mul h h
-
-pub length-combined : (n b k : ℕ) (v q : List Float) → length (combined n b k v q) ≡ k * n
-unfolding combined
-length-combined n b k v q = length-grid k n (combinedAt n b v q)
 
 -- the eigenpairs are refused for a NaN alone
 pub only-unordered : (n : ℕ) (a : List Float) (r : Refusal) → refused r ≡ jacobi n a → r ≡ Unordered

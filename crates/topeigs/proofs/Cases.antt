@@ -20,7 +20,8 @@ use Rattle.diagonal.specs.Diagonal.{unit, identity, diagonal}
 use Rattle.descending.specs.Descending.{insertAt, insertDown, descending, valuesIn, vectorsIn}
 use Rattle.jacobi.specs.Eigen.{eigenpairs, jacobi}
 use Rattle.ritz.specs.Given.{written}
-use Rattle.topeigs.specs.TopEigs.{leading, topEigs}
+use Rattle.leading.specs.Leading.{leading}
+use Rattle.topeigs.specs.TopEigs.{topEigs}
 use Rattle.topeigs.specs.Call.{misfits, beyond, topLines, called, leaves, topCall}
 
 -- diagonal 1, 3 and one component: the value 3 and its vector. What lies behind them stays, and the work is zero.

@@ -2,152 +2,13 @@
 use outcome::Check;
 use outcome::Refusal;
 ghost use mathlib.Core.Path.{_≡_};
-ghost use mathlib.Core.List.{_++_};
-ghost use Prim.Native.Nat.{_+_, _*_, _<_, _≤_, min};
-ghost use lib.ListN.{length, take, drop, replicate};
-ghost use Rattle.float.specs.Floats.{zero⁺};
-ghost use Rattle.lists.specs.Filters.{any};
+ghost use Prim.Native.Nat.{_+_, _*_, _≤_, min};
+ghost use lib.ListN.{length};
 ghost use Rattle.outcome.specs.Refusals.{first};
-ghost use Rattle.matrix.specs.Finite.{notFinite};
-ghost use Rattle.products.specs.Products.{timesBlock};
-ghost use Rattle.orthonormal.specs.Orthonormal.{firstBlock};
 ghost use Rattle.ritz.specs.Given.{given, gives};
-ghost use Rattle.topeigs.specs.TopEigs.{leading, shiftOf, lastBlock, byBlock, topEigs};
+ghost use Rattle.topeigs.specs.TopEigs.{topEigs};
 ghost use Rattle.topeigs.specs.Call as Call;
 ghost use Rattle.topeigs.specs.Call.{topLines, leaves, topCall, called};
-
-// ---- up to n = 64: Jacobi
-
-// The first k values and the first k rows of n, of all the eigenpairs.
-fn copy_leading(out: &mut [f64], pairs: &[f64], n: usize, k: usize)
-    requires { ⌜ (length (now out) ≡ k + k * n) × (length (now pairs) ≡ n + n * n) × (k ≤ n) ⌝ }
-    ensures { λ _. ⌜ now (out .exit) ≡ take k (now (pairs .entry)) ++ take (k * n) (drop n (now (pairs .entry))) ⌝ }
-{
-    lists::copy(&mut out[..k], &pairs[..k]);
-    lists::copy(&mut out[k..], &pairs[n..n + k * n]);
-}
-
-// `pairs`, `m`, `v`, `row` and `order` are work.
-fn by_jacobi(
-    out: &mut [f64],
-    pairs: &mut [f64],
-    m: &mut [f64],
-    v: &mut [f64],
-    row: &mut [f64],
-    order: &mut [u16],
-    a: &[f64],
-    n: usize,
-    k: usize,
-) -> Check
-    requires { ⌜ (length (now out) ≡ k + k * n) × (length (now pairs) ≡ n + n * n) × (length (now m) ≡ n * n) × (length (now v) ≡ n * n) × (length (now row) ≡ n) × (length (now order) ≡ n) ⌝ }
-    requires { ⌜ (length (now a) ≡ n * n) × (n ≤ 64) × (k ≤ n) ⌝ }
-    ensures { λ r. ⌜ given k r (now (out .exit)) ≡ gives k n (leading k n (now (a .entry))) (now (out .entry)) ⌝ }
-{
-    let r = jacobi::eigen(a, n, pairs, m, v, row, order);
-    let jacobi::Answer::Sweeps(_) = r else {
-        lists::clear(out);
-        return Check::Refused(Refusal::Unordered);
-    };
-    copy_leading(out, pairs, n, k);
-    Check::Passed
-}
-
-// The scratch row and the order live here.
-fn by_jacobi_in(
-    out: &mut [f64],
-    pairs: &mut [f64],
-    m: &mut [f64],
-    v: &mut [f64],
-    a: &[f64],
-    n: usize,
-    k: usize,
-) -> Check
-    requires { ⌜ (length (now out) ≡ k + k * n) × (length (now pairs) ≡ n + n * n) × (length (now m) ≡ n * n) × (length (now v) ≡ n * n) × (length (now a) ≡ n * n) × (n ≤ 64) × (k ≤ n) ⌝ }
-    ensures { λ r. ⌜ given k r (now (out .exit)) ≡ gives k n (leading k n (now (a .entry))) (now (out .entry)) ⌝ }
-{
-    let mut row = [0.0; 64];
-    let mut order = [0u16; 64];
-    by_jacobi(out, pairs, m, v, &mut row[..n], &mut order[..n], a, n, k)
-}
-
-// ---- above n = 64: a block of b columns
-
-// The first block goes to q; the shift is returned. z, x and y are work.
-fn prepare(
-    q: &mut [f64],
-    z: &mut [f64],
-    x: &mut [f64],
-    y: &mut [f64],
-    a: &[f64],
-    n: usize,
-    b: usize,
-) -> f64
-    requires { ⌜ (length (now q) ≡ b * n) × (length (now z) ≡ b * n) × (length (now x) ≡ n) × (length (now y) ≡ n) × (length (now a) ≡ n * n) × (n ≤ b * n) ⌝ }
-    ensures { λ r. ⌜ (now (q .exit) ≡ firstBlock n b) × (r ≡ shiftOf n (now (a .entry)) (firstBlock n b)) ⌝ }
-{
-    orthonormal::first_block(q, z, n, b);
-    lists::copy(x, &q[..n]);
-    power::power_bound(x, y, a, n) * 1.05
-}
-
-// The block at the end of the rounds goes to q, its product to aq. `before` takes the Ritz values that are watched; x and y are work.
-fn settle(
-    q: &mut [f64],
-    aq: &mut [f64],
-    before: &mut [f64],
-    x: &mut [f64],
-    y: &mut [f64],
-    a: &[f64],
-    n: usize,
-    b: usize,
-    k: usize,
-)
-    requires { ⌜ (length (now q) ≡ b * n) × (length (now aq) ≡ b * n) × (now before ≡ replicate k zero⁺) × (length (now x) ≡ n) × (length (now y) ≡ n) ⌝ }
-    requires { ⌜ (length (now a) ≡ n * n) × (n ≤ b * n) × (k ≤ b) ⌝ }
-    ensures { λ _. ⌜ (now (q .exit) ≡ lastBlock k b n (now (a .entry))) × (now (aq .exit) ≡ timesBlock n (now (a .entry)) b (now (q .exit))) ⌝ }
-{
-    let shift = prepare(q, aq, x, y, a, n, b);
-    products::matvec_block(aq, a, n, q, b);
-    block::iterate(q, aq, before, a, n, b, shift);
-}
-
-// The same with room of its own.
-fn settle_in(q: &mut [f64], aq: &mut [f64], a: &[f64], n: usize, b: usize, k: usize)
-    requires { ⌜ (length (now q) ≡ b * n) × (length (now aq) ≡ b * n) × (length (now a) ≡ n * n) × (n ≤ b * n) × (k ≤ b) × (n ≤ 256) × (k ≤ 16) ⌝ }
-    ensures { λ _. ⌜ (now (q .exit) ≡ lastBlock k b n (now (a .entry))) × (now (aq .exit) ≡ timesBlock n (now (a .entry)) b (now (q .exit))) ⌝ }
-{
-    let mut before = [0.0; 16];
-    let mut x = [0.0; 256];
-    let mut y = [0.0; 256];
-    settle(
-        q,
-        aq,
-        &mut before[..k],
-        &mut x[..n],
-        &mut y[..n],
-        a,
-        n,
-        b,
-        k,
-    );
-}
-
-fn by_block(
-    out: &mut [f64],
-    q: &mut [f64],
-    aq: &mut [f64],
-    a: &[f64],
-    n: usize,
-    b: usize,
-    k: usize,
-) -> Check
-    requires { ⌜ (length (now out) ≡ k + k * n) × (length (now q) ≡ b * n) × (length (now aq) ≡ b * n) × (length (now a) ≡ n * n) × (n ≤ b * n) × (n ≤ 256) ⌝ }
-    requires { ⌜ (k ≤ b) × (k ≤ 16) × (b ≤ 24) ⌝ }
-    ensures { λ r. ⌜ given k r (now (out .exit)) ≡ gives k n (byBlock k b n (now (a .entry))) (now (out .entry)) ⌝ }
-{
-    settle_in(q, aq, a, n, b, k);
-    ritz::rayleigh_ritz(out, q, aq, n, b, k)
-}
 
 // ---- the pairs, for any n by n entries
 
@@ -166,10 +27,10 @@ pub fn top_pairs(
     ensures { λ r. ⌜ given k r (now (out .exit)) ≡ gives k n (topEigs k n (now (a .entry))) (now (out .entry)) ⌝ }
 {
     if n <= 64 {
-        return by_jacobi_in(out, w, m, v, a, n, k);
+        return leading::by_jacobi_in(out, w, m, v, a, n, k);
     }
     let b = k + 8;
-    by_block(out, &mut w[..b * n], &mut m[..b * n], a, n, b, k)
+    subspace::by_block(out, &mut w[..b * n], &mut m[..b * n], a, n, b, k)
 }
 
 // ---- the operation

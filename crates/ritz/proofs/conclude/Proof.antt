@@ -6,8 +6,10 @@ use borrow.Author.Needs.{needs}
 use lib.ListN.{take, drop}
 use lib.Seq.{length-take-le, take-take}
 use lib.Ieee.{Float}
-use Rattle.ritz.specs.Ritz.{combined, rayleighRitz}
-use Rattle.ritz.proofs.Found.{found-refused, found-answered, length-combined}
+use Rattle.combined.specs.Combined.{combined}
+use Rattle.ritz.specs.Ritz.{rayleighRitz}
+use Rattle.ritz.proofs.Found.{found-refused, found-answered}
+use Rattle.combined.proofs.Lengths.{length-combined}
 use Rattle.ritz.proofs.conclude.Statement.{statement}
 use Rattle.ritz.proofs.conclude.Tie as tie
 

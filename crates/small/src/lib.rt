@@ -1,0 +1,54 @@
+// Section 4 of document 01: the small matrix of a block, for the Rayleigh-Ritz step of `top_eigs`. A block q of b columns of n entries is lent as one
+// slice, its product with the matrix as another.
+ghost use mathlib.Core.Path.{_≡_};
+ghost use Prim.Native.Nat.{_+_, _*_, _<_};
+ghost use lib.ListN.{length};
+ghost use Rattle.lists.specs.Ranges.{table};
+ghost use Rattle.small.specs.Small.{smallAt, smallMatrix, evened, evenedRow, symmetrised};
+
+// Row i: column i of the block with each column of its product.
+fn small_row(row: &mut [f64], q: &[f64], aq: &[f64], n: usize, b: usize, i: usize)
+    requires { ⌜ (length (now row) ≡ b) × (length (now q) ≡ b * n) × (length (now aq) ≡ b * n) × (i < b) ⌝ }
+    ensures { λ _. ⌜ now (row .exit) ≡ table b (smallAt n (now (q .entry)) (now (aq .entry)) i) ⌝ }
+{
+    for j in 0..b {
+        row[j] = vectors::dot_rows(q, aq, n, i, j);
+    }
+}
+
+pub fn fill_small(t: &mut [f64], q: &[f64], aq: &[f64], n: usize, b: usize)
+    requires { ⌜ (length (now t) ≡ b * b) × (length (now q) ≡ b * n) × (length (now aq) ≡ b * n) ⌝ }
+    ensures { λ _. ⌜ now (t .exit) ≡ smallMatrix n b (now (q .entry)) (now (aq .entry)) ⌝ }
+{
+    for i in 0..b {
+        small_row(&mut t[i * b..i * b + b], q, aq, n, b, i);
+    }
+}
+
+// Entries i, j and j, i become their mean.
+fn even(t: &mut [f64], b: usize, i: usize, j: usize)
+    requires { ⌜ (i * b + j < length (now t)) × (j * b + i < length (now t)) ⌝ }
+    ensures { λ _. ⌜ now (t .exit) ≡ evened b i j (now (t .entry)) ⌝ }
+{
+    let x = (t[i * b + j] + t[j * b + i]) / 2.0;
+    t[i * b + j] = x;
+    t[j * b + i] = x;
+}
+
+fn even_row(t: &mut [f64], b: usize, i: usize)
+    requires { ⌜ (length (now t) ≡ b * b) × (i < b) ⌝ }
+    ensures { λ _. ⌜ now (t .exit) ≡ evenedRow b i (now (t .entry)) ⌝ }
+{
+    for j in i + 1..b {
+        even(t, b, i, j);
+    }
+}
+
+pub fn symmetrise(t: &mut [f64], b: usize)
+    requires { ⌜ length (now t) ≡ b * b ⌝ }
+    ensures { λ _. ⌜ now (t .exit) ≡ symmetrised b (now (t .entry)) ⌝ }
+{
+    for i in 0..b {
+        even_row(t, b, i);
+    }
+}
