@@ -4,7 +4,7 @@ use mathlib.Core.Path.{sym, _∙_}
 use Prim.Native.Nat.{_-_}
 use borrow.Author.Needs.{needs}
 use Rattle.every_way.specs.Call.{slicesOf}
-use Rattle.exhaustive.proofs.Whole.{early-is, call-refused, short-is}
+use Rattle.passed_lot.proofs.Whole.{early-is, call-refused, short-is}
 use Rattle.lot.specs.Lot.{lotOf}
 use Rattle.exhaustive.proofs.exhaustive.Statement.{statement}
 use Rattle.exhaustive.proofs.exhaustive.Tie as tie

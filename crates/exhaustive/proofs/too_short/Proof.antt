@@ -4,7 +4,7 @@ use Prim.Native.Nat.{_+_, _*_, _-_}
 use native.Mathlib.Nat.{mul-le-mul}
 use native.Mathlib.Omega.{arith}
 use borrow.Author.Needs.{needs}
-use Rattle.exhaustive.proofs.Whole.{short-at, not-here, last-short}
+use Rattle.passed_lot.proofs.Whole.{short-at, not-here, last-short}
 use borrow.Author.Tests.{lt-ltb, le-ltb}
 use lib.Dec.{ltb}
 use Rattle.every_way.specs.Call.{lengthsOf}

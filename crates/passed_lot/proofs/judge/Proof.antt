@@ -1,10 +1,10 @@
--- `exhaustive::judge` meets its contract. Room for 256 samples.
+-- `passed_lot::judge` meets its contract. Room for 256 samples.
 -- Assumes nothing.
 use mathlib.Core.Path.{refl}
 use Prim.Native.Nat.{_-_}
 use borrow.Author.Needs.{needs}
-use Rattle.exhaustive.proofs.judge.Statement.{statement}
-use Rattle.exhaustive.proofs.judge.Tie as tie
+use Rattle.passed_lot.proofs.judge.Statement.{statement}
+use Rattle.passed_lot.proofs.judge.Tie as tie
 
 slice-aggregate-judge-lot : tie.Need-slice-aggregate-judge-lot
 slice-aggregate-judge-lot c = search needs
