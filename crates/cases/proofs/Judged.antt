@@ -13,7 +13,7 @@ use Rattle.sampled.proofs.Cases as test
 use Rattle.ways.proofs.Cases as ways
 use Rattle.gram.proofs.Cases.{case-j}
 use Rattle.jacobi.proofs.Cases.{diagonal-1-3}
-use Rattle.dapc.proofs.Cases.{case-l-nine, case-l-passes}
+use Rattle.dapc_lines.proofs.Cases.{case-l-nine, case-l-passes}
 use Rattle.every_way.specs.Call.{Long}
 use Rattle.every_way.proofs.Cases as every
 use Rattle.outcome.specs.Refusals.{codeOf}

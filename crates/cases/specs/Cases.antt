@@ -18,7 +18,7 @@ use Rattle.statistics.specs.Statistics.{totalOf, withinOf, locationF}
 use Rattle.sampled.specs.Call.{tested}
 use Rattle.jacobi.specs.Call.{jacobiCall}
 use Rattle.gram.specs.Gram.{gram}
-use Rattle.dapc.specs.Call.{groupLines}
+use Rattle.dapc_lines.specs.DapcLines.{groupLines}
 use Rattle.ways.specs.Ways.{wayCount}
 use Rattle.every_way.specs.Exhaustive.{locationHits, dispersionHits}
 use Rattle.every_way.specs.Call.{Slices, outcomeOf}

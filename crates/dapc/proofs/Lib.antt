@@ -1,5 +1,3 @@
--- The lines of the table, the groups that labels give, and a whole call.
-pub mod Lines
+-- The groups that labels give, and a whole call.
 pub mod Grouping
 pub mod Whole
-pub mod Cases

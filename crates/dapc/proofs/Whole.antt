@@ -23,7 +23,8 @@ use Rattle.outcome.proofs.Table.{first-untouched}
 use Rattle.discriminant.specs.declared.Answer.the-variants.{Refused}
 use Rattle.discriminant.specs.Dapc.{leading, axesOf, discriminate, dapc}
 use Rattle.discriminant.specs.Outputs.{Called, leaves, called, Ready}
-use Rattle.dapc.specs.Call.{shapeLines, groupLines, dapcLines, callBy, dapcCall, groupsCall, Sized}
+use Rattle.dapc_lines.specs.DapcLines.{shapeLines, groupLines, dapcLines}
+use Rattle.dapc.specs.Call.{callBy, dapcCall, groupsCall, Sized}
 use Rattle.discriminant.proofs.Outputs.{axes-most}
 use Rattle.dapc.proofs.Grouping.{length-each, grouped-kept, numbered-each, half-groups}
 

@@ -1,94 +1,14 @@
 // Section 5 of document 01: discriminant scores, `dapc`.
 use discriminant::Answer;
 use outcome::Check;
-use outcome::Refusal;
 ghost use mathlib.Core.Path.{_≡_};
-ghost use Prim.Native.Nat.{_*_, _≤_};
-ghost use lib.Dec.{eqb};
+ghost use Prim.Native.Nat.{_≤_};
 ghost use lib.ListN.{length};
-ghost use Rattle.lists.specs.Filters.{any};
-ghost use Rattle.outcome.specs.Refusals.{first};
 ghost use Rattle.lot.specs.Kept.{names, groupEach, keptCount, groupCount};
 ghost use Rattle.discriminant.specs.Dapc.{leading, axesOf};
 ghost use Rattle.discriminant.specs.Dapc as spec;
 ghost use Rattle.discriminant.specs.Outputs.{leaves, called};
-ghost use Rattle.dapc.specs.Call.{badCoordinate, shapeLines, groupLines, groupsCall, dapcCall, Sized};
-ghost use Rattle.dapc.specs.Call as Call;
-
-// ---- the lines of the table
-
-// Whether a length is n times columns, which may be past what a `usize` holds.
-fn is_product(len: usize, n: usize, columns: usize) -> bool
-    ensures { λ r. ⌜ r ≡ eqb len (n * columns) ⌝ }
-{
-    if n == 0 {
-        return len == 0;
-    }
-    if len / n < columns {
-        return false;
-    }
-    len == n * columns
-}
-
-// Line 1, for slices of these lengths.
-fn misfits(n: usize, columns: usize, x: usize, labels: usize, out: usize, assigned: usize) -> bool
-    ensures { λ r. ⌜ r ≡ Call.misfits n columns x labels out assigned ⌝ }
-{
-    if !is_product(x, n, columns) {
-        return true;
-    }
-    if labels != n {
-        return true;
-    }
-    if out < columns {
-        return true;
-    }
-    if out - columns < x {
-        return true;
-    }
-    assigned < n
-}
-
-// Line 3: whether a coordinate is NaN or beyond 2 ^ 40 in magnitude.
-pub fn beyond(x: &[f64]) -> bool
-    ensures { λ r. ⌜ r ≡ any badCoordinate (now (x .entry)) ⌝ }
-{
-    lines::any_outside(-1099511627776.0, 1099511627776.0, x)
-}
-
-// Lines 1 to 3, for slices of these lengths.
-fn check(x: &[f64], n: usize, columns: usize, labels: usize, out: usize, assigned: usize) -> Check
-    ensures { λ r. ⌜ r ≡ first (shapeLines n columns (now (x .entry)) labels out assigned) ⌝ }
-{
-    if misfits(n, columns, x.len(), labels, out, assigned) {
-        return Check::Refused(Refusal::Length);
-    }
-    if 256 < n {
-        return Check::Refused(Refusal::Limit);
-    }
-    if 16 < columns {
-        return Check::Refused(Refusal::Limit);
-    }
-    if beyond(x) {
-        return Check::Refused(Refusal::Value);
-    }
-    Check::Passed
-}
-
-// Lines 5 and 9.
-fn check_groups(columns: usize, m: usize, g: usize) -> Check
-    ensures { λ r. ⌜ r ≡ first (groupLines columns m g) ⌝ }
-{
-    if g < 2 {
-        return Check::Refused(Refusal::Labels);
-    }
-    if discriminant::leading_of(columns, m, g) < 2 {
-        return Check::Refused(Refusal::Columns);
-    }
-    Check::Passed
-}
-
-// ---- the operation
+ghost use Rattle.dapc.specs.Call.{groupsCall, dapcCall, Sized};
 
 // The groups of the samples go to `each`, and the scores are found on the columns that lead. `ns` are the groups' labels.
 fn assess(
@@ -130,7 +50,7 @@ fn judge(
     let s = kept::groups::group(labels, ks, ns, gs);
     let m = s.kept;
     let g = s.groups;
-    let c = check_groups(columns, m, g);
+    let c = dapc_lines::check_groups(columns, m, g);
     match c {
         Check::Refused(r) => Answer::Refused(r),
         Check::Passed => assess(out, assigned, gs, &ns[..g], x, columns, labels, m, g),
@@ -166,7 +86,7 @@ pub fn dapc(
 ) -> Answer
     ensures { λ r. ⌜ called r (now (out .exit)) (now (assigned .exit)) ≡ dapcCall n columns (now (x .entry)) (now (labels .entry)) (now (out .entry)) (now (assigned .entry)) ⌝ }
 {
-    let c = check(x, n, columns, labels.len(), out.len(), assigned.len());
+    let c = dapc_lines::check(x, n, columns, labels.len(), out.len(), assigned.len());
     match c {
         Check::Refused(r) => Answer::Refused(r),
         Check::Passed => judge_in(out, assigned, x, columns, labels),

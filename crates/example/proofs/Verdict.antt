@@ -38,7 +38,8 @@ use Rattle.coordinates.specs.Finish.{Coordinates}
 use Rattle.lists.proofs.Counts.{count-no}
 use Rattle.discriminant.specs.Dapc.{leading}
 use Rattle.discriminant.specs.Outputs.{leaves}
-use Rattle.dapc.specs.Call.{misfits, badCoordinate, shapeLines, groupLines, dapcLines, callBy, dapcCall}
+use Rattle.dapc_lines.specs.DapcLines.{misfits, badCoordinate, shapeLines, groupLines, dapcLines}
+use Rattle.dapc.specs.Call.{callBy, dapcCall}
 use Rattle.ways.specs.Ways.{spend, deal, waysOf, ways, sizeFactorials, labelFactorials, wayCountOf, wayCount}
 use Rattle.way_hits.specs.declared.Assignment.the-variants.{Withheld}
 use Rattle.judging.specs.Assignments.{rightCount, assignment}

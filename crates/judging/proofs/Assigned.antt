@@ -22,7 +22,8 @@ use Rattle.lot.proofs.Relabelled.{same-lot, way-below}
 use Rattle.means.specs.Means.{Numbered, grouped}
 use Rattle.discriminant.specs.Dapc.{Scores, leading, axesOf, discriminate, dapc}
 use Rattle.discriminant.specs.Outputs.{leaves}
-use Rattle.dapc.specs.Call.{misfits, badCoordinate, shapeLines, groupLines, dapcLines, callBy, dapcCall}
+use Rattle.dapc_lines.specs.DapcLines.{misfits, badCoordinate, shapeLines, groupLines, dapcLines}
+use Rattle.dapc.specs.Call.{callBy, dapcCall}
 use Rattle.dapc.proofs.Grouping.{grouped-kept, numbered-each}
 use Rattle.way_hits.specs.declared.Assignment.{Assignment}
 use Rattle.way_hits.specs.declared.Assignment.the-variants.{Right, Withheld}

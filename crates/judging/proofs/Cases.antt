@@ -18,7 +18,7 @@ use Rattle.discriminant.specs.declared.Answer.the-variants.{Scored, Refused}
 use Rattle.means.specs.Means.{Numbered, grouped}
 use Rattle.discriminant.specs.Dapc.{Scores, axesOf, discriminate}
 use Rattle.discriminant.specs.Outputs.{Called, leaves, called, outcomeOf, Ready}
-use Rattle.dapc.specs.Call.{badCoordinate}
+use Rattle.dapc_lines.specs.DapcLines.{badCoordinate}
 use Rattle.way_hits.specs.declared.Assignment.{Assignment}
 use Rattle.way_hits.specs.declared.Assignment.the-variants.{Right, Withheld}
 use Rattle.statistics.specs.declared.Statistic.{Statistic}

@@ -20,7 +20,7 @@ use Rattle.statistics.specs.declared.Statistic.{Statistic}
 use Rattle.statistics.specs.Hits.{statistic, hit}
 use Rattle.means.specs.Means.{Numbered, grouped}
 use Rattle.discriminant.specs.Dapc.{Scores, axesOf, discriminate}
-use Rattle.dapc.specs.Call.{badCoordinate}
+use Rattle.dapc_lines.specs.DapcLines.{badCoordinate}
 use Rattle.way_hits.specs.declared.Assignment.{Assignment}
 use Rattle.way_hits.specs.declared.Assignment.the-variants.{Right, Withheld}
 use Rattle.way_hits.specs.declared.Seen.{Seen}

@@ -168,7 +168,7 @@ fn assign_with(
 pub fn is_barred(x: &[f64], lead: usize) -> bool
     ensures { λ r. ⌜ r ≡ barredBy (now (x .entry)) lead ⌝ }
 {
-    if dapc::beyond(x) {
+    if dapc_lines::beyond(x) {
         return true;
     }
     lead < 2

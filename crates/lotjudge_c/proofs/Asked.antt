@@ -15,7 +15,7 @@ use Rattle.sampled.specs.Call as test
 use Rattle.every_way.specs.Call as ways
 use Rattle.pcoa.specs.Call as pcoa
 use Rattle.hash_pca.specs.Call as hashes
-use Rattle.dapc.specs.Call as dapc
+use Rattle.dapc_lines.specs.DapcLines as dapc
 use Rattle.printing.specs.Hex.{hex}
 use Rattle.printing.specs.Printed.{testedLine, assignedLine, verdictLines, refusalLine, printed}
 use Rattle.judge.specs.Judge.{judgeText}

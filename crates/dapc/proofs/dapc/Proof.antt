@@ -6,7 +6,7 @@ use Prim.Native.Nat.{ℕ, _*_, _-_}
 use native.Mathlib.Omega.{arith}
 use borrow.Author.Needs.{needs}
 use lib.ListN.{length}
-use Rattle.dapc.proofs.Lines.{passed-shape}
+use Rattle.dapc_lines.proofs.Lines.{passed-shape}
 use Rattle.dapc.proofs.Whole.{call-refused, call-passed}
 use Rattle.dapc.proofs.dapc.Statement.{statement}
 use Rattle.dapc.proofs.dapc.Tie as tie

@@ -8,11 +8,11 @@ use borrow.Author.Needs.{needs}
 use lib.ListN.{length}
 use Rattle.discriminant.specs.Dapc.{axesOf, leading, dapc}
 use Rattle.discriminant.specs.Outputs.{leaves}
-use Rattle.dapc.specs.Call.{groupLines}
+use Rattle.dapc_lines.specs.DapcLines.{groupLines}
 use Rattle.lot.specs.Kept.{groupEach}
 use Rattle.lot.proofs.Fills.{filled-front, filled-part}
 use Rattle.lot.proofs.Samples.{names-few}
-use Rattle.dapc.proofs.Lines.{passed-groups}
+use Rattle.dapc_lines.proofs.Lines.{passed-groups}
 use Rattle.dapc.proofs.Whole.{groups-refused, groups-passed, counts-are}
 use Rattle.outcome.specs.Refusals.{first}
 use Rattle.dapc.proofs.judge.Statement.{statement}

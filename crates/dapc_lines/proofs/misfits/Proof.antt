@@ -1,4 +1,4 @@
--- `dapc::misfits` meets its contract. Test by test.
+-- `dapc_lines::misfits` meets its contract. Test by test.
 -- Assumes nothing.
 
 use mathlib.Core.Path.{sym, _∙_}
@@ -6,9 +6,9 @@ use Prim.Native.Nat.{_-_}
 use native.Mathlib.Omega.{arith}
 use borrow.Author.Needs.{needs}
 use borrow.Author.Tests.{not-true, not-false}
-use Rattle.dapc.proofs.Lines.{misfit-product, misfit-labels, misfit-out, misfit-assigned}
-use Rattle.dapc.proofs.misfits.Statement.{statement}
-use Rattle.dapc.proofs.misfits.Tie as tie
+use Rattle.dapc_lines.proofs.Lines.{misfit-product, misfit-labels, misfit-out, misfit-assigned}
+use Rattle.dapc_lines.proofs.misfits.Statement.{statement}
+use Rattle.dapc_lines.proofs.misfits.Tie as tie
 
 is-product-requires : tie.Need-is-product-requires
 is-product-requires c κs = search needs

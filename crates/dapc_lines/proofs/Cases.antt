@@ -17,7 +17,7 @@ use Rattle.outcome.specs.declared.Check.the-variants.{Passed, Refused}
 use Rattle.outcome.specs.Refusals.{number, first, short}
 use Rattle.lot.specs.Kept.{twice, kept, gathered, keptLabels, names, keptCount, groupCount}
 use Rattle.discriminant.specs.Dapc.{leading}
-use Rattle.dapc.specs.Call.{misfits, badCoordinate, shapeLines, groupLines, dapcLines}
+use Rattle.dapc_lines.specs.DapcLines.{misfits, badCoordinate, shapeLines, groupLines, dapcLines}
 
 -- whatever the columns
 pub case-l-nine : (columns : ℕ) → first (groupLines columns 4 2) ≡ Refused Columns

@@ -1,4 +1,4 @@
--- `dapc::check_groups` meets its contract. The lines go by their numbers.
+-- `dapc_lines::check_groups` meets its contract. The lines go by their numbers.
 -- Assumes nothing.
 
 use mathlib.Core.Path.{sym, ap, _∙_}
@@ -6,9 +6,9 @@ use Prim.Native.Nat.{ℕ, _-_}
 use borrow.Author.Needs.{needs}
 use borrow.Author.Tests.{lt-ltb, le-ltb}
 use lib.Dec.{ltb}
-use Rattle.dapc.proofs.Lines.{line-labels, line-leading, line-passed}
-use Rattle.dapc.proofs.check_groups.Statement.{statement}
-use Rattle.dapc.proofs.check_groups.Tie as tie
+use Rattle.dapc_lines.proofs.Lines.{line-labels, line-leading, line-passed}
+use Rattle.dapc_lines.proofs.check_groups.Statement.{statement}
+use Rattle.dapc_lines.proofs.check_groups.Tie as tie
 
 returns : tie.Need-returns
 returns c = line-labels (c .before .args .columns) (c .before .args .m) (c .before .args .g) (lt-ltb (c .before .args .g) 2 (c .if1 .taken))

@@ -1,13 +1,13 @@
--- `dapc::is_product` meets its contract. The product is made only where it is at most the length.
+-- `dapc_lines::is_product` meets its contract. The product is made only where it is at most the length.
 -- Assumes nothing.
 
 use mathlib.Core.Path.{refl}
 use Prim.Native.Nat.{_-_}
 use native.Mathlib.Omega.{arith}
 use borrow.Author.Needs.{needs}
-use Rattle.dapc.proofs.Lines.{product-none, product-past, product-fits}
-use Rattle.dapc.proofs.is_product.Statement.{statement}
-use Rattle.dapc.proofs.is_product.Tie as tie
+use Rattle.dapc_lines.proofs.Lines.{product-none, product-past, product-fits}
+use Rattle.dapc_lines.proofs.is_product.Statement.{statement}
+use Rattle.dapc_lines.proofs.is_product.Tie as tie
 
 returns : tie.Need-returns
 returns c = product-none (c .before .args .len) (c .before .args .n) (c .before .args .columns) (c .if1 .taken)

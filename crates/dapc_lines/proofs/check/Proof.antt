@@ -1,13 +1,13 @@
--- `dapc::check` meets its contract. The lines go by their numbers.
+-- `dapc_lines::check` meets its contract. The lines go by their numbers.
 -- Assumes nothing.
 
 use mathlib.Core.Path.{sym, _∙_}
 use Prim.Native.Nat.{_-_}
 use borrow.Author.Needs.{needs}
 use borrow.Author.Tests.{lt-ltb, le-ltb}
-use Rattle.dapc.proofs.Lines.{line-length, line-samples, line-columns, line-value, line-none}
-use Rattle.dapc.proofs.check.Statement.{statement}
-use Rattle.dapc.proofs.check.Tie as tie
+use Rattle.dapc_lines.proofs.Lines.{line-length, line-samples, line-columns, line-value, line-none}
+use Rattle.dapc_lines.proofs.check.Statement.{statement}
+use Rattle.dapc_lines.proofs.check.Tie as tie
 
 misfits-requires : tie.Need-misfits-requires
 misfits-requires c κs = search needs

@@ -16,7 +16,7 @@ use Rattle.outcome.specs.Refusals.{first, short}
 use Rattle.lists.proofs.Truths.{or-neither}
 use Rattle.outcome.proofs.Table.{first-passed}
 use Rattle.discriminant.specs.Dapc.{leading}
-use Rattle.dapc.specs.Call.{misfits, badCoordinate, shapeLines, groupLines}
+use Rattle.dapc_lines.specs.DapcLines.{misfits, badCoordinate, shapeLines, groupLines}
 
 -- ---- line 1: the product is compared without being made where it would not fit
 

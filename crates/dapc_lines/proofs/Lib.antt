@@ -1,0 +1,3 @@
+-- The lines of the table, and case (l).
+pub mod Lines
+pub mod Cases
