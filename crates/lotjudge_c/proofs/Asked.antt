@@ -1,7 +1,7 @@
 -- The lengths that are told are those that line 1 of the table asks, no more and no less: of slices of just these lengths none is short. Assumes nothing.
 use Prim.Native.Nat.{ℕ, _+_, _*_, _≤_}
 use mathlib.Core.Path.{_≡_, refl, sym, ap, _∙_}
-use mathlib.Core.Bool.{Bool, true, false, not, _||_, cond}
+use mathlib.Core.Bool.{Bool, true, false, not, _||_}
 use mathlib.Core.List.{List, [], _∷_, _++_}
 use native.Mathlib.Omega.{arith}
 use lib.Dec.{eqb, ltb}
@@ -19,7 +19,7 @@ use Rattle.dapc_lines.specs.DapcLines as dapc
 use Rattle.printing.specs.Hex.{hex}
 use Rattle.printing.specs.Printed.{testedLine, assignedLine, verdictLines, refusalLine, printed}
 use Rattle.judge.specs.Judge.{judgeText}
-use Rattle.lotjudge_c.specs.Lengths.{testLengths, waysLengths, pcoaLengths, hashPcaLengths, dapcLengths, judgeLength, Told, tell, told}
+use Rattle.lotjudge_c.specs.Lengths.{testLengths, waysLengths, pcoaLengths, hashPcaLengths, dapcLengths, judgeLength, tell, told}
 
 -- slices of these lengths, of which those are asked
 unfoldable pub lent : List ℕ → List ℕ → List Lent

@@ -1,6 +1,6 @@
 -- The lengths that line 1 of the table asks of what an operation is lent, its outputs and work in the order of its parameters, and what the functions
 -- that tell them return and write. Definitions only.
-use Prim.Native.Nat.{ℕ, _+_, _*_, min}
+use Prim.Native.Nat.{ℕ, _+_, _*_}
 use mathlib.Core.Bool.{Bool, cond}
 use mathlib.Core.List.{List, [], _∷_}
 use Rattle.outcome.specs.declared.Refusal.the-variants.{Limit}

@@ -2,8 +2,8 @@
 -- Assumes nothing.
 use native.Mathlib.Omega.{arith}
 use native.Mathlib.Nat.{mul-le-mul}
-use mathlib.Core.Bool.{Bool, true, _||_}
-use mathlib.Core.Path.{_≡_, ap, _∙_, refl}
+use mathlib.Core.Bool.{Bool, _||_}
+use mathlib.Core.Path.{ap}
 use lib.Dec.{ltb}
 use borrow.Author.Tests.{lt-ltb, le-ltb}
 use Rattle.lotjudge_c.specs.Lengths.{dapcLengths}

@@ -1,9 +1,9 @@
--- `lotjudge_c::way_values` meets its contract. As the definition lists them.
+-- `layouts::way_values` meets its contract. As the definition lists them.
 -- Assumes nothing.
 use borrow.Author.Needs.{needs}
-use Rattle.lotjudge_c.proofs.Exports.{way-values-are}
-use Rattle.lotjudge_c.proofs.way_values.Statement.{statement}
-use Rattle.lotjudge_c.proofs.way_values.Tie as tie
+use Rattle.layouts.proofs.Laid.{way-values-are}
+use Rattle.layouts.proofs.way_values.Statement.{statement}
+use Rattle.layouts.proofs.way_values.Tie as tie
 
 f-of-requires : tie.Need-f-of-requires
 f-of-requires c κs = search needs

@@ -1,9 +1,9 @@
--- `lotjudge_c::test_values` meets its contract. As the definition lists them.
+-- `layouts::test_values` meets its contract. As the definition lists them.
 -- Assumes nothing.
 use borrow.Author.Needs.{needs}
-use Rattle.lotjudge_c.proofs.Exports.{values-are}
-use Rattle.lotjudge_c.proofs.test_values.Statement.{statement}
-use Rattle.lotjudge_c.proofs.test_values.Tie as tie
+use Rattle.layouts.proofs.Laid.{values-are}
+use Rattle.layouts.proofs.test_values.Statement.{statement}
+use Rattle.layouts.proofs.test_values.Tie as tie
 
 p-of-requires : tie.Need-p-of-requires
 p-of-requires c κs = search needs

@@ -1,9 +1,9 @@
--- `lotjudge_c::way_numbers` meets its contract. As the definition lists them.
+-- `layouts::way_numbers` meets its contract. As the definition lists them.
 -- Assumes nothing.
 use borrow.Author.Needs.{needs}
-use Rattle.lotjudge_c.proofs.Exports.{way-numbers-are}
-use Rattle.lotjudge_c.proofs.way_numbers.Statement.{statement}
-use Rattle.lotjudge_c.proofs.way_numbers.Tie as tie
+use Rattle.layouts.proofs.Laid.{way-numbers-are}
+use Rattle.layouts.proofs.way_numbers.Statement.{statement}
+use Rattle.layouts.proofs.way_numbers.Tie as tie
 
 is-bounded-requires : tie.Need-is-bounded-requires
 is-bounded-requires c κs = search needs

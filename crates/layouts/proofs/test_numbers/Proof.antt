@@ -1,9 +1,9 @@
--- `lotjudge_c::test_numbers` meets its contract. As the definition lists them.
+-- `layouts::test_numbers` meets its contract. As the definition lists them.
 -- Assumes nothing.
 use borrow.Author.Needs.{needs}
-use Rattle.lotjudge_c.proofs.Exports.{numbers-are}
-use Rattle.lotjudge_c.proofs.test_numbers.Statement.{statement}
-use Rattle.lotjudge_c.proofs.test_numbers.Tie as tie
+use Rattle.layouts.proofs.Laid.{numbers-are}
+use Rattle.layouts.proofs.test_numbers.Statement.{statement}
+use Rattle.layouts.proofs.test_numbers.Tie as tie
 
 is-given-requires : tie.Need-is-given-requires
 is-given-requires c κs = search needs

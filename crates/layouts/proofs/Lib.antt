@@ -1,0 +1,2 @@
+-- The parts of an answer, and its number, as they are laid out.
+pub mod Laid
