@@ -1,8 +1,9 @@
 /* The lot judge, for C and languages that call C.
  *
  * Every function is proved against a written meaning (docs/READING.md) for any arguments: it ends, and it returns 0, or one of the
- * numbers 1 to 11 of a refusal, whatever the numbers and lengths are (`lotjudge_judge` tells it in text). A pointer must lead to as many elements as the length after it
- * says (a length of 0 reads nothing), and nothing that is written may overlap anything else that is passed.
+ * numbers 1 to 11 of a refusal, whatever the numbers and lengths are (`lotjudge_judge` tells it in text). A pointer must lead to as
+ * many elements as the length after it says (a length of 0 reads nothing), and nothing that is written may overlap anything else
+ * that is passed.
  *
  * Refusals, the lowest that applies:
  *   1  a length does not fit n, or an output or work slice is short
@@ -122,6 +123,9 @@ size_t lotjudge_judge(const uint8_t *text, size_t text_len, uint8_t out[93]);
 
 /* The length of out: 93, the most bytes that are ever written. */
 size_t lotjudge_judge_length(void);
+
+/* The square root that every function above uses: the f64 nearest to the root of x, as IEEE 754 asks. A number below 0 gives NaN. */
+double lotjudge_sqrt(double x);
 
 #ifdef __cplusplus
 }

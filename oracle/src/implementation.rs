@@ -17,6 +17,7 @@ pub struct Implementation {
     pub jacobi_eigen: Option<fn(&jacobi_eigen::Input) -> Call>,
     pub top_eigs: Option<fn(&top_eigs::Input) -> Call>,
     pub gram_matrix: Option<fn(&gram_matrix::Input) -> Call>,
+    pub sqrt: Option<fn(&[f64]) -> Call>,
 }
 
 /// All that this build has.
@@ -35,6 +36,7 @@ const PORT: Option<Implementation> = Some(Implementation {
     jacobi_eigen: None,
     top_eigs: None,
     gram_matrix: None,
+    sqrt: Some(|values| roots(values, crate::port::sqrt)),
 });
 #[cfg(not(feature = "port"))]
 const PORT: Option<Implementation> = None;
@@ -69,4 +71,16 @@ const RUST: Implementation = Implementation {
         let sets = input.sets.clone();
         Box::new(move || ordination::gram_matrix(&sets).map_or(0, |found| found.0[0].to_bits()))
     }),
+    sqrt: Some(|values| roots(values, machine_sqrt)),
 };
+
+/// A call for each root, of either implementation: the sum of their bits.
+fn roots(values: &[f64], root: fn(f64) -> f64) -> Call {
+    let values = values.to_vec();
+    Box::new(move || values.iter().fold(0, |sum: u64, &x| sum.wrapping_add(root(x).to_bits())))
+}
+
+#[inline(never)]
+fn machine_sqrt(x: f64) -> f64 {
+    x.sqrt()
+}

@@ -7,6 +7,7 @@ use crate::words::{bits, push_floats, push_numbers};
 
 #[rustfmt::skip]
 extern "C" {
+    fn lotjudge_sqrt(x: f64) -> f64;
     fn lotjudge_test(
         n: usize, distances: *const f64, distances_len: usize, labels: *const u16, labels_len: usize,
         strata_given: bool, strata: *const u16, strata_len: usize, weights_given: bool, weights: *const f64, weights_len: usize,
@@ -27,6 +28,11 @@ extern "C" {
         x: *const f64, x_len: usize, n: usize, columns: usize, labels: *const u16, labels_len: usize,
         out: *mut f64, out_len: usize, assigned: *mut u16, assigned_len: usize, numbers: *mut [usize; 3],
     ) -> u8;
+}
+
+/// The root that every operation of the port uses.
+pub fn sqrt(x: f64) -> f64 {
+    unsafe { lotjudge_sqrt(x) }
 }
 
 /// What a slice of an output or of work holds before a call, to see whether it is untouched.

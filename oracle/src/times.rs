@@ -48,6 +48,7 @@ fn lines() -> Vec<Line> {
         ("jacobi_eigen n=64", Box::new(|i| i.jacobi_eigen.map(|f| f(&square(64))))),
         ("top_eigs n=256 components=8", Box::new(|i| i.top_eigs.map(|f| f(&leading(256))))),
         ("gram_matrix n=64 hashes=900", Box::new(|i| i.gram_matrix.map(|f| f(&caught(64, 900))))),
+        ("sqrt of 4096 values", Box::new(|i| i.sqrt.map(|f| f(&positive(4096))))),
     ]
 }
 
@@ -91,6 +92,12 @@ fn square(n: usize) -> jacobi_eigen::Input {
 
 fn leading(n: usize) -> top_eigs::Input {
     top_eigs::Input { matrix: square(n).matrix, components: 8 }
+}
+
+/// Positive finite values of every exponent.
+fn positive(count: usize) -> Vec<f64> {
+    let mut draw = SplitMix::new(SEED);
+    (0..count).map(|_| f64::from_bits(1 + draw.word() % (f64::INFINITY.to_bits() - 1))).collect()
 }
 
 /// Median and least nanoseconds of a call, and the samples they come from.

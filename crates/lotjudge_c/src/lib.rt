@@ -2,6 +2,7 @@
 mod lengths;
 
 ghost use mathlib.Core.Path.{_≡_};
+ghost use Rattle.float.specs.Root.{root};
 ghost use Rattle.lot.specs.Lot.{lotOf};
 ghost use Rattle.sampled.specs.Call.{slicesOf, testCall};
 ghost use Rattle.every_way.specs.Call as ways;
@@ -161,4 +162,12 @@ pub extern "C" fn lotjudge_judge(text: &[u8], out: &mut [u8; 93]) -> usize
     ensures { λ r. ⌜ page r (now (out .exit)) ≡ onto (judgeText (now (text .entry))) (now (out .entry)) ⌝ }
 {
     judge::judge(text, out)
+}
+
+// The root that every operation uses.
+#[no_mangle]
+pub extern "C" fn lotjudge_sqrt(x: f64) -> f64
+    ensures { λ r. ⌜ r ≡ root x ⌝ }
+{
+    float::sqrt(x)
 }
