@@ -13,15 +13,18 @@ struct Count {
     different: usize,
 }
 
-/// So many inputs of each of the four functions; every one is also handed in damaged.
-pub fn print(seed: u64, count: usize) -> Result<(), String> {
-    let different = [
-        ask::<test::Test>(seed, count),
-        ask::<pcoa::Pcoa>(seed, count),
-        ask::<hash_pca::HashPca>(seed, count),
-        ask::<dapc::Dapc>(seed, count),
+/// So many inputs of one of the four functions, or of each; every one is also handed in damaged.
+pub fn print(op: Option<&str>, seed: u64, count: usize) -> Result<(), String> {
+    let asks: [(&str, fn(u64, usize) -> usize); 4] = [
+        ("test", ask::<test::Test>),
+        ("pcoa", ask::<pcoa::Pcoa>),
+        ("hash_pca", ask::<hash_pca::HashPca>),
+        ("dapc", ask::<dapc::Dapc>),
     ];
-    match different.iter().sum() {
+    let wanted = asks.iter().filter(|(name, _)| op.is_none_or(|o| o == *name));
+    let different: Vec<usize> = wanted.map(|(_, ask)| ask(seed, count)).collect();
+    match different.iter().sum::<usize>() {
+        _ if different.is_empty() => Err("OP: test, pcoa, hash_pca or dapc".to_string()),
         0 => Ok(()),
         some => Err(format!("{some} differences")),
     }

@@ -25,7 +25,7 @@ const USAGE: &str = "usage:
   oracle twice OP SEED COUNT     make a replay file twice and compare
   oracle time                    time the calls
   oracle level SEED COUNT        every way of COUNT small lots handed in, and demand 3 counted (feature `port`)
-  oracle compare SEED COUNT      the port against the Rust, COUNT inputs of each of four functions (feature `port`)
+  oracle compare [OP] SEED COUNT the port against the Rust, COUNT inputs of OP or of each of four functions (feature `port`)
 OP: test, pcoa, hash_pca, dapc, jacobi_eigen, top_eigs or gram_matrix";
 
 fn main() -> ExitCode {
@@ -39,7 +39,9 @@ fn main() -> ExitCode {
             Ok(())
         }
         #[cfg(feature = "port")]
-        ["compare", seed, count] => compare(seed, count),
+        ["compare", seed, count] => compare(None, seed, count),
+        #[cfg(feature = "port")]
+        ["compare", op, seed, count] => compare(Some(op), seed, count),
         #[cfg(feature = "port")]
         ["level", seed, count] => level(seed, count),
         [command, op, ref rest @ ..] => match op {
@@ -98,9 +100,9 @@ fn check<O: Operation>(file: &[u64]) -> Result<(), String> {
 }
 
 #[cfg(feature = "port")]
-fn compare(seed: &str, count: &str) -> Result<(), String> {
+fn compare(op: Option<&str>, seed: &str, count: &str) -> Result<(), String> {
     ops::expect_panics();
-    compare::print(number(seed)?, number(count)? as usize)
+    compare::print(op, number(seed)?, number(count)? as usize)
 }
 
 #[cfg(feature = "port")]
