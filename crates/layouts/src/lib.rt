@@ -2,12 +2,12 @@
 // arrays untouched.
 use chances::Chance;
 use discriminant::Separation;
-use way_hits::Assignment;
+use judgement::Judgement;
+use measurement::TestResult;
 use outcome::Check;
 use outcome::number_of;
-use measurement::TestResult;
 use statistics::Statistic;
-use judgement::Judgement;
+use way_hits::Assignment;
 ghost use mathlib.Core.Path.{_≡_};
 ghost use Rattle.sampled.specs.Call as test;
 ghost use Rattle.every_way.specs.Call as ways;
