@@ -2,7 +2,7 @@
 -- t are the terms of m kept samples, row by row; mem are a group's members.
 use Prim.Native.Nat.{ℕ, _+_}
 use mathlib.Core.List.{List, map}
-use lib.ListN.{getD}
+use lib.ListN.{getD, drop}
 use lib.Ieee.{Float, nan}
 use Rattle.lists.specs.Ranges.{range}
 use Rattle.lists.specs.Filters.{pairs}
@@ -23,3 +23,7 @@ rowsSum t m = sum⁻ (map (rowSum t m) (range 0 m))
 -- over the pairs of a group, in one accumulator
 unfoldable pub pairSum : List Float → ℕ → List ℕ → Float
 pairSum t m mem = sum⁺ (pairs (entry m t) mem)
+
+-- of a group: the terms of member x with each later one
+unfoldable pub laterTerms : List Float → ℕ → List ℕ → ℕ → List Float
+laterTerms t m mem x = map (entry m t (getD mem x 0)) (drop (x + 1) mem)

@@ -21,11 +21,10 @@ abbrev μ-loop : tie.MeasureT-loop
 loop-holds : tie.Need-loop-holds Inv-loop μ-loop
 loop-holds c = refl
 
-entry-requires : tie.Need-entry-requires Inv-loop μ-loop
-entry-requires c κs = omega arith
-
-term-requires : tie.Need-term-requires Inv-loop μ-loop
-term-requires c κs = (c .before .before .before .before .before .pre .0, c .before .before .before .before .before .pre .2, omega (arith, c .entry .ensures, c .before .before .before .before .before .pre .1 (c .before .before .loop .y) (omega arith)))
+add-entry-requires : tie.Need-add-entry-requires Inv-loop μ-loop
+add-entry-requires c κs =
+    let pre = c .before .before .before .before .pre in
+    (pre .0, pre .1, pre .2, omega arith)
 
 add-y : tie.Need-add-y Inv-loop μ-loop
 add-y c = omega arith
@@ -34,21 +33,18 @@ loop-less : tie.Need-loop-less Inv-loop μ-loop
 loop-less c = omega arith
 
 loop-again : tie.Need-loop-again Inv-loop μ-loop
-loop-again c = list-turn (entry _ _ _) _ (c .before .before .before .before .before .before .args .mem .now) (c .before .before .before .loop .y) 0 (omega arith) (rw (c .term .ensures, c .before .entry .ensures)) refl (c .before .before .before .loop .inv)
+loop-again c =
+    let args = c .before .before .before .before .before .args in
+    let loop = c .before .before .loop in
+    list-turn (entry _ _ _) _ (args .mem .now) (loop .y) 0 (omega arith) refl (c .add-entry .ensures) (loop .inv)
 
 returns : tie.Need-returns Inv-loop μ-loop
-returns c = list-end (entry _ _ _) _ (c .before .before .before .before .args .mem .now) (c .before .loop .y) (omega arith) (c .before .loop .inv)
+returns c =
+    let args = c .before .before .before .before .args in
+    let loop = c .before .loop in
+    list-end (entry _ _ _) _ (args .mem .now) (loop .y) (omega arith) (loop .inv)
 
 pub sum-entries-spec : {M : Type 1} → statement M
 sum-entries-spec =
     tie.close
-    (tie.spec
-    Inv-loop
-    μ-loop
-    loop-holds
-    entry-requires
-    term-requires
-    add-y
-    loop-less
-    loop-again
-    returns)
+    (tie.spec Inv-loop μ-loop loop-holds add-entry-requires add-y loop-less loop-again returns)

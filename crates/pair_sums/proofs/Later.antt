@@ -1,0 +1,54 @@
+-- A member with each later one: the members from a place on as a part of the list, and the terms of the first members before those of the rest. Assumes nothing.
+use mathlib.Core.Path.{_≡_, refl, sym, ap, subst, _∙_}
+use mathlib.Core.List.{List, map}
+use Prim.Native.Nat.{ℕ, zero, suc, _+_, _-_, _≤_}
+use native.Mathlib.Nat.{le-refl}
+use native.Mathlib.Numerals.{add-one}
+use native.Mathlib.Omega.{arith}
+use lib.ListN.{length, getD, take, drop, length-drop}
+use lib.Ieee.{Float}
+use Rattle.float.specs.Floats.{zero⁺}
+use Rattle.lists.specs.Ranges.{rows}
+use Rattle.lists.specs.Filters.{pairs}
+use Rattle.lists.specs.Numbers.{Below}
+use Rattle.lists.specs.Sums.{sumFrom}
+use Rattle.lists.specs.Rows.{entry}
+use Rattle.lists.proofs.Rows.{part-rest}
+use Rattle.lists.proofs.Sums.{sum-append, pairs-turn, pairs-end}
+use Rattle.pair_sums.specs.PairSums.{pairSum, laterTerms}
+use Rattle.pair_sums.proofs.Places.{below-drop}
+
+-- ---- the members from k on, as `&mem[k..]` lends them
+
+pub below-rest : (m : ℕ) (mem : List ℕ) (k : ℕ) → Below m mem → Below m (take (length mem - k) (drop k mem))
+below-rest m mem k b = subst (Below m) (sym (part-rest mem k)) (below-drop m mem k b)
+
+pub length-rest : (mem : List ℕ) (k : ℕ) → length (take (length mem - k) (drop k mem)) ≡ length mem - k
+length-rest mem k = ap length (part-rest mem k) ∙ length-drop k mem
+
+module _ (t : List Float) (m : ℕ) (mem : List ℕ) where
+  -- row a at the members after x, where a is member x
+  pub sum-later : (x : ℕ) (s : Float) {a : ℕ} {r : Float} → a ≡ getD mem x 0
+      → r ≡ sumFrom s (map (entry m t a) (take (length mem - (x + 1)) (drop (x + 1) mem))) → r ≡ sumFrom s (laterTerms t m mem x)
+  unfolding laterTerms
+  sum-later x s e h = rw (part-rest mem (x + 1), e) at h
+
+  -- the terms of the first n members with each later one, then the pairs of the rest
+  first-then : (s : Float) (n : ℕ) → n ≤ length mem
+      → sumFrom (sumFrom s (rows n (laterTerms t m mem))) (pairs (entry m t) (drop n mem)) ≡ sumFrom s (pairs (entry m t) mem)
+  unfolding rows laterTerms sumFrom
+  first-then s zero h = refl
+  first-then s (suc n) h =
+      rw (← add-one n)
+      (pairs-turn (entry m t) (sumFrom s (rows n (laterTerms t m mem))) mem n 0 (omega arith) (sum-append s (rows n (laterTerms t m mem)) (laterTerms t m mem n))
+      (first-then s n (omega arith)))
+
+  pub first-rest : (n : ℕ) {s r : Float} → n ≤ length mem → s ≡ sumFrom zero⁺ (rows n (laterTerms t m mem))
+      → r ≡ sumFrom s (pairs (entry m t) (take (length mem - n) (drop n mem))) → r ≡ pairSum t m mem
+  unfolding pairSum
+  first-rest n {s} h e g = rw (part-rest mem n, e) at g ∙ first-then zero⁺ n h
+
+  pub first-all : {s : Float} → s ≡ sumFrom zero⁺ (rows (length mem) (laterTerms t m mem)) → s ≡ pairSum t m mem
+  unfolding pairSum
+  first-all e =
+      e ∙ pairs-end (entry m t) (sumFrom zero⁺ (rows (length mem) (laterTerms t m mem))) mem (length mem) (le-refl (length mem)) (first-then zero⁺ (length mem) (le-refl (length mem)))

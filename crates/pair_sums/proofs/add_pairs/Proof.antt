@@ -1,0 +1,67 @@
+-- `pair_sums::add_pairs` meets its contract. In each list the pairs from x on, added to its sum, are always the whole sum.
+-- Assumes nothing.
+
+use mathlib.Core.Path.{_≡_, refl}
+use Prim.Native.Nat.{_-_}
+use native.Mathlib.Omega.{arith}
+use lib.ListN.{length, drop}
+use Rattle.lists.specs.Filters.{pairs}
+use Rattle.lists.specs.Sums.{sumFrom}
+use Rattle.lists.specs.Rows.{entry}
+use Rattle.lists.proofs.Sums.{pairs-turn, pairs-end}
+use Rattle.pair_sums.specs.PairSums.{laterTerms}
+use Rattle.pair_sums.proofs.add_pairs.Statement.{statement}
+use Rattle.pair_sums.proofs.add_pairs.Tie as tie
+
+abbrev Inv-loop : tie.InvT-loop
+Inv-loop t m p q s u v₀ w₀ x₀ x-end v w x =
+    (sumFrom v (pairs (entry m t) (drop x p)) ≡ sumFrom s (pairs (entry m t) p))
+    × (sumFrom w (pairs (entry m t) (drop x q)) ≡ sumFrom u (pairs (entry m t) q))
+
+abbrev μ-loop : tie.MeasureT-loop
+μ-loop t m p q s u v₀ w₀ x₀ x-end v w x = length p - x
+
+loop-holds : tie.Need-loop-holds Inv-loop μ-loop
+loop-holds c = (refl, refl)
+
+pairs-with-both-requires : tie.Need-pairs-with-both-requires Inv-loop μ-loop
+pairs-with-both-requires c κs =
+    let pre = c .before .before .before .before .before .pre in
+    (pre .0, pre .1, pre .2, pre .3, omega arith)
+
+add-x : tie.Need-add-x Inv-loop μ-loop
+add-x c = omega arith
+
+loop-less : tie.Need-loop-less Inv-loop μ-loop
+loop-less c = omega arith
+
+loop-again : tie.Need-loop-again Inv-loop μ-loop
+unfolding laterTerms
+loop-again c =
+    let args = c .before .before .before .before .before .before .args in
+    let loop = c .before .before .loop in
+    let sums = c .pairs-with-both .ensures in (
+      pairs-turn (entry _ _) _ (args .p .now) (loop .x) 0 (omega arith) (sums .0) (loop .inv .0),
+      pairs-turn (entry _ _) _ (args .q .now) (loop .x) 0 (omega arith) (sums .1) (loop .inv .1),
+    )
+
+returns : tie.Need-returns Inv-loop μ-loop
+returns c =
+    let args = c .before .before .before .before .before .args in
+    let loop = c .before .loop in (
+      pairs-end (entry _ _) _ (args .p .now) (loop .x) (omega arith) (loop .inv .0),
+      pairs-end (entry _ _) _ (args .q .now) (loop .x) (omega arith) (loop .inv .1),
+    )
+
+pub add-pairs-spec : {M : Type 1} → statement M
+add-pairs-spec =
+    tie.close
+    (tie.spec
+    Inv-loop
+    μ-loop
+    loop-holds
+    pairs-with-both-requires
+    add-x
+    loop-less
+    loop-again
+    returns)
