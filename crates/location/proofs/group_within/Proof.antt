@@ -1,7 +1,6 @@
 -- `location::group_within` meets its contract. The pair sum divided by the weight sum, or the smallest normal number.
 -- Assumes nothing.
 
-use Prim.Native.Nat.{_-_}
 use native.Mathlib.Omega.{arith}
 use borrow.Author.Needs.{needs}
 use Rattle.location.specs.Location.{groupWithin}
@@ -9,18 +8,14 @@ use Rattle.location.proofs.group_within.Statement.{statement}
 use Rattle.location.proofs.group_within.Tie as tie
 
 pair-sum-requires : tie.Need-pair-sum-requires
-pair-sum-requires c κs = (c .before .before .before .pre .0, c .before .before .before .pre .2)
+pair-sum-requires c κs = search needs
 
-group-weight-requires : tie.Need-group-weight-requires
-group-weight-requires c κs = λ x h. omega (arith, c .before .before .before .before .pre .2 x h)
-
-max-requires : tie.Need-max-requires
-max-requires c κs = search needs
+over-weight-requires : tie.Need-over-weight-requires
+over-weight-requires c κs = λ x h. omega (arith, c .before .before .before .before .pre .2 x h)
 
 returns : tie.Need-returns
 unfolding groupWithin
-returns c = rw (c .max .ensures, c .before .group-weight .ensures, c .before .before .pair-sum .ensures)
+returns c = rw (c .over-weight .ensures, c .before .pair-sum .ensures)
 
 pub group-within-spec : {M : Type 1} → statement M
-group-within-spec =
-    tie.close (tie.spec pair-sum-requires group-weight-requires max-requires returns)
+group-within-spec = tie.close (tie.spec pair-sum-requires over-weight-requires returns)

@@ -4,6 +4,7 @@
 use mathlib.Core.Path.{_≡_, refl}
 use Prim.Native.Nat.{_-_}
 use native.Mathlib.Omega.{arith}
+use borrow.Author.Needs.{needs}
 use lib.ListN.{length, drop}
 use Rattle.lists.specs.Filters.{pairs}
 use Rattle.lists.specs.Sums.{sumFrom}
@@ -25,9 +26,7 @@ loop-holds : tie.Need-loop-holds Inv-loop μ-loop
 loop-holds c = (refl, refl)
 
 pairs-with-both-requires : tie.Need-pairs-with-both-requires Inv-loop μ-loop
-pairs-with-both-requires c κs =
-    let pre = c .before .before .before .before .before .pre in
-    (pre .0, pre .1, pre .2, pre .3, omega arith)
+pairs-with-both-requires c κs = search needs
 
 add-x : tie.Need-add-x Inv-loop μ-loop
 add-x c = omega arith

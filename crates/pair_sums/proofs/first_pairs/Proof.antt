@@ -4,6 +4,7 @@
 use mathlib.Core.Path.{_≡_, ap, _∙_}
 use Prim.Native.Nat.{ℕ, _-_, _≤_}
 use native.Mathlib.Omega.{arith}
+use borrow.Author.Needs.{needs}
 use Rattle.float.specs.Floats.{zero⁺}
 use Rattle.lists.specs.Ranges.{rows}
 use Rattle.lists.specs.Sums.{sumFrom}
@@ -22,9 +23,7 @@ loop-holds : tie.Need-loop-holds Inv-loop μ-loop
 loop-holds c = (omega arith, sum-rows-none zero⁺ _)
 
 pairs-with-requires : tie.Need-pairs-with-requires Inv-loop μ-loop
-pairs-with-requires c κs =
-    let pre = c .before .before .before .before .pre in
-    (pre .0, pre .1, omega arith)
+pairs-with-requires c κs = search needs
 
 add-x : tie.Need-add-x Inv-loop μ-loop
 add-x c = omega arith

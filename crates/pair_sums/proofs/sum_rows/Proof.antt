@@ -5,6 +5,7 @@ use mathlib.Core.Path.{_≡_, refl}
 use mathlib.Core.List.{map}
 use Prim.Native.Nat.{_-_}
 use native.Mathlib.Omega.{arith}
+use borrow.Author.Needs.{needs}
 use lib.ListN.{length, drop}
 use Rattle.lists.specs.Sums.{sumFrom}
 use Rattle.lists.specs.Rows.{entry}
@@ -24,14 +25,10 @@ loop-holds : tie.Need-loop-holds Inv-loop μ-loop
 loop-holds c = (refl, refl)
 
 add-entry-requires : tie.Need-add-entry-requires Inv-loop μ-loop
-add-entry-requires c κs =
-    let pre = c .before .before .before .before .before .pre in
-    (pre .0, pre .1, pre .4, omega arith)
+add-entry-requires c κs = search needs
 
 add-entry-requires-2 : tie.Need-add-entry-requires-2 Inv-loop μ-loop
-add-entry-requires-2 c κs =
-    let pre = c .before .before .before .before .before .before .pre in
-    (pre .0, pre .2, pre .5, omega arith)
+add-entry-requires-2 c κs = (search needs, search needs, search needs, omega arith)
 
 add-y : tie.Need-add-y Inv-loop μ-loop
 add-y c = omega arith

@@ -1,0 +1,2 @@
+-- Sums over the parts, two at a time.
+pub mod Twos

@@ -1,0 +1,36 @@
+-- Sums over tables, one term more and two terms more; fewer parts. Assumes nothing.
+use mathlib.Core.Path.{_≡_, refl, sym, ap, _∙_}
+use mathlib.Core.List.{List, [], _∷_}
+use Prim.Native.Nat.{ℕ, _+_, _*_, _-_, _<_, _≤_}
+use native.Mathlib.Omega.{arith}
+use lib.Ieee.{Float}
+use Rattle.float.specs.Floats.{_⊕_}
+use Rattle.lists.specs.Ranges.{upFrom, table}
+use Rattle.lists.specs.Sums.{sumFrom}
+use Rattle.lists.proofs.Ranges.{table-last}
+use Rattle.lists.proofs.Sums.{sum-append}
+use Rattle.members.specs.Members.{Parts}
+
+module _ (z : Float) (f : ℕ → Float) where
+  pub table-none : z ≡ sumFrom z (table 0 f)
+  unfolding sumFrom table upFrom
+  table-none = refl
+
+  pub table-next : (n : ℕ) {s x r : Float} → s ≡ sumFrom z (table n f) → x ≡ f n → r ≡ s ⊕ x → r ≡ sumFrom z (table (n + 1) f)
+  unfolding sumFrom
+  table-next n {s} e g h =
+      h
+      ∙ ap (λ (y : Float). s ⊕ y) g
+      ∙ ap (λ (y : Float). y ⊕ f n) e
+      ∙ sym (sum-append z (table n f) (f n ∷ []))
+      ∙ ap (sumFrom z) (sym (table-last f n))
+
+  pub table-same : (n k : ℕ) {s : Float} → n ≡ k → s ≡ sumFrom z (table n f) → s ≡ sumFrom z (table k f)
+  table-same n k same e = e ∙ ap (λ (i : ℕ). sumFrom z (table i f)) same
+
+  pub table-two : (j : ℕ) {s x y r : Float} → s ≡ sumFrom z (table (2 * j) f) → x ≡ f (2 * j) → y ≡ f (2 * j + 1) → r ≡ (s ⊕ x) ⊕ y
+      → r ≡ sumFrom z (table (2 * (j + 1)) f)
+  table-two j e g h k = table-same (2 * j + 1 + 1) (2 * (j + 1)) (omega arith) (table-next (2 * j + 1) (table-next (2 * j) e g refl) h k)
+
+pub fewer-parts : (m g h : ℕ) (next mem : List ℕ) → h ≤ g → Parts m g next mem → Parts m h next mem
+fewer-parts m g h next mem few p = record { starts = omega (arith, p .starts); each = λ k lt. p .each k (omega arith) }
