@@ -1,7 +1,7 @@
--- Sums over tables, one term more and two terms more; fewer parts. Assumes nothing.
+-- A sum over a table, with one term more and with two; fewer parts. Assumes nothing.
 use mathlib.Core.Path.{_≡_, refl, sym, ap, _∙_}
 use mathlib.Core.List.{List, [], _∷_}
-use Prim.Native.Nat.{ℕ, _+_, _*_, _-_, _<_, _≤_}
+use Prim.Native.Nat.{ℕ, _+_, _*_, _≤_}
 use native.Mathlib.Omega.{arith}
 use lib.Ieee.{Float}
 use Rattle.float.specs.Floats.{_⊕_}

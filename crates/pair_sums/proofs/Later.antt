@@ -39,16 +39,17 @@ module _ (t : List Float) (m : ℕ) (mem : List ℕ) where
   unfolding rows laterTerms sumFrom
   first-then s zero h = refl
   first-then s (suc n) h =
-      rw (← add-one n)
-      (pairs-turn (entry m t) (sumFrom s (rows n (laterTerms t m mem))) mem n 0 (omega arith) (sum-append s (rows n (laterTerms t m mem)) (laterTerms t m mem n))
-      (first-then s n (omega arith)))
+      let before = rows n (laterTerms t m mem) in
+      rw (← add-one n) (pairs-turn (entry m t) (sumFrom s before) mem n 0 (omega arith) (sum-append s before (laterTerms t m mem n)) (first-then s n (omega arith)))
 
+  -- the pair sum: the first n members, then the rest as it is lent; or all members
   pub first-rest : (n : ℕ) {s r : Float} → n ≤ length mem → s ≡ sumFrom zero⁺ (rows n (laterTerms t m mem))
       → r ≡ sumFrom s (pairs (entry m t) (take (length mem - n) (drop n mem))) → r ≡ pairSum t m mem
   unfolding pairSum
-  first-rest n {s} h e g = rw (part-rest mem n, e) at g ∙ first-then zero⁺ n h
+  first-rest n h e g = rw (part-rest mem n, e) at g ∙ first-then zero⁺ n h
 
   pub first-all : {s : Float} → s ≡ sumFrom zero⁺ (rows (length mem) (laterTerms t m mem)) → s ≡ pairSum t m mem
   unfolding pairSum
   first-all e =
-      e ∙ pairs-end (entry m t) (sumFrom zero⁺ (rows (length mem) (laterTerms t m mem))) mem (length mem) (le-refl (length mem)) (first-then zero⁺ (length mem) (le-refl (length mem)))
+      let whole = le-refl (length mem) in
+      e ∙ pairs-end (entry m t) (sumFrom zero⁺ (rows (length mem) (laterTerms t m mem))) mem (length mem) whole (first-then zero⁺ (length mem) whole)

@@ -103,6 +103,7 @@ pub fn pair_sum(t: &[f64], m: usize, mem: &[u16]) -> f64
 
 // ---- two groups side by side: two accumulators that do not wait on each other, each adding in its own order
 
+// A sum of each of two groups.
 pub struct Sums {
     pub first: f64,
     pub second: f64,
