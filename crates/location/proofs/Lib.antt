@@ -1,2 +1,2 @@
--- Sums over the parts, two at a time.
-pub mod Twos
+-- A group's part of within, and sums over groups.
+pub mod Groups

@@ -3,7 +3,7 @@
 
 use native.Mathlib.Omega.{arith}
 use borrow.Author.Needs.{needs}
-use Rattle.location.specs.Location.{groupWithin}
+use Rattle.location.proofs.Groups.{group-is}
 use Rattle.location.proofs.add_two.Statement.{statement}
 use Rattle.location.proofs.add_two.Tie as tie
 
@@ -17,10 +17,12 @@ over-weight-requires-2 : tie.Need-over-weight-requires-2
 over-weight-requires-2 c κs = λ x h. omega (arith, c .before .before .before .before .before .before .pre .3 x h)
 
 returns : tie.Need-returns
-unfolding groupWithin
 returns c =
+    let args = c .before .before .before .before .before .before .before .args in
+    let t = args .t .now in
+    let w = args .w .now in
     let sums = c .before .before .two-pair-sums .ensures in
-    rw (c .over-weight2 .ensures, c .before .over-weight .ensures, sums .0, sums .1)
+    rw (group-is t w (args .m) (args .p .now) (sums .0) (c .before .over-weight .ensures), group-is t w (args .m) (args .q .now) (sums .1) (c .over-weight2 .ensures))
 
 pub add-two-spec : {M : Type 1} → statement M
 add-two-spec =

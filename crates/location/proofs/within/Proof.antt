@@ -1,7 +1,7 @@
 -- `location::within` meets its contract. All parts go by two, but a last odd one.
 -- Assumes nothing.
 
-use mathlib.Core.Path.{refl, ap, _∙_}
+use mathlib.Core.Path.{refl}
 use Prim.Native.Nat.{ℕ, _+_, _-_, _*_, _/_}
 use native.Mathlib.Omega.{arith}
 use borrow.Author.Needs.{needs}
@@ -10,7 +10,7 @@ use Rattle.float.specs.Floats.{zero⁻}
 use Rattle.members.specs.Members.{part}
 use Rattle.members.proofs.Places.{part-there, part-below}
 use Rattle.location.specs.Location.{groupWithin}
-use Rattle.location.proofs.Twos.{table-next, table-same, fewer-parts}
+use Rattle.location.proofs.Groups.{table-next, table-same, fewer-parts}
 use Rattle.location.proofs.within.Statement.{statement}
 use Rattle.location.proofs.within.Tie as tie
 
@@ -51,7 +51,7 @@ returns-2 c =
     let last = args .g - 1 in
     table-same zero⁻ each (last + 1) (args .g) (omega arith)
     (table-next zero⁻ each last (table-same zero⁻ each (2 * (args .g / 2)) last (omega arith) (c .before .before .before .within-twos .ensures))
-    (c .group-within .ensures ∙ ap one (c .before .part-of .ensures)) refl)
+    (rw (c .before .part-of .ensures) at (c .group-within .ensures)) refl)
 
 pub within-spec : {M : Type 1} → statement M
 within-spec =

@@ -10,7 +10,7 @@ use Rattle.lists.specs.Sums.{sumFrom}
 use Rattle.members.specs.Members.{part}
 use Rattle.members.proofs.Places.{part-there, part-below}
 use Rattle.location.specs.Location.{groupWithin}
-use Rattle.location.proofs.Twos.{table-none, table-same, table-two}
+use Rattle.location.proofs.Groups.{table-none, table-same, table-two}
 use Rattle.location.proofs.within_twos.Statement.{statement}
 use Rattle.location.proofs.within_twos.Tie as tie
 

@@ -1,15 +1,22 @@
--- A sum over a table, with one term more and with two; fewer parts. Assumes nothing.
+-- A group's part of within, from its pair sum; a sum over groups, with one more and with two more; fewer groups. Assumes nothing.
 use mathlib.Core.Path.{_≡_, refl, sym, ap, _∙_}
 use mathlib.Core.List.{List, [], _∷_}
 use Prim.Native.Nat.{ℕ, _+_, _*_, _≤_}
 use native.Mathlib.Omega.{arith}
 use lib.Ieee.{Float}
-use Rattle.float.specs.Floats.{_⊕_}
+use Rattle.float.specs.Floats.{_⊕_, _⊘_, smallestNormal}
+use Rattle.float.specs.Order.{larger}
 use Rattle.lists.specs.Ranges.{upFrom, table}
 use Rattle.lists.specs.Sums.{sumFrom}
 use Rattle.lists.proofs.Ranges.{table-last}
 use Rattle.lists.proofs.Sums.{sum-append}
 use Rattle.members.specs.Members.{Parts}
+use Rattle.pair_sums.specs.PairSums.{pairSum}
+use Rattle.location.specs.Location.{groupWeight, groupWithin}
+
+pub group-is : (t w : List Float) (m : ℕ) (mem : List ℕ) {s r : Float} → s ≡ pairSum t m mem → r ≡ s ⊘ larger (groupWeight w mem) smallestNormal → r ≡ groupWithin t w m mem
+unfolding groupWithin
+group-is t w m mem e h = rw e at h
 
 module _ (z : Float) (f : ℕ → Float) where
   pub table-none : z ≡ sumFrom z (table 0 f)
