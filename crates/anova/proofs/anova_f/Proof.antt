@@ -32,10 +32,17 @@ slice-reshare-prefix-residual : tie.Need-slice-reshare-prefix-residual
 slice-reshare-prefix-residual c = search needs
 
 slice-aggregate-residual : tie.Need-slice-aggregate-residual
-slice-aggregate-residual c = sym (length-take-le (c .before .before .before .before .before .before .before .before .before .before .before .before .before .args .g) (c .before .before .before .before .before .before .fill-group-means .last .1 .1 .1 .1 .1 .0) (omega (arith, c .before .before .before .before .before .before .fill-group-means .kept .1 .1 .1 .1 .1 .0)))
+slice-aggregate-residual c =
+    let fill-group-means = c .before .before .before .before .before .before .fill-group-means in
+    let args = c .before .before .before .before .before .before .before .before .before .before .before .before .before .args in
+    sym (length-take-le (args .g) (fill-group-means .last .1 .1 .1 .1 .1 .0) (omega (arith, fill-group-means .kept .1 .1 .1 .1 .1 .0)))
 
 residual-requires : tie.Need-residual-requires
-residual-requires c κs = (c .before .before .before .before .before .before .before .before .before .before .before .before .before .pre .0 .0, c .before .before .before .before .before .before .before .before .before .before .before .before .before .pre .0 .1, λ x h. omega (arith, length-take-le (c .before .before .before .before .before .before .before .before .before .before .before .before .before .args .g) (c .before .before .before .before .before .before .fill-group-means .last .1 .1 .1 .1 .1 .0) (omega (arith, c .before .before .before .before .before .before .fill-group-means .kept .1 .1 .1 .1 .1 .0)), c .before .before .before .before .before .before .before .before .before .before .before .before .before .pre .0 .2 x h))
+residual-requires c κs =
+    let fill-group-means = c .before .before .before .before .before .before .fill-group-means in
+    let args = c .before .before .before .before .before .before .before .before .before .before .before .before .before .args in
+    let pre = c .before .before .before .before .before .before .before .before .before .before .before .before .before .pre in
+    (pre .0 .0, pre .0 .1, λ x h. omega (arith, length-take-le (args .g) (fill-group-means .last .1 .1 .1 .1 .1 .0) (omega (arith, fill-group-means .kept .1 .1 .1 .1 .1 .0)), pre .0 .2 x h))
 
 f-ratio-requires : tie.Need-f-ratio-requires
 f-ratio-requires c κs = search needs
@@ -46,16 +53,20 @@ same-length c = search needs
 returns : tie.Need-returns
 unfolding anovaF
 returns c =
-    let grouped = c .before .before .before .before .before .before .before .before .before .before .before .before .before .before .before .pre .0 .3 in
-    let means = (c .before .before .before .before .before .before .before .before .fill-group-means .last .1 .1 .1 .1 .1 .0) in
+    let after-between = c .before .before .before in
+    let after-grand-mean = after-between .before .before in
+    let after-fill-group-means = after-grand-mean .before .before .before in
+    let start = after-fill-group-means .before .before .before .before .before .before .before in
+    let grouped = start .pre .0 .3 in
+    let means = (after-fill-group-means .fill-group-means .last .1 .1 .1 .1 .1 .0) in
     c .f-ratio .ensures
-    ∙ ap₂ (λ (b r : Float). fRatio b r (c .before .before .before .before .before .before .before .before .before .before .before .before .before .before .before .args .m) (c .before .before .before .before .before .before .before .before .before .before .before .before .before .before .before .args .g))
-    (c .before .before .before .between .ensures
-    ∙ ap (λ (x : Float). sumFrom zero⁻ (table (c .before .before .before .before .before .before .before .before .before .before .before .before .before .before .before .args .g) (λ k. share (part (c .before .before .before .before .before .before .before .before .before .before .before .before .before .before .before .args .next .now) (c .before .before .before .before .before .before .before .before .before .before .before .before .before .before .before .args .mem .now) k) (at means k) x))) (c .before .before .before .before .before .grand-mean .ensures)
-    ∙ between-is _ _ _ _ _ grouped (c .before .before .before .before .before .before .before .before .before .before .before .before .before .before .before .args .z .now) (c .before .before .before .before .before .before .before .before .before .before .before .before .before .before .before .args .means .now) means (c .before .before .before .before .before .before .before .before .fill-group-means .ensures))
+    ∙ ap₂ (λ (b r : Float). fRatio b r (start .args .m) (start .args .g))
+    (after-between .between .ensures
+    ∙ ap (λ (x : Float). sumFrom zero⁻ (table (start .args .g) (λ k. share (part (start .args .next .now) (start .args .mem .now) k) (at means k) x))) (after-grand-mean .grand-mean .ensures)
+    ∙ between-is _ _ _ _ _ grouped (start .args .z .now) (start .args .means .now) means (after-fill-group-means .fill-group-means .ensures))
     (c .before .residual .ensures
-    ∙ ap (λ (l : List Float). residual (c .before .before .before .before .before .before .before .before .before .before .before .before .before .before .before .args .z .now) l (c .before .before .before .before .before .before .before .before .before .before .before .before .before .before .before .args .lab .now) (c .before .before .before .before .before .before .before .before .before .before .before .before .before .before .before .args .m))
-    (means-are _ _ _ _ _ grouped (c .before .before .before .before .before .before .before .before .before .before .before .before .before .before .before .args .z .now) (c .before .before .before .before .before .before .before .before .before .before .before .before .before .before .before .args .means .now) means (c .before .before .before .before .before .before .before .before .fill-group-means .ensures)))
+    ∙ ap (λ (l : List Float). residual (start .args .z .now) l (start .args .lab .now) (start .args .m))
+    (means-are _ _ _ _ _ grouped (start .args .z .now) (start .args .means .now) means (after-fill-group-means .fill-group-means .ensures)))
 
 pub anova-f-spec : {M : Type 1} → statement M
 anova-f-spec =

@@ -24,10 +24,15 @@ abbrev μ-loop : tie.MeasureT-loop
 μ-loop m g next mem means grand s₀ k₀ s k = g - k
 
 loop-holds : tie.Need-loop-holds Inv-loop μ-loop
-loop-holds c = sym (sum-table zero⁻ (c .before .before .before .args .g) (λ k. share (part (c .before .before .before .args .next .now) (c .before .before .before .args .mem .now) k) (at (c .before .before .before .args .means .now) k) (c .before .before .before .args .grand)))
+loop-holds c =
+    let start = c .before .before .before in
+    sym (sum-table zero⁻ (start .args .g) (λ k. share (part (start .args .next .now) (start .args .mem .now) k) (at (start .args .means .now) k) (start .args .grand)))
 
 part-of-requires : tie.Need-part-of-requires Inv-loop μ-loop
-part-of-requires c κs = part-there (c .before .before .before .before .before .args .m) (c .before .before .before .before .before .args .g) (c .before .loop .k) (c .before .before .before .before .before .args .next .now) (c .before .before .before .before .before .args .mem .now) (c .before .before .before .before .before .pre .0) (omega arith)
+part-of-requires c κs =
+    let args = c .before .before .before .before .before .args in
+    let pre = c .before .before .before .before .before .pre in
+    part-there (args .m) (args .g) (c .before .loop .k) (args .next .now) (args .mem .now) (pre .0) (omega arith)
 
 mul-share : tie.Need-mul-share Inv-loop μ-loop
 mul-share c = omega arith
@@ -36,7 +41,9 @@ shared-slice-read-share : tie.Need-shared-slice-read-share Inv-loop μ-loop
 shared-slice-read-share c = omega arith
 
 share-requires : tie.Need-share-requires Inv-loop μ-loop
-share-requires c κs = omega (arith, ap length (c .before .part-of .ensures), part-short (c .before .before .before .before .before .before .before .args .next .now) (c .before .before .before .before .before .before .before .args .mem .now) (c .before .before .before .loop .k))
+share-requires c κs =
+    let args = c .before .before .before .before .before .before .before .args in
+    omega (arith, ap length (c .before .part-of .ensures), part-short (args .next .now) (args .mem .now) (c .before .before .before .loop .k))
 
 add-k : tie.Need-add-k Inv-loop μ-loop
 add-k c = omega arith
@@ -45,10 +52,15 @@ loop-less : tie.Need-loop-less Inv-loop μ-loop
 loop-less c = omega arith
 
 loop-again : tie.Need-loop-again Inv-loop μ-loop
-loop-again c = sum-turn (λ k. share (part (c .before .before .before .before .before .before .before .before .args .next .now) (c .before .before .before .before .before .before .before .before .args .mem .now) k) (at (c .before .before .before .before .before .before .before .before .args .means .now) k) (c .before .before .before .before .before .before .before .before .args .grand)) _ _ _ (omega arith) (c .share .ensures ∙ ap (λ (p : List ℕ). share p (at (c .before .before .before .before .before .before .before .before .args .means .now) (c .before .before .before .before .loop .k)) (c .before .before .before .before .before .before .before .before .args .grand)) (c .before .before .part-of .ensures)) refl (c .before .before .before .before .loop .inv)
+loop-again c =
+    let turn = c .before .before .before .before .loop in
+    let args = c .before .before .before .before .before .before .before .before .args in
+    sum-turn (λ k. share (part (args .next .now) (args .mem .now) k) (at (args .means .now) k) (args .grand)) _ _ _ (omega arith) (c .share .ensures ∙ ap (λ (p : List ℕ). share p (at (args .means .now) (turn .k)) (args .grand)) (c .before .before .part-of .ensures)) refl (turn .inv)
 
 returns : tie.Need-returns Inv-loop μ-loop
-returns c = sum-end (λ k. share (part (c .before .before .before .before .before .args .next .now) (c .before .before .before .before .before .args .mem .now) k) (at (c .before .before .before .before .before .args .means .now) k) (c .before .before .before .before .before .args .grand)) _ _ _ (omega arith) (c .before .loop .inv)
+returns c =
+    let args = c .before .before .before .before .before .args in
+    sum-end (λ k. share (part (args .next .now) (args .mem .now) k) (at (args .means .now) k) (args .grand)) _ _ _ (omega arith) (c .before .loop .inv)
 
 pub between-spec : {M : Type 1} → statement M
 between-spec =

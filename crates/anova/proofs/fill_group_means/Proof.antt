@@ -19,13 +19,22 @@ abbrev μ-loop : tie.MeasureT-loop
 μ-loop z m g next mem out₀ k₀ out k = g - k
 
 loop-holds : tie.Need-loop-holds Inv-loop μ-loop
-loop-holds c = (omega arith, writing-none (λ k. groupMean (c .before .before .before .before .args .z .now) (part (c .before .before .before .before .args .next .now) (c .before .before .before .before .args .mem .now) k)) (c .before .before .before .before .args .out .now))
+loop-holds c =
+    let args = c .before .before .before .before .args in
+    (omega arith, writing-none (λ k. groupMean (args .z .now) (part (args .next .now) (args .mem .now) k)) (args .out .now))
 
 part-of-requires : tie.Need-part-of-requires Inv-loop μ-loop
-part-of-requires c κs = part-there (c .before .before .before .before .before .before .args .m) (c .before .before .before .before .before .before .args .g) (c .before .loop .k) (c .before .before .before .before .before .before .args .next .now) (c .before .before .before .before .before .before .args .mem .now) (c .before .before .before .before .before .before .pre .1) (omega arith)
+part-of-requires c κs =
+    let args = c .before .before .before .before .before .before .args in
+    let pre = c .before .before .before .before .before .before .pre in
+    part-there (args .m) (args .g) (c .before .loop .k) (args .next .now) (args .mem .now) (pre .1) (omega arith)
 
 group-mean-requires : tie.Need-group-mean-requires Inv-loop μ-loop
-group-mean-requires c κs = (λ x h. omega (arith, part-below (c .before .before .before .before .before .before .before .args .m) (c .before .before .before .before .before .before .before .args .g) (c .before .before .loop .k) (c .before .before .before .before .before .before .before .args .next .now) (c .before .before .before .before .before .before .before .args .mem .now) _ (c .before .before .before .before .before .before .before .pre .1) (omega arith) (c .part-of .ensures) x h), omega (arith, ap length (c .part-of .ensures), part-short (c .before .before .before .before .before .before .before .args .next .now) (c .before .before .before .before .before .before .before .args .mem .now) (c .before .before .loop .k)))
+group-mean-requires c κs =
+    let turn = c .before .before .loop in
+    let args = c .before .before .before .before .before .before .before .args in
+    let pre = c .before .before .before .before .before .before .before .pre in
+    (λ x h. omega (arith, part-below (args .m) (args .g) (turn .k) (args .next .now) (args .mem .now) _ (pre .1) (omega arith) (c .part-of .ensures) x h), omega (arith, ap length (c .part-of .ensures), part-short (args .next .now) (args .mem .now) (turn .k)))
 
 mul-out : tie.Need-mul-out Inv-loop μ-loop
 mul-out c = omega (arith, c .before .before .before .loop .inv .1 .long)
@@ -40,13 +49,17 @@ loop-less : tie.Need-loop-less Inv-loop μ-loop
 loop-less c = omega arith
 
 loop-again : tie.Need-loop-again Inv-loop μ-loop
-loop-again c = (omega arith, writing-next (λ k. groupMean (c .before .before .before .before .before .before .before .before .args .z .now) (part (c .before .before .before .before .before .before .before .before .args .next .now) (c .before .before .before .before .before .before .before .before .args .mem .now) k)) (c .before .before .before .before .before .before .before .before .args .out .now) (c .before .before .before .loop .inv .1) (omega arith) (c .group-mean .ensures ∙ ap (groupMean (c .before .before .before .before .before .before .before .before .args .z .now)) (c .before .part-of .ensures)))
+loop-again c =
+    let args = c .before .before .before .before .before .before .before .before .args in
+    (omega arith, writing-next (λ k. groupMean (args .z .now) (part (args .next .now) (args .mem .now) k)) (args .out .now) (c .before .before .before .loop .inv .1) (omega arith) (c .group-mean .ensures ∙ ap (groupMean (args .z .now)) (c .before .part-of .ensures)))
 
 same-length : tie.Need-same-length Inv-loop μ-loop
 same-length c = c .before .loop .inv .1 .long
 
 returns : tie.Need-returns Inv-loop μ-loop
-returns c = writing-front (λ k. groupMean (c .before .before .before .before .before .before .args .z .now) (part (c .before .before .before .before .before .before .args .next .now) (c .before .before .before .before .before .before .args .mem .now) k)) (c .before .before .before .before .before .before .args .out .now) (c .before .loop .inv .1) (omega arith)
+returns c =
+    let args = c .before .before .before .before .before .before .args in
+    writing-front (λ k. groupMean (args .z .now) (part (args .next .now) (args .mem .now) k)) (args .out .now) (c .before .loop .inv .1) (omega arith)
 
 pub fill-group-means-spec : {M : Type 1} → statement M
 fill-group-means-spec =

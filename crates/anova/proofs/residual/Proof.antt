@@ -20,7 +20,9 @@ abbrev μ-loop : tie.MeasureT-loop
 
 loop-holds : tie.Need-loop-holds Inv-loop μ-loop
 unfolding residual
-loop-holds c = sym (sum-table zero⁻ (c .before .before .before .args .m) (residualAt (c .before .before .before .args .z .now) (c .before .before .before .args .means .now) (c .before .before .before .args .lab .now)))
+loop-holds c =
+    let start = c .before .before .before in
+    sym (sum-table zero⁻ (start .args .m) (residualAt (start .args .z .now) (start .args .means .now) (start .args .lab .now)))
 
 residual-at-requires : tie.Need-residual-at-requires Inv-loop μ-loop
 residual-at-requires c κs = (omega arith, omega arith, c .before .before .before .before .before .pre .2)
@@ -32,10 +34,14 @@ loop-less : tie.Need-loop-less Inv-loop μ-loop
 loop-less c = omega arith
 
 loop-again : tie.Need-loop-again Inv-loop μ-loop
-loop-again c = sum-turn (residualAt (c .before .before .before .before .before .before .args .z .now) (c .before .before .before .before .before .before .args .means .now) (c .before .before .before .before .before .before .args .lab .now)) _ _ _ (omega arith) (c .residual-at .ensures) refl (c .before .before .loop .inv)
+loop-again c =
+    let args = c .before .before .before .before .before .before .args in
+    sum-turn (residualAt (args .z .now) (args .means .now) (args .lab .now)) _ _ _ (omega arith) (c .residual-at .ensures) refl (c .before .before .loop .inv)
 
 returns : tie.Need-returns Inv-loop μ-loop
-returns c = sum-end (residualAt (c .before .before .before .before .before .args .z .now) (c .before .before .before .before .before .args .means .now) (c .before .before .before .before .before .args .lab .now)) _ _ _ (omega arith) (c .before .loop .inv)
+returns c =
+    let args = c .before .before .before .before .before .args in
+    sum-end (residualAt (args .z .now) (args .means .now) (args .lab .now)) _ _ _ (omega arith) (c .before .loop .inv)
 
 pub residual-spec : {M : Type 1} → statement M
 residual-spec =

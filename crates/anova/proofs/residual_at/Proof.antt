@@ -18,10 +18,16 @@ shared-slice-read-x : tie.Need-shared-slice-read-x
 shared-slice-read-x c = search needs
 
 mul-x-2 : tie.Need-mul-x-2
-mul-x-2 c = omega (arith, c .before .entry .ensures, c .before .before .before .before .before .pre .2 (c .before .before .before .before .before .args .k) (c .before .before .before .before .before .pre .1))
+mul-x-2 c =
+    let args = c .before .before .before .before .before .args in
+    let pre = c .before .before .before .before .before .pre in
+    omega (arith, c .before .entry .ensures, pre .2 (args .k) (pre .1))
 
 shared-slice-read-x-2 : tie.Need-shared-slice-read-x-2
-shared-slice-read-x-2 c = omega (arith, c .before .before .entry .ensures, c .before .before .before .before .before .before .pre .2 (c .before .before .before .before .before .before .args .k) (c .before .before .before .before .before .before .pre .1))
+shared-slice-read-x-2 c =
+    let args = c .before .before .before .before .before .before .args in
+    let pre = c .before .before .before .before .before .before .pre in
+    omega (arith, c .before .before .entry .ensures, pre .2 (args .k) (pre .1))
 
 returns : tie.Need-returns
 unfolding residualAt squared

@@ -28,9 +28,11 @@ same-length-2 c = search needs
 returns : tie.Need-returns
 unfolding blockStep
 returns c =
+    let after-orthonormalize = c .before .before .before .before .before .before .before .before .before in
+    let after-plus-times = after-orthonormalize .before .before .before .before .before in
     let s = c .before .before .before .before .before .before .before .before .before .before .before .before .before .before .before .before .before .before .before .before in
     let a = s .args in (
-      c .before .before .before .before .before .before .before .before .before .orthonormalize .ensures ∙ ap (orthonormal (a .n) (a .b)) (c .before .before .before .before .before .before .before .before .before .before .before .before .before .before .plus-times .ensures ∙ ap (λ (t : List Float). plusTimes (a .shift) t (now (a .q))) (s .pre .3)),
+      after-orthonormalize .orthonormalize .ensures ∙ ap (orthonormal (a .n) (a .b)) (after-plus-times .plus-times .ensures ∙ ap (λ (t : List Float). plusTimes (a .shift) t (now (a .q))) (s .pre .3)),
       c .before .before .matvec-block .ensures,
     )
 

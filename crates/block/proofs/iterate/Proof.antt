@@ -32,13 +32,22 @@ round-requires c κs =
     (inv .0 ∙ p .0, inv .1 ∙ p .1, p .2, omega (arith, inv .2, p .3), inv .3)
 
 same-length : tie.Need-same-length Inv-loop μ-loop
-same-length c = c .before .before .before .before .before .before .before .round .kept .0 ∙ c .before .before .before .before .before .before .before .before .before .before .before .before .loop .inv .0
+same-length c =
+    let after-round = c .before .before .before .before .before .before .before in
+    let at-loop = after-round .before .before .before .before .before in
+    after-round .round .kept .0 ∙ at-loop .loop .inv .0
 
 same-length-2 : tie.Need-same-length-2 Inv-loop μ-loop
-same-length-2 c = c .before .before .before .before .before .before .before .round .kept .1 .0 ∙ c .before .before .before .before .before .before .before .before .before .before .before .before .loop .inv .1
+same-length-2 c =
+    let after-round = c .before .before .before .before .before .before .before in
+    let at-loop = after-round .before .before .before .before .before in
+    after-round .round .kept .1 .0 ∙ at-loop .loop .inv .1
 
 same-length-3 : tie.Need-same-length-3 Inv-loop μ-loop
-same-length-3 c = c .before .before .before .before .before .before .before .round .kept .1 .1 .0 ∙ c .before .before .before .before .before .before .before .before .before .before .before .before .loop .inv .2
+same-length-3 c =
+    let after-round = c .before .before .before .before .before .before .before in
+    let at-loop = after-round .before .before .before .before .before in
+    after-round .round .kept .1 .1 .0 ∙ at-loop .loop .inv .2
 
 returns : tie.Need-returns Inv-loop μ-loop
 returns c =

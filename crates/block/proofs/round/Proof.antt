@@ -30,10 +30,12 @@ same-length-3 c = search needs
 
 returns : tie.Need-returns
 returns c =
-    let a = c .before .before .before .before .before .before .before .before .before .before .before .before .before .before .before .before .before .args in
-    let stepped = c .before .before .before .before .before .before .before .before .before .before .block-step .ensures in
+    let after-block-step = c .before .before .before .before .before .before .before .before .before .before in
+    let start = after-block-step .before .before .before .before .before .before .before in
+    let a = start .args in
+    let stepped = after-block-step .block-step .ensures in
     let found = c .before .before .settle .ensures in
-    (stepped .0, stepped .1, found .0 ∙ ap (ritz (a .n) (length (now (a .before))) (c .before .before .before .before .before .before .before .before .before .before .block-step .last .0)) (stepped .1), found .1)
+    (stepped .0, stepped .1, found .0 ∙ ap (ritz (a .n) (length (now (a .before))) (after-block-step .block-step .last .0)) (stepped .1), found .1)
 
 pub round-spec : {M : Type 1} → statement M
 round-spec =

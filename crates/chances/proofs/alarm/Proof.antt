@@ -17,13 +17,25 @@ int-to-float-if3-2 : tie.Need-int-to-float-if3-2
 int-to-float-if3-2 c = search needs
 
 returns-2 : tie.Need-returns-2
-returns-2 c = alarm-sizes (c .before .before .before .before .before .before .args .p) (c .before .before .before .before .before .before .args .q) (c .before .before .before .before .before .before .args .most) (c .before .before .before .before .before .before .args .least) (c .before .before .before .before .before .if1 .taken) (c .before .before .before .before .if2 .left) (c .before .if3 .taken) (c .if4 .taken)
+returns-2 c =
+    let at-if2 = c .before .before .before .before in
+    let at-if1 = at-if2 .before in
+    let start = at-if1 .before in
+    alarm-sizes (start .args .p) (start .args .q) (start .args .most) (start .args .least) (at-if1 .if1 .taken) (at-if2 .if2 .left) (c .before .if3 .taken) (c .if4 .taken)
 
 returns-3 : tie.Need-returns-3
-returns-3 c = alarm-spread (c .before .before .before .before .before .before .args .p) (c .before .before .before .before .before .before .args .q) (c .before .before .before .before .before .before .args .most) (c .before .before .before .before .before .before .args .least) (c .before .before .before .before .before .if1 .taken) (c .before .before .before .before .if2 .left) (c .before .if3 .taken) (c .if4 .left)
+returns-3 c =
+    let at-if2 = c .before .before .before .before in
+    let at-if1 = at-if2 .before in
+    let start = at-if1 .before in
+    alarm-spread (start .args .p) (start .args .q) (start .args .most) (start .args .least) (at-if1 .if1 .taken) (at-if2 .if2 .left) (c .before .if3 .taken) (c .if4 .left)
 
 returns-4 : tie.Need-returns-4
-returns-4 c = alarm-equal (c .before .before .before .before .before .args .p) (c .before .before .before .before .before .args .q) (c .before .before .before .before .before .args .most) (c .before .before .before .before .before .args .least) (c .before .before .before .before .if1 .taken) (c .before .before .before .if2 .left) (c .if3 .left)
+returns-4 c =
+    let at-if2 = c .before .before .before in
+    let at-if1 = at-if2 .before in
+    let start = at-if1 .before in
+    alarm-equal (start .args .p) (start .args .q) (start .args .most) (start .args .least) (at-if1 .if1 .taken) (at-if2 .if2 .left) (c .if3 .left)
 
 returns-5 : tie.Need-returns-5
 returns-5 c = alarm-none (c .before .args .p) (c .before .args .q) (c .before .args .most) (c .before .args .least) (c .if1 .left)

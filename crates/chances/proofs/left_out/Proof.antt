@@ -35,7 +35,10 @@ single-requires : tie.Need-single-requires Inv-loop μ-loop
 single-requires c κs = c .before .before .before .before .pre
 
 returns : tie.Need-returns Inv-loop μ-loop
-returns c = sym (any-here (λ l. not (eqb l none) && eqb (howMany l (c .before .before .before .before .before .before .args .labels .now)) 1) (c .before .before .before .before .before .before .args .labels .now) (c .before .before .before .before .loop .i) 0 (omega arith) (sym (c .before .single .ensures) ∙ c .if1 .taken)) ∙ c .before .before .before .before .loop .inv
+returns c =
+    let turn = c .before .before .before .before .loop in
+    let args = c .before .before .before .before .before .before .args in
+    sym (any-here (λ l. not (eqb l none) && eqb (howMany l (args .labels .now)) 1) (args .labels .now) (turn .i) 0 (omega arith) (sym (c .before .single .ensures) ∙ c .if1 .taken)) ∙ turn .inv
 
 add-i : tie.Need-add-i Inv-loop μ-loop
 add-i c = omega arith
@@ -44,7 +47,10 @@ loop-less : tie.Need-loop-less Inv-loop μ-loop
 loop-less c = omega arith
 
 loop-again : tie.Need-loop-again Inv-loop μ-loop
-loop-again c = sym (any-later (λ l. not (eqb l none) && eqb (howMany l (c .before .before .before .before .before .before .args .labels .now)) 1) (c .before .before .before .before .before .before .args .labels .now) (c .before .before .before .before .loop .i) 0 (omega arith) (sym (c .before .single .ensures) ∙ c .if1 .left)) ∙ c .before .before .before .before .loop .inv
+loop-again c =
+    let turn = c .before .before .before .before .loop in
+    let args = c .before .before .before .before .before .before .args in
+    sym (any-later (λ l. not (eqb l none) && eqb (howMany l (args .labels .now)) 1) (args .labels .now) (turn .i) 0 (omega arith) (sym (c .before .single .ensures) ∙ c .if1 .left)) ∙ turn .inv
 
 returns-2 : tie.Need-returns-2 Inv-loop μ-loop
 returns-2 c = sym (any-none (λ l. not (eqb l none) && eqb (howMany l (c .before .before .before .args .labels .now)) 1) (c .before .before .before .args .labels .now) (c .before .loop .i) (omega arith)) ∙ c .before .loop .inv

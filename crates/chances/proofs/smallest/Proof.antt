@@ -40,7 +40,10 @@ loop-less : tie.Need-loop-less Inv-loop μ-loop
 loop-less c = omega arith
 
 loop-again : tie.Need-loop-again Inv-loop μ-loop
-loop-again c = (omega arith, fold-more min (largest (c .before .before .before .before .before .before .args .sizes .now)) (c .before .before .before .before .before .before .args .sizes .now) (c .before .before .before .loop .k - 1) (c .before .before .before .loop .k) (omega arith) (omega arith) (c .before .before .before .loop .inv .1) (c .smaller-of .ensures))
+loop-again c =
+    let turn = c .before .before .before .loop in
+    let args = c .before .before .before .before .before .before .args in
+    (omega arith, fold-more min (largest (args .sizes .now)) (args .sizes .now) (turn .k - 1) (turn .k) (omega arith) (omega arith) (turn .inv .1) (c .smaller-of .ensures))
 
 returns : tie.Need-returns Inv-loop μ-loop
 unfolding smallest

@@ -25,7 +25,10 @@ enum-told-2 : tie.Need-enum-told-2
 enum-told-2 c = search needs
 
 returns-2 : tie.Need-returns-2
-returns-2 c = together-second (c .before .before .before .before .before .before .args .sizes .now) (c .before .before .before .before .before .before .args .dispersion) (c .before .before .before .location .given .1) (c .enum-told2 .given .1)
+returns-2 c =
+    let after-location = c .before .before .before in
+    let start = after-location .before .before .before in
+    together-second (start .args .sizes .now) (start .args .dispersion) (after-location .location .given .1) (c .enum-told2 .given .1)
 
 largest-requires : tie.Need-largest-requires
 largest-requires c κs = search needs
@@ -37,7 +40,10 @@ alarm-requires : tie.Need-alarm-requires
 alarm-requires c κs = search needs
 
 returns-3 : tie.Need-returns-3
-returns-3 c = together-both (c .before .before .before .before .before .before .before .before .before .before .args .sizes .now) (c .before .before .before .before .before .before .before .before .before .before .args .dispersion) (c .before .before .before .before .before .before .before .location .given .1) (c .before .before .before .before .dispersion .given .1) (rw (c .alarm .ensures, c .before .before .largest .ensures, c .before .smallest .ensures))
+returns-3 c =
+    let location = c .before .before .before .before .before .before .before .location in
+    let args = c .before .before .before .before .before .before .before .before .before .before .args in
+    together-both (args .sizes .now) (args .dispersion) (location .given .1) (c .before .before .before .before .dispersion .given .1) (rw (c .alarm .ensures, c .before .before .largest .ensures, c .before .smallest .ensures))
 
 pub together-of-spec : {M : Type 1} → statement M
 together-of-spec =

@@ -39,14 +39,20 @@ loop-less c = omega arith
 
 loop-again : tie.Need-loop-again Inv-loop μ-loop
 loop-again c =
-    let next : Bool → Type 0 = λ t. Factoring (c .before .before .before .before .before .before .before .before .before .args .p) (c .before .before .before .before .before .before .before .before .before .args .a .now) (c .before .before .before .factor-row .last .0) t (c .before .before .before .before .before .before .loop .i + 1) in
+    let after-factor-row = c .before .before .before in
+    let in-loop = after-factor-row .before .before in
+    let at-loop = in-loop .before in
+    let start = at-loop .before .before .before in
+    let next : Bool → Type 0 = λ t. Factoring (start .args .p) (start .args .a .now) (after-factor-row .factor-row .last .0) t (at-loop .loop .i + 1) in
     ⊎-elim
-    (λ w. subst next (or-true (c .before .before .before .before .before .before .loop .fails) ∙ sym (w .1)) (factoring-next (c .before .before .before .before .before .before .before .before .before .args .p) (c .before .before .before .before .before .before .before .before .before .args .a .now) (c .before .before .before .before .before .before .loop .l) (c .before .before .before .before .before .before .loop .inv) (c .before .before .before .before .before .loop-test .taken) (c .before .before .before .factor-row .kept .0 ∙ c .before .before .before .before .before .before .loop .inv .long) (c .before .before .before .factor-row .ensures .0) (c .before .before .before .factor-row .ensures .1) (w .0 .taken)))
-    (λ w. subst next (or-false (c .before .before .before .before .before .before .loop .fails) ∙ sym (w .1)) (factoring-next (c .before .before .before .before .before .before .before .before .before .args .p) (c .before .before .before .before .before .before .before .before .before .args .a .now) (c .before .before .before .before .before .before .loop .l) (c .before .before .before .before .before .before .loop .inv) (c .before .before .before .before .before .loop-test .taken) (c .before .before .before .factor-row .kept .0 ∙ c .before .before .before .before .before .before .loop .inv .long) (c .before .before .before .factor-row .ensures .0) (c .before .before .before .factor-row .ensures .1) (w .0 .left)))
+    (λ w. subst next (or-true (at-loop .loop .fails) ∙ sym (w .1)) (factoring-next (start .args .p) (start .args .a .now) (at-loop .loop .l) (at-loop .loop .inv) (in-loop .loop-test .taken) (after-factor-row .factor-row .kept .0 ∙ at-loop .loop .inv .long) (after-factor-row .factor-row .ensures .0) (after-factor-row .factor-row .ensures .1) (w .0 .taken)))
+    (λ w. subst next (or-false (at-loop .loop .fails) ∙ sym (w .1)) (factoring-next (start .args .p) (start .args .a .now) (at-loop .loop .l) (at-loop .loop .inv) (in-loop .loop-test .taken) (after-factor-row .factor-row .kept .0 ∙ at-loop .loop .inv .long) (after-factor-row .factor-row .ensures .0) (after-factor-row .factor-row .ensures .1) (w .0 .left)))
     (c .if1 .came)
 
 same-length : tie.Need-same-length Inv-loop μ-loop
-same-length c = c .before .loop .inv .long ∙ sym (ap length (c .before .before .before .before .pre .1) ∙ length-replicate (c .before .before .before .before .args .p * c .before .before .before .before .args .p) zero⁺)
+same-length c =
+    let start = c .before .before .before .before in
+    c .before .loop .inv .long ∙ sym (ap length (start .pre .1) ∙ length-replicate (start .args .p * start .args .p) zero⁺)
 
 returns : tie.Need-returns Inv-loop μ-loop
 returns c = factoring-all (c .before .before .before .before .args .p) (c .before .before .before .before .args .a .now) (c .before .loop .inv) (c .loop-test .left)

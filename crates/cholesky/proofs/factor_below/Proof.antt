@@ -24,22 +24,40 @@ loop-holds : tie.Need-loop-holds Inv-loop μ-loop
 loop-holds c = (omega arith, refl, inTurn-none _ _)
 
 reduce-requires : tie.Need-reduce-requires Inv-loop μ-loop
-reduce-requires c κs = (c .before .before .before .before .before .pre .0, c .before .before .loop .inv .1 ∙ c .before .before .before .before .before .pre .1, c .before .before .before .before .before .pre .2, omega arith)
+reduce-requires c κs =
+    let pre = c .before .before .before .before .before .pre in
+    (pre .0, c .before .before .loop .inv .1 ∙ pre .1, pre .2, omega arith)
 
 at-requires : tie.Need-at-requires Inv-loop μ-loop
 at-requires c κs = (c .before .before .before .before .loop .inv .1 ∙ c .before .before .before .before .before .before .before .pre .1, omega arith, omega arith)
 
 mul-l : tie.Need-mul-l Inv-loop μ-loop
-mul-l c = omega (arith, cell-below (c .before .before .before .before .before .before .before .before .args .p) (c .before .before .before .before .before .before .before .before .args .p) (c .before .before .before .before .before .before .before .before .args .i) (c .before .before .before .before .before .loop .j) (c .before .before .before .before .before .before .before .before .pre .2) (omega arith))
+mul-l c =
+    let turn = c .before .before .before .before .before .loop in
+    let args = c .before .before .before .before .before .before .before .before .args in
+    let pre = c .before .before .before .before .before .before .before .before .pre in
+    omega (arith, cell-below (args .p) (args .p) (args .i) (turn .j) (pre .2) (omega arith))
 
 add-l : tie.Need-add-l Inv-loop μ-loop
-add-l c = omega (arith, cell-below (c .before .before .before .before .before .before .before .before .args .p) (c .before .before .before .before .before .before .before .before .args .p) (c .before .before .before .before .before .before .before .before .args .i) (c .before .before .before .before .before .loop .j) (c .before .before .before .before .before .before .before .before .pre .2) (omega arith))
+add-l c =
+    let turn = c .before .before .before .before .before .loop in
+    let args = c .before .before .before .before .before .before .before .before .args in
+    let pre = c .before .before .before .before .before .before .before .before .pre in
+    omega (arith, cell-below (args .p) (args .p) (args .i) (turn .j) (pre .2) (omega arith))
 
 mul-l-2 : tie.Need-mul-l-2 Inv-loop μ-loop
-mul-l-2 c = omega (arith, cell-below (c .before .before .before .before .before .before .before .before .args .p) (c .before .before .before .before .before .before .before .before .args .p) (c .before .before .before .before .before .before .before .before .args .i) (c .before .before .before .before .before .loop .j) (c .before .before .before .before .before .before .before .before .pre .2) (omega arith))
+mul-l-2 c =
+    let turn = c .before .before .before .before .before .loop in
+    let args = c .before .before .before .before .before .before .before .before .args in
+    let pre = c .before .before .before .before .before .before .before .before .pre in
+    omega (arith, cell-below (args .p) (args .p) (args .i) (turn .j) (pre .2) (omega arith))
 
 slice-write-l : tie.Need-slice-write-l Inv-loop μ-loop
-slice-write-l c = omega (arith, cell-below (c .before .before .before .before .before .before .before .before .args .p) (c .before .before .before .before .before .before .before .before .args .p) (c .before .before .before .before .before .before .before .before .args .i) (c .before .before .before .before .before .loop .j) (c .before .before .before .before .before .before .before .before .pre .2) (omega arith))
+slice-write-l c =
+    let turn = c .before .before .before .before .before .loop in
+    let args = c .before .before .before .before .before .before .before .before .args in
+    let pre = c .before .before .before .before .before .before .before .before .pre in
+    omega (arith, cell-below (args .p) (args .p) (args .i) (turn .j) (pre .2) (omega arith))
 
 add-j : tie.Need-add-j Inv-loop μ-loop
 add-j c = omega arith
@@ -49,12 +67,14 @@ loop-less c = omega arith
 
 loop-again : tie.Need-loop-again Inv-loop μ-loop
 unfolding cholEntry
-loop-again c = (
-  omega arith,
-  simp length-set (c .before .before .before .before .before .loop .inv .1),
-  inTurn-next _ _ _ (c .before .before .before .before .before .loop .inv .2)
-      (rw (ne-eqb (c .before .before .before .before .before .before .before .before .args .i) (c .before .before .before .before .before .loop .j) (λ e. omega arith)) (ap₂ (λ (s d : Float). set (c .before .before .before .before .before .loop .l) (c .before .before .before .before .before .before .before .before .args .i * c .before .before .before .before .before .before .before .before .args .p + c .before .before .before .before .before .loop .j) (s ⊘ d)) (c .before .before .reduce .ensures) (c .at .ensures))),
-)
+loop-again c =
+    let turn = c .before .before .before .before .before .loop in
+    let args = c .before .before .before .before .before .before .before .before .args in (
+      omega arith,
+      simp length-set (turn .inv .1),
+      inTurn-next _ _ _ (turn .inv .2)
+          (rw (ne-eqb (args .i) (turn .j) (λ e. omega arith)) (ap₂ (λ (s d : Float). set (turn .l) (args .i * args .p + turn .j) (s ⊘ d)) (c .before .before .reduce .ensures) (c .at .ensures))),
+    )
 
 same-length : tie.Need-same-length Inv-loop μ-loop
 same-length c = c .before .loop .inv .1

@@ -14,17 +14,23 @@ factor-below-requires : tie.Need-factor-below-requires
 factor-below-requires c κs = c .before .before .before .pre
 
 factor-pivot-requires : tie.Need-factor-pivot-requires
-factor-pivot-requires c κs = (c .before .before .before .before .before .before .before .pre .0, c .before .before .before .factor-below .kept .0 ∙ c .before .before .before .before .before .before .before .pre .1, c .before .before .before .before .before .before .before .pre .2)
+factor-pivot-requires c κs =
+    let after-factor-below = c .before .before .before in
+    let start = after-factor-below .before .before .before .before in
+    (start .pre .0, after-factor-below .factor-below .kept .0 ∙ start .pre .1, start .pre .2)
 
 same-length : tie.Need-same-length
 same-length c = c .before .before .factor-pivot .kept .0 ∙ c .before .before .before .before .before .before .factor-below .kept .0
 
 returns : tie.Need-returns
 unfolding cholRow
-returns c = (
-  inTurn-next (cholEntry (c .before .before .before .before .before .before .before .before .before .before .args .p) (c .before .before .before .before .before .before .before .before .before .before .args .a .now) (c .before .before .before .before .before .before .before .before .before .before .args .i)) (c .before .before .before .before .before .before .before .before .before .before .args .i) (c .before .before .before .before .before .before .before .before .before .before .args .l .now) (c .before .before .before .before .before .before .factor-below .ensures) (c .before .before .factor-pivot .ensures .0),
-  c .before .before .factor-pivot .ensures .1 ∙ pivot-kept (c .before .before .before .before .before .before .before .before .before .before .args .p) (c .before .before .before .before .before .before .before .before .before .before .args .a .now) (c .before .before .before .before .before .before .before .before .before .before .args .i) (c .before .before .before .before .before .before .factor-below .last .0) ∙ ap (λ (t : List Float). reduced (c .before .before .before .before .before .before .before .before .before .before .args .p) (c .before .before .before .before .before .before .before .before .before .before .args .a .now) t (c .before .before .before .before .before .before .before .before .before .before .args .i) (c .before .before .before .before .before .before .before .before .before .before .args .i)) (sym (c .before .before .factor-pivot .ensures .0)),
-)
+returns c =
+    let after-factor-pivot = c .before .before in
+    let after-factor-below = after-factor-pivot .before .before .before .before in
+    let start = after-factor-below .before .before .before .before in (
+      inTurn-next (cholEntry (start .args .p) (start .args .a .now) (start .args .i)) (start .args .i) (start .args .l .now) (after-factor-below .factor-below .ensures) (after-factor-pivot .factor-pivot .ensures .0),
+      after-factor-pivot .factor-pivot .ensures .1 ∙ pivot-kept (start .args .p) (start .args .a .now) (start .args .i) (after-factor-below .factor-below .last .0) ∙ ap (λ (t : List Float). reduced (start .args .p) (start .args .a .now) t (start .args .i) (start .args .i)) (sym (after-factor-pivot .factor-pivot .ensures .0)),
+    )
 
 pub factor-row-spec : {M : Type 1} → statement M
 factor-row-spec =

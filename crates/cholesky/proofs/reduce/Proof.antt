@@ -28,7 +28,9 @@ at-requires-2 : tie.Need-at-requires-2 Inv-loop μ-loop
 at-requires-2 c κs = (c .before .before .before .before .before .pre .1, c .before .before .before .before .before .pre .2, omega arith)
 
 at-requires-3 : tie.Need-at-requires-3 Inv-loop μ-loop
-at-requires-3 c κs = (c .before .before .before .before .before .before .pre .1, c .before .before .before .before .before .before .pre .3, omega arith)
+at-requires-3 c κs =
+    let pre = c .before .before .before .before .before .before .pre in
+    (pre .1, pre .3, omega arith)
 
 add-k : tie.Need-add-k Inv-loop μ-loop
 add-k c = omega arith

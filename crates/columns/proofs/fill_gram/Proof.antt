@@ -58,14 +58,18 @@ same-length-3 c = search needs
 returns : tie.Need-returns
 unfolding cleared
 returns c =
+    let after-fill = c .before .before .before .before .before .before in
+    let after-square-sum = after-fill .before .before .before .before in
+    let after-mark-sets = after-square-sum .before .before .before in
+    let after-mean-sums = after-mark-sets .before .before .before .before in
     let s = c .before .before .before .before .before .before .before .before .before .before .before .before .before .before .before .before .before .before .before .before .before .before .before .before .before in
     let a = s .args in
     let m = length (a .means .now) in
     let r = room (a .n) m (length (a .words .now)) (s .pre .0 .1) (s .pre .1 .1) in
-    let bits = c .before .before .before .before .before .before .before .before .before .before .before .before .before .mark-sets in
-    let summed = c .before .before .before .before .before .before .before .before .before .before .before .before .before .before .before .before .before .mean-sums .ensures in
-    let squares = c .before .before .before .before .before .before .before .before .before .before .square-sum .ensures in
-    let filled = c .before .before .before .before .before .before .fill .ensures in
+    let bits = after-mark-sets .mark-sets in
+    let summed = after-mean-sums .mean-sums .ensures in
+    let squares = after-square-sum .square-sum .ensures in
+    let filled = after-fill .fill .ensures in
     let matrix = matrix-is (a .n) ((m + 63) / 64) (a .columns .now) (a .offsets .now) (a .means .now) (r .1) (a .words .now) (bits .ensures) (a .sums .now) summed squares in
     (filled ∙ ap (λ (g : List Float). over g (a .out .now)) matrix, c .before .before .clear .ensures ∙ ap (λ (k : ℕ). replicate k 0) (bits .kept .0))
 

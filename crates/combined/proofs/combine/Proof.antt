@@ -18,7 +18,9 @@ abbrev μ-loop : tie.MeasureT-loop
 
 -- row j lies within the slice
 within : (c : tie.In-loop Inv-loop μ-loop) → c .before .loop .j * c .before .before .before .before .before .args .n + c .before .before .before .before .before .args .n ≤ length (c .before .loop .out)
-within c = omega (arith, row-end (c .before .before .before .before .before .args .n) (c .before .loop .j) (c .before .before .before .before .before .args .k) (c .loop-test .taken), c .before .loop .inv .long)
+within c =
+    let args = c .before .before .before .before .before .args in
+    omega (arith, row-end (args .n) (c .before .loop .j) (args .k) (c .loop-test .taken), c .before .loop .inv .long)
 
 loop-holds : tie.Need-loop-holds Inv-loop μ-loop
 loop-holds c =

@@ -19,16 +19,28 @@ leading-of-requires : tie.Need-leading-of-requires
 leading-of-requires c κs = search needs
 
 fill-group-each-requires : tie.Need-fill-group-each-requires
-fill-group-each-requires c κs = (omega (arith, c .before .before .before .before .before .before .before .before .pre .0 .few), c .before .before .before .before .before .before .before .before .pre .1 .0, c .before .before .before .before .before .before .before .before .pre .0 .numbersFit)
+fill-group-each-requires c κs =
+    let pre = c .before .before .before .before .before .before .before .before .pre in
+    (omega (arith, pre .0 .few), pre .1 .0, pre .0 .numbersFit)
 
 slice-reshare-prefix-discriminate : tie.Need-slice-reshare-prefix-discriminate
-slice-reshare-prefix-discriminate c = omega (arith, c .before .before .before .before .fill-group-each .kept .1 .1 .0, c .before .before .before .before .before .before .before .before .before .before .before .before .before .pre .0 .numbersFit)
+slice-reshare-prefix-discriminate c =
+    let pre = c .before .before .before .before .before .before .before .before .before .before .before .before .before .pre in
+    omega (arith, c .before .before .before .before .fill-group-each .kept .1 .1 .0, pre .0 .numbersFit)
 
 slice-aggregate-discriminate : tie.Need-slice-aggregate-discriminate
-slice-aggregate-discriminate c = sym (length-take-le (length (c .before .before .before .before .before .before .before .before .before .before .before .before .before .before .args .labels .now)) (c .before .before .before .before .before .fill-group-each .last .1 .1 .0) (omega (arith, c .before .before .before .before .before .fill-group-each .kept .1 .1 .0, c .before .before .before .before .before .before .before .before .before .before .before .before .before .before .pre .0 .numbersFit)))
+slice-aggregate-discriminate c =
+    let fill-group-each = c .before .before .before .before .before .fill-group-each in
+    let args = c .before .before .before .before .before .before .before .before .before .before .before .before .before .before .args in
+    let pre = c .before .before .before .before .before .before .before .before .before .before .before .before .before .before .pre in
+    sym (length-take-le (length (args .labels .now)) (fill-group-each .last .1 .1 .0) (omega (arith, fill-group-each .kept .1 .1 .0, pre .0 .numbersFit)))
 
 discriminate-requires : tie.Need-discriminate-requires
-discriminate-requires c κs = (made-ready (c .before .before .before .before .before .before .before .before .before .before .before .before .before .before .args .columns) (c .before .before .before .before .before .before .before .before .before .before .before .before .before .before .args .m) (c .before .before .before .before .before .before .before .before .before .before .before .before .before .before .args .g) (c .before .before .before .before .before .before .before .leading-of .result) (c .before .before .before .before .before .before .before .before .before .before .before .before .before .before .args .x .now) (c .before .before .before .before .before .before .before .before .before .before .before .before .before .before .args .labels .now) (length (c .before .before .before .before .before .before .before .before .before .before .before .before .before .before .args .out .now)) (length (c .before .before .before .before .before .before .before .before .before .before .before .before .before .before .args .assigned .now)) (length (c .before .before .before .before .before .before .before .before .before .before .before .before .before .before .args .each .now)) (c .before .before .before .before .before .before .before .before .before .before .before .before .before .before .pre .0) (c .before .before .before .before .before .before .before .before .before .before .before .before .before .before .pre .1 .1) (c .before .before .before .before .before .before .before .before .before .before .before .before .before .before .pre .1 .2) (c .before .before .before .before .before .before .before .leading-of .ensures) (take (length (c .before .before .before .before .before .before .before .before .before .before .before .before .before .before .args .labels .now)) (c .before .before .before .before .before .fill-group-each .last .1 .1 .0)) (ap (take (length (c .before .before .before .before .before .before .before .before .before .before .before .before .before .before .args .labels .now))) (c .before .before .before .before .before .fill-group-each .ensures) ∙ take-over (groupEach (c .before .before .before .before .before .before .before .before .before .before .before .before .before .before .args .labels .now)) (c .before .before .before .before .before .before .before .before .before .before .before .before .before .before .args .each .now) (length (c .before .before .before .before .before .before .before .before .before .before .before .before .before .before .args .labels .now)) (length-each (c .before .before .before .before .before .before .before .before .before .before .before .before .before .before .args .labels .now))) (c .before .before .before .before .before .before .before .before .before .before .before .before .before .before .pre .1 .3), kept-grouped (c .before .before .before .before .before .before .before .before .before .before .before .before .before .before .args .columns) (c .before .before .before .before .before .before .before .before .before .before .before .before .before .before .args .m) (c .before .before .before .before .before .before .before .before .before .before .before .before .before .before .args .g) (c .before .before .before .before .before .before .before .leading-of .result) (c .before .before .before .before .before .before .before .before .before .before .before .before .before .before .args .x .now) (c .before .before .before .before .before .before .before .before .before .before .before .before .before .before .args .labels .now) (length (c .before .before .before .before .before .before .before .before .before .before .before .before .before .before .args .out .now)) (length (c .before .before .before .before .before .before .before .before .before .before .before .before .before .before .args .assigned .now)) (length (c .before .before .before .before .before .before .before .before .before .before .before .before .before .before .args .each .now)) (c .before .before .before .before .before .before .before .before .before .before .before .before .before .before .pre .0) (c .before .before .before .before .before .before .before .before .before .before .before .before .before .before .pre .1 .1) (c .before .before .before .before .before .before .before .before .before .before .before .before .before .before .pre .1 .2) (c .before .before .before .before .before .before .before .leading-of .ensures) (take (length (c .before .before .before .before .before .before .before .before .before .before .before .before .before .before .args .labels .now)) (c .before .before .before .before .before .fill-group-each .last .1 .1 .0)) (ap (take (length (c .before .before .before .before .before .before .before .before .before .before .before .before .before .before .args .labels .now))) (c .before .before .before .before .before .fill-group-each .ensures) ∙ take-over (groupEach (c .before .before .before .before .before .before .before .before .before .before .before .before .before .before .args .labels .now)) (c .before .before .before .before .before .before .before .before .before .before .before .before .before .before .args .each .now) (length (c .before .before .before .before .before .before .before .before .before .before .before .before .before .before .args .labels .now)) (length-each (c .before .before .before .before .before .before .before .before .before .before .before .before .before .before .args .labels .now))))
+discriminate-requires c κs =
+    let after-fill-group-each = c .before .before .before .before .before in
+    let after-leading-of = after-fill-group-each .before .before in
+    let start = after-leading-of .before .before .before .before .before .before .before in
+    (made-ready (start .args .columns) (start .args .m) (start .args .g) (after-leading-of .leading-of .result) (start .args .x .now) (start .args .labels .now) (length (start .args .out .now)) (length (start .args .assigned .now)) (length (start .args .each .now)) (start .pre .0) (start .pre .1 .1) (start .pre .1 .2) (after-leading-of .leading-of .ensures) (take (length (start .args .labels .now)) (after-fill-group-each .fill-group-each .last .1 .1 .0)) (ap (take (length (start .args .labels .now))) (after-fill-group-each .fill-group-each .ensures) ∙ take-over (groupEach (start .args .labels .now)) (start .args .each .now) (length (start .args .labels .now)) (length-each (start .args .labels .now))) (start .pre .1 .3), kept-grouped (start .args .columns) (start .args .m) (start .args .g) (after-leading-of .leading-of .result) (start .args .x .now) (start .args .labels .now) (length (start .args .out .now)) (length (start .args .assigned .now)) (length (start .args .each .now)) (start .pre .0) (start .pre .1 .1) (start .pre .1 .2) (after-leading-of .leading-of .ensures) (take (length (start .args .labels .now)) (after-fill-group-each .fill-group-each .last .1 .1 .0)) (ap (take (length (start .args .labels .now))) (after-fill-group-each .fill-group-each .ensures) ∙ take-over (groupEach (start .args .labels .now)) (start .args .each .now) (length (start .args .labels .now)) (length-each (start .args .labels .now))))
 
 same-length : tie.Need-same-length
 same-length c = c .before .before .before .before .discriminate .kept .0
@@ -40,7 +52,12 @@ same-length-3 : tie.Need-same-length-3
 same-length-3 c = c .before .before .before .before .before .before .before .before .before .before .fill-group-each .kept .1 .1 .0
 
 returns : tie.Need-returns
-returns c = assessed (c .before .before .before .before .before .before .before .before .before .before .before .before .before .before .before .before .before .before .before .args .columns) (c .before .before .before .before .before .before .before .before .before .before .before .before .before .before .before .before .before .before .before .args .m) (c .before .before .before .before .before .before .before .before .before .before .before .before .before .before .before .before .before .before .before .args .g) (c .before .before .before .before .before .before .before .before .before .before .before .before .leading-of .result) (c .before .before .before .before .before .before .before .before .before .before .before .before .before .before .before .before .before .before .before .args .x .now) (c .before .before .before .before .before .before .before .before .before .before .before .before .before .before .before .before .before .before .before .args .labels .now) (length (c .before .before .before .before .before .before .before .before .before .before .before .before .before .before .before .before .before .before .before .args .out .now)) (length (c .before .before .before .before .before .before .before .before .before .before .before .before .before .before .before .before .before .before .before .args .assigned .now)) (length (c .before .before .before .before .before .before .before .before .before .before .before .before .before .before .before .before .before .before .before .args .each .now)) (c .before .before .before .before .before .before .before .before .before .before .before .before .before .before .before .before .before .before .before .pre .0) (c .before .before .before .before .before .before .before .before .before .before .before .before .before .before .before .before .before .before .before .pre .1 .1) (c .before .before .before .before .before .before .before .before .before .before .before .before .before .before .before .before .before .before .before .pre .1 .2) (c .before .before .before .before .before .before .before .before .before .before .before .before .leading-of .ensures) (take (length (c .before .before .before .before .before .before .before .before .before .before .before .before .before .before .before .before .before .before .before .args .labels .now)) (c .before .before .before .before .before .before .before .before .before .before .fill-group-each .last .1 .1 .0)) (ap (take (length (c .before .before .before .before .before .before .before .before .before .before .before .before .before .before .before .before .before .before .before .args .labels .now))) (c .before .before .before .before .before .before .before .before .before .before .fill-group-each .ensures) ∙ take-over (groupEach (c .before .before .before .before .before .before .before .before .before .before .before .before .before .before .before .before .before .before .before .args .labels .now)) (c .before .before .before .before .before .before .before .before .before .before .before .before .before .before .before .before .before .before .before .args .each .now) (length (c .before .before .before .before .before .before .before .before .before .before .before .before .before .before .before .before .before .before .before .args .labels .now)) (length-each (c .before .before .before .before .before .before .before .before .before .before .before .before .before .before .before .before .before .before .before .args .labels .now))) (c .before .before .before .before .before .before .before .before .before .before .before .before .before .before .before .before .before .before .before .args .out .now) (c .before .before .before .before .before .before .before .before .before .before .before .before .before .before .before .before .before .before .before .args .assigned .now) (c .before .before .before .before .discriminate .ensures)
+returns c =
+    let after-discriminate = c .before .before .before .before in
+    let after-fill-group-each = after-discriminate .before .before .before .before .before .before in
+    let after-leading-of = after-fill-group-each .before .before in
+    let start = after-leading-of .before .before .before .before .before .before .before in
+    assessed (start .args .columns) (start .args .m) (start .args .g) (after-leading-of .leading-of .result) (start .args .x .now) (start .args .labels .now) (length (start .args .out .now)) (length (start .args .assigned .now)) (length (start .args .each .now)) (start .pre .0) (start .pre .1 .1) (start .pre .1 .2) (after-leading-of .leading-of .ensures) (take (length (start .args .labels .now)) (after-fill-group-each .fill-group-each .last .1 .1 .0)) (ap (take (length (start .args .labels .now))) (after-fill-group-each .fill-group-each .ensures) ∙ take-over (groupEach (start .args .labels .now)) (start .args .each .now) (length (start .args .labels .now)) (length-each (start .args .labels .now))) (start .args .out .now) (start .args .assigned .now) (after-discriminate .discriminate .ensures)
 
 pub assess-spec : {M : Type 1} → statement M
 assess-spec =

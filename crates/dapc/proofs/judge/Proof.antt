@@ -19,7 +19,9 @@ use Rattle.dapc.proofs.judge.Statement.{statement}
 use Rattle.dapc.proofs.judge.Tie as tie
 
 group-requires : tie.Need-group-requires
-group-requires c κs = (omega (arith, c .before .before .before .before .before .before .before .before .before .before .pre .0 .few), c .before .before .before .before .before .before .before .before .before .before .pre .1, c .before .before .before .before .before .before .before .before .before .before .pre .2, c .before .before .before .before .before .before .before .before .before .before .pre .0 .numbersFit)
+group-requires c κs =
+    let pre = c .before .before .before .before .before .before .before .before .before .before .pre in
+    (omega (arith, pre .0 .few), pre .1, pre .2, pre .0 .numbersFit)
 
 check-groups-requires : tie.Need-check-groups-requires
 check-groups-requires c κs = search needs
@@ -31,10 +33,16 @@ enum-told : tie.Need-enum-told
 enum-told c = search needs
 
 slice-reshare-prefix-assess : tie.Need-slice-reshare-prefix-assess
-slice-reshare-prefix-assess c = omega (arith, c .before .before .before .before .before .before .before .before .before .before .before .before .group .ensures .labelled .many, names-few (c .before .before .before .before .before .before .before .before .before .before .before .before .before .before .before .before .before .before .before .before .before .before .before .args .labels .now), c .before .before .before .before .before .before .before .before .before .before .before .before .before .before .before .before .before .before .before .before .before .before .before .pre .2, c .before .before .before .before .before .before .before .before .before .before .before .before .group .kept .1 .1 .0)
+slice-reshare-prefix-assess c =
+    let group = c .before .before .before .before .before .before .before .before .before .before .before .before .group in
+    let args = c .before .before .before .before .before .before .before .before .before .before .before .before .before .before .before .before .before .before .before .before .before .before .before .args in
+    let pre = c .before .before .before .before .before .before .before .before .before .before .before .before .before .before .before .before .before .before .before .before .before .before .before .pre in
+    omega (arith, group .ensures .labelled .many, names-few (args .labels .now), pre .2, group .kept .1 .1 .0)
 
 slice-aggregate-assess : tie.Need-slice-aggregate-assess
-slice-aggregate-assess c = filled-part _ (c .before .before .before .before .before .before .before .before .before .before .before .before .before .group .ensures .labelled)
+slice-aggregate-assess c =
+    let after-group = c .before .before .before .before .before .before .before .before .before .before .before .before .before in
+    filled-part _ (after-group .group .ensures .labelled)
 
 assess-requires : tie.Need-assess-requires
 assess-requires c κs =
@@ -63,8 +71,11 @@ same-length-3 c = search needs
 
 returns : tie.Need-returns
 returns c =
-    let counts = counts-are (c .before .before .before .before .before .before .before .before .before .before .before .before .before .before .before .before .before .before .before .before .before .args .labels .now) (c .before .before .before .before .before .before .before .before .before .before .group .ensures) in
-    groups-refused (length (c .before .before .before .before .before .before .before .before .before .before .before .before .before .before .before .before .before .before .before .before .before .args .labels .now)) (c .before .before .before .before .before .before .before .before .before .before .before .before .before .before .before .before .before .before .before .before .before .args .columns) (c .before .before .before .before .before .before .before .before .before .before .before .before .before .before .before .before .before .before .before .before .before .args .x .now) (c .before .before .before .before .before .before .before .before .before .before .before .before .before .before .before .before .before .before .before .before .before .args .labels .now) (c .before .before .before .before .before .before .before .before .before .before .before .before .before .before .before .before .before .before .before .before .before .args .out .now) (c .before .before .before .before .before .before .before .before .before .before .before .before .before .before .before .before .before .before .before .before .before .args .assigned .now) (sym (c .before .c .given .1) ∙ c .before .before .before .check-groups .ensures ∙ ap₂ (λ (m g : ℕ). first (groupLines (c .before .before .before .before .before .before .before .before .before .before .before .before .before .before .before .before .before .before .before .before .before .args .columns) m g)) (counts .0) (counts .1))
+    let after-check-groups = c .before .before .before in
+    let after-group = after-check-groups .before .before .before .before .before .before .before in
+    let start = after-group .before .before .before .before .before .before .before .before .before .before .before in
+    let counts = counts-are (start .args .labels .now) (after-group .group .ensures) in
+    groups-refused (length (start .args .labels .now)) (start .args .columns) (start .args .x .now) (start .args .labels .now) (start .args .out .now) (start .args .assigned .now) (sym (c .before .c .given .1) ∙ after-check-groups .check-groups .ensures ∙ ap₂ (λ (m g : ℕ). first (groupLines (start .args .columns) m g)) (counts .0) (counts .1))
 
 same-length-4 : tie.Need-same-length-4
 same-length-4 c = search needs
@@ -83,10 +94,15 @@ same-length-8 c = search needs
 
 returns-2 : tie.Need-returns-2
 returns-2 c =
-    let counts = counts-are (c .before .before .before .before .before .before .before .before .before .before .before .before .before .before .before .before .before .before .before .before .before .before .before .before .before .before .before .before .before .before .before .args .labels .now) (c .before .before .before .before .before .before .before .before .before .before .before .before .before .before .before .before .before .before .before .before .group .ensures) in
-    groups-passed (length (c .before .before .before .before .before .before .before .before .before .before .before .before .before .before .before .before .before .before .before .before .before .before .before .before .before .before .before .before .before .before .before .args .labels .now)) (c .before .before .before .before .before .before .before .before .before .before .before .before .before .before .before .before .before .before .before .before .before .before .before .before .before .before .before .before .before .before .before .args .columns) (c .before .before .before .before .before .before .before .before .before .before .before .before .before .before .before .before .before .before .before .before .before .before .before .before .before .before .before .before .before .before .before .args .x .now) (c .before .before .before .before .before .before .before .before .before .before .before .before .before .before .before .before .before .before .before .before .before .before .before .before .before .before .before .before .before .before .before .args .labels .now) (c .before .before .before .before .before .before .before .before .before .before .before .before .before .before .before .before .before .before .before .before .before .before .before .before .before .before .before .before .before .before .before .args .out .now) (c .before .before .before .before .before .before .before .before .before .before .before .before .before .before .before .before .before .before .before .before .before .before .before .before .before .before .before .before .before .before .before .args .assigned .now) (sym (c .before .before .before .before .before .before .before .before .before .before .before .enum-told .given .1) ∙ c .before .before .before .before .before .before .before .before .before .before .before .before .before .check-groups .ensures ∙ ap₂ (λ (m g : ℕ). first (groupLines (c .before .before .before .before .before .before .before .before .before .before .before .before .before .before .before .before .before .before .before .before .before .before .before .before .before .before .before .before .before .before .before .args .columns) m g)) (counts .0) (counts .1))
-    (c .before .before .before .before .before .before .assess .ensures
-    ∙ ap₂ (λ (m g : ℕ). leaves (length (c .before .before .before .before .before .before .before .before .before .before .before .before .before .before .before .before .before .before .before .before .before .before .before .before .before .before .before .before .before .before .before .args .labels .now)) (leading (c .before .before .before .before .before .before .before .before .before .before .before .before .before .before .before .before .before .before .before .before .before .before .before .before .before .before .before .before .before .before .before .args .columns) m g) (axesOf g (leading (c .before .before .before .before .before .before .before .before .before .before .before .before .before .before .before .before .before .before .before .before .before .before .before .before .before .before .before .before .before .before .before .args .columns) m g)) (dapc (length (c .before .before .before .before .before .before .before .before .before .before .before .before .before .before .before .before .before .before .before .before .before .before .before .before .before .before .before .before .before .before .before .args .labels .now)) (c .before .before .before .before .before .before .before .before .before .before .before .before .before .before .before .before .before .before .before .before .before .before .before .before .before .before .before .before .before .before .before .args .columns) (c .before .before .before .before .before .before .before .before .before .before .before .before .before .before .before .before .before .before .before .before .before .before .before .before .before .before .before .before .before .before .before .args .x .now) (groupEach (c .before .before .before .before .before .before .before .before .before .before .before .before .before .before .before .before .before .before .before .before .before .before .before .before .before .before .before .before .before .before .before .args .labels .now)) g) (c .before .before .before .before .before .before .before .before .before .before .before .before .before .before .before .before .before .before .before .before .before .before .before .before .before .before .before .before .before .before .before .args .out .now) (c .before .before .before .before .before .before .before .before .before .before .before .before .before .before .before .before .before .before .before .before .before .before .before .before .before .before .before .before .before .before .before .args .assigned .now)) (counts .0) (counts .1))
+    let after-assess = c .before .before .before .before .before .before in
+    let after-enum-told = after-assess .before .before .before .before .before in
+    let after-check-groups = after-enum-told .before .before in
+    let after-group = after-check-groups .before .before .before .before .before .before .before in
+    let start = after-group .before .before .before .before .before .before .before .before .before .before .before in
+    let counts = counts-are (start .args .labels .now) (after-group .group .ensures) in
+    groups-passed (length (start .args .labels .now)) (start .args .columns) (start .args .x .now) (start .args .labels .now) (start .args .out .now) (start .args .assigned .now) (sym (after-enum-told .enum-told .given .1) ∙ after-check-groups .check-groups .ensures ∙ ap₂ (λ (m g : ℕ). first (groupLines (start .args .columns) m g)) (counts .0) (counts .1))
+    (after-assess .assess .ensures
+    ∙ ap₂ (λ (m g : ℕ). leaves (length (start .args .labels .now)) (leading (start .args .columns) m g) (axesOf g (leading (start .args .columns) m g)) (dapc (length (start .args .labels .now)) (start .args .columns) (start .args .x .now) (groupEach (start .args .labels .now)) g) (start .args .out .now) (start .args .assigned .now)) (counts .0) (counts .1))
 
 pub judge-spec : {M : Type 1} → statement M
 judge-spec =

@@ -13,22 +13,39 @@ misfits-requires : tie.Need-misfits-requires
 misfits-requires c κs = search needs
 
 returns : tie.Need-returns
-returns c = line-length (c .before .before .before .args .n) (c .before .before .before .args .columns) (c .before .before .before .args .x .now) (c .before .before .before .args .labels) (c .before .before .before .args .out) (c .before .before .before .args .assigned) (sym (c .before .misfits .ensures) ∙ c .if1 .taken)
+returns c =
+    let start = c .before .before .before in
+    line-length (start .args .n) (start .args .columns) (start .args .x .now) (start .args .labels) (start .args .out) (start .args .assigned) (sym (c .before .misfits .ensures) ∙ c .if1 .taken)
 
 returns-2 : tie.Need-returns-2
-returns-2 c = line-samples (c .before .before .before .before .args .n) (c .before .before .before .before .args .columns) (c .before .before .before .before .args .x .now) (c .before .before .before .before .args .labels) (c .before .before .before .before .args .out) (c .before .before .before .before .args .assigned) (sym (c .before .before .misfits .ensures) ∙ c .before .if1 .left) (lt-ltb 256 (c .before .before .before .before .args .n) (c .if2 .taken))
+returns-2 c =
+    let start = c .before .before .before .before in
+    line-samples (start .args .n) (start .args .columns) (start .args .x .now) (start .args .labels) (start .args .out) (start .args .assigned) (sym (c .before .before .misfits .ensures) ∙ c .before .if1 .left) (lt-ltb 256 (start .args .n) (c .if2 .taken))
 
 returns-3 : tie.Need-returns-3
-returns-3 c = line-columns (c .before .before .before .before .before .args .n) (c .before .before .before .before .before .args .columns) (c .before .before .before .before .before .args .x .now) (c .before .before .before .before .before .args .labels) (c .before .before .before .before .before .args .out) (c .before .before .before .before .before .args .assigned) (sym (c .before .before .before .misfits .ensures) ∙ c .before .before .if1 .left) (le-ltb 256 (c .before .before .before .before .before .args .n) (c .before .if2 .left)) (lt-ltb 16 (c .before .before .before .before .before .args .columns) (c .if3 .taken))
+returns-3 c =
+    let after-misfits = c .before .before .before in
+    let start = after-misfits .before .before in
+    line-columns (start .args .n) (start .args .columns) (start .args .x .now) (start .args .labels) (start .args .out) (start .args .assigned) (sym (after-misfits .misfits .ensures) ∙ c .before .before .if1 .left) (le-ltb 256 (start .args .n) (c .before .if2 .left)) (lt-ltb 16 (start .args .columns) (c .if3 .taken))
 
 beyond-requires : tie.Need-beyond-requires
 beyond-requires c κs = search needs
 
 returns-4 : tie.Need-returns-4
-returns-4 c = line-value (c .before .before .before .before .before .before .before .args .n) (c .before .before .before .before .before .before .before .args .columns) (c .before .before .before .before .before .before .before .args .x .now) (c .before .before .before .before .before .before .before .args .labels) (c .before .before .before .before .before .before .before .args .out) (c .before .before .before .before .before .before .before .args .assigned) (sym (c .before .before .before .before .before .misfits .ensures) ∙ c .before .before .before .before .if1 .left) (le-ltb 256 (c .before .before .before .before .before .before .before .args .n) (c .before .before .before .if2 .left)) (le-ltb 16 (c .before .before .before .before .before .before .before .args .columns) (c .before .before .if3 .left)) (sym (c .before .beyond .ensures) ∙ c .if4 .taken)
+returns-4 c =
+    let at-if2 = c .before .before .before in
+    let at-if1 = at-if2 .before in
+    let after-misfits = at-if1 .before in
+    let start = after-misfits .before .before in
+    line-value (start .args .n) (start .args .columns) (start .args .x .now) (start .args .labels) (start .args .out) (start .args .assigned) (sym (after-misfits .misfits .ensures) ∙ at-if1 .if1 .left) (le-ltb 256 (start .args .n) (at-if2 .if2 .left)) (le-ltb 16 (start .args .columns) (c .before .before .if3 .left)) (sym (c .before .beyond .ensures) ∙ c .if4 .taken)
 
 returns-5 : tie.Need-returns-5
-returns-5 c = line-none (c .before .before .before .before .before .before .before .args .n) (c .before .before .before .before .before .before .before .args .columns) (c .before .before .before .before .before .before .before .args .x .now) (c .before .before .before .before .before .before .before .args .labels) (c .before .before .before .before .before .before .before .args .out) (c .before .before .before .before .before .before .before .args .assigned) (sym (c .before .before .before .before .before .misfits .ensures) ∙ c .before .before .before .before .if1 .left) (le-ltb 256 (c .before .before .before .before .before .before .before .args .n) (c .before .before .before .if2 .left)) (le-ltb 16 (c .before .before .before .before .before .before .before .args .columns) (c .before .before .if3 .left)) (sym (c .before .beyond .ensures) ∙ c .if4 .left)
+returns-5 c =
+    let at-if2 = c .before .before .before in
+    let at-if1 = at-if2 .before in
+    let after-misfits = at-if1 .before in
+    let start = after-misfits .before .before in
+    line-none (start .args .n) (start .args .columns) (start .args .x .now) (start .args .labels) (start .args .out) (start .args .assigned) (sym (after-misfits .misfits .ensures) ∙ at-if1 .if1 .left) (le-ltb 256 (start .args .n) (at-if2 .if2 .left)) (le-ltb 16 (start .args .columns) (c .before .before .if3 .left)) (sym (c .before .beyond .ensures) ∙ c .if4 .left)
 
 pub check-spec : {M : Type 1} → statement M
 check-spec =

@@ -17,10 +17,16 @@ leading-of-requires : tie.Need-leading-of-requires
 leading-of-requires c κs = search needs
 
 returns-2 : tie.Need-returns-2
-returns-2 c = line-leading (c .before .before .before .args .columns) (c .before .before .before .args .m) (c .before .before .before .args .g) (le-ltb (c .before .before .before .args .g) 2 (c .before .before .if1 .left)) (ap (λ (k : ℕ). ltb k 2) (sym (c .before .leading-of .ensures)) ∙ lt-ltb (c .before .leading-of .result) 2 (c .if2 .taken))
+returns-2 c =
+    let after-leading-of = c .before in
+    let start = after-leading-of .before .before in
+    line-leading (start .args .columns) (start .args .m) (start .args .g) (le-ltb (start .args .g) 2 (c .before .before .if1 .left)) (ap (λ (k : ℕ). ltb k 2) (sym (after-leading-of .leading-of .ensures)) ∙ lt-ltb (after-leading-of .leading-of .result) 2 (c .if2 .taken))
 
 returns-3 : tie.Need-returns-3
-returns-3 c = line-passed (c .before .before .before .args .columns) (c .before .before .before .args .m) (c .before .before .before .args .g) (le-ltb (c .before .before .before .args .g) 2 (c .before .before .if1 .left)) (ap (λ (k : ℕ). ltb k 2) (sym (c .before .leading-of .ensures)) ∙ le-ltb (c .before .leading-of .result) 2 (c .if2 .left))
+returns-3 c =
+    let after-leading-of = c .before in
+    let start = after-leading-of .before .before in
+    line-passed (start .args .columns) (start .args .m) (start .args .g) (le-ltb (start .args .g) 2 (c .before .before .if1 .left)) (ap (λ (k : ℕ). ltb k 2) (sym (after-leading-of .leading-of .ensures)) ∙ le-ltb (after-leading-of .leading-of .result) 2 (c .if2 .left))
 
 pub check-groups-spec : {M : Type 1} → statement M
 check-groups-spec = tie.close (tie.spec returns leading-of-requires returns-2 returns-3)

@@ -45,7 +45,10 @@ loop-less : tie.Need-loop-less Inv-loop μ-loop
 loop-less c = omega (arith, c .before .before .before .loop .inv .long)
 
 loop-again : tie.Need-loop-again Inv-loop μ-loop
-loop-again c = writing-next _ _ (c .before .before .before .loop .inv) (c .before .before .loop-test .taken) (ap (λ (v : Float). v ⊕ c .before .before .before .before .args .s ⊗ getD (c .before .before .before .before .args .other .now) (c .before .before .before .loop .c) nan) (writing-here _ _ nan (c .before .before .before .loop .inv)))
+loop-again c =
+    let at-loop = c .before .before .before in
+    let start = at-loop .before in
+    writing-next _ _ (at-loop .loop .inv) (c .before .before .loop-test .taken) (ap (λ (v : Float). v ⊕ start .args .s ⊗ getD (start .args .other .now) (at-loop .loop .c) nan) (writing-here _ _ nan (at-loop .loop .inv)))
 
 same-length : tie.Need-same-length Inv-loop μ-loop
 same-length c = c .before .loop .inv .long

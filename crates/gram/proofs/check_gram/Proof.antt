@@ -55,8 +55,11 @@ counted-requires c κs = search needs
 
 returns : tie.Need-returns
 returns c =
-    let a = c .before .before .before .before .before .before .before .before .before .args in
-    checked-early (a .n) (a .hashes .now) (a .offsets .now) (a .short) (a .beyond) (c .before .e .given .0 .0) (a .columns .now) (a .means .now) (sym (c .before .e .given .1) ∙ c .before .before .before .early .ensures)
+    let after-e = c .before in
+    let after-early = after-e .before .before in
+    let start = after-early .before .before .before .before .before .before in
+    let a = start .args in
+    checked-early (a .n) (a .hashes .now) (a .offsets .now) (a .short) (a .beyond) (after-e .e .given .0 .0) (a .columns .now) (a .means .now) (sym (after-e .e .given .1) ∙ after-early .early .ensures)
 
 same-length : tie.Need-same-length
 same-length c = search needs

@@ -52,9 +52,12 @@ same-length-3 c = search needs
 
 returns : tie.Need-returns
 returns c =
-    let a = c .before .before .before .before .before .before .before .before .before .before .before .before .before .before .before .before .before .before .before .before .before .args in
-    let told = c .before .before .before .before .before .before .before .before .check-gram .ensures .told in
-    let short = c .before .before .before .before .before .before .before .before .before .before .before .before .too-short .ensures in
+    let after-check-gram = c .before .before .before .before .before .before .before .before in
+    let after-too-short = after-check-gram .before .before .before .before in
+    let start = after-too-short .before .before .before .before .before .before .before .before .before in
+    let a = start .args in
+    let told = after-check-gram .check-gram .ensures .told in
+    let short = after-too-short .too-short .ensures in
     call-refused (a .n) (a .hashes .now) (a .offsets .now) (a .out .now) (a .words .now) (c .enum-told .given .0 .0) (c .enum-told .given .1)
     (told ∙ ap (λ (s : Bool). features (a .n) (a .hashes .now) (a .offsets .now) s false) short)
 
@@ -63,16 +66,20 @@ slice-reshare-prefix-fill-gram c = told (c .before .before .before) .2
 
 slice-aggregate-fill-gram : tie.Need-slice-aggregate-fill-gram
 slice-aggregate-fill-gram c =
-    let call = c .before .before .before .before .before .before .before .before .before .before .before .before .before .check-gram in
-    sym (length-take-le (length (c .before .before .before .before .before .before .before .before .before .before .before .before .before .before .before .before .before .before .before .before .before .before .before .before .before .before .args .hashes .now)) (call .last .1 .0) (told (c .before .before .before .before) .2))
+    let after-check-gram = c .before .before .before .before .before .before .before .before .before .before .before .before .before in
+    let start = after-check-gram .before .before .before .before .before .before .before .before .before .before .before .before .before in
+    let call = after-check-gram .check-gram in
+    sym (length-take-le (length (start .args .hashes .now)) (call .last .1 .0) (told (c .before .before .before .before) .2))
 
 slice-reshare-prefix-fill-gram-2 : tie.Need-slice-reshare-prefix-fill-gram-2
 slice-reshare-prefix-fill-gram-2 c = told (c .before .before .before .before) .3
 
 slice-aggregate-fill-gram-2 : tie.Need-slice-aggregate-fill-gram-2
 slice-aggregate-fill-gram-2 c =
-    let call = c .before .before .before .before .before .before .before .before .before .before .before .before .before .before .check-gram in
-    sym (length-take-le (c .before .before .before .before .before .before .a .given .0 .0) (call .last .1 .1 .0) (told (c .before .before .before .before .before) .3))
+    let after-a = c .before .before .before .before .before .before in
+    let after-check-gram = after-a .before .before .before .before .before .before .before .before in
+    let call = after-check-gram .check-gram in
+    sym (length-take-le (after-a .a .given .0 .0) (call .last .1 .1 .0) (told (c .before .before .before .before .before) .3))
 
 fill-gram-requires : tie.Need-fill-gram-requires
 fill-gram-requires c κs =
@@ -106,11 +113,16 @@ same-length-9 c = search needs
 
 returns-2 : tie.Need-returns-2
 returns-2 c =
-    let a = c .before .before .before .before .before .before .before .before .before .before .before .before .before .before .before .before .before .before .before .before .before .before .before .before .before .before .before .before .before .before .before .before .before .before .args in
-    let call = c .before .before .before .before .before .before .before .before .before .before .before .before .before .before .before .before .before .before .before .before .before .check-gram in
-    let answer = c .before .before .before .before .before .before .before .before .before .before .before .before .before .a .given in
-    let filled = c .before .before .before .before .before .before .fill-gram in
-    let short = c .before .before .before .before .before .before .before .before .before .before .before .before .before .before .before .before .before .before .before .before .before .before .before .before .before .too-short .ensures in
+    let after-fill-gram = c .before .before .before .before .before .before in
+    let after-a = after-fill-gram .before .before .before .before .before .before .before in
+    let after-check-gram = after-a .before .before .before .before .before .before .before .before in
+    let after-too-short = after-check-gram .before .before .before .before in
+    let start = after-too-short .before .before .before .before .before .before .before .before .before in
+    let a = start .args in
+    let call = after-check-gram .check-gram in
+    let answer = after-a .a .given in
+    let filled = after-fill-gram .fill-gram in
+    let short = after-too-short .too-short .ensures in
     let checked = subst (λ (s : Bool). Checked (a .n) (a .hashes .now) (a .offsets .now) s false (call .result) (call .last .1 .0) (call .last .1 .1 .0)) short (call .ensures) in
     sym (ap (λ (r : Answer). called r (filled .last .0) (filled .last .1 .0)) (answer .1))
     ∙ call-answered (a .n) (a .hashes .now) (a .offsets .now) (a .out .now) (a .words .now) (answer .0 .0) checked (answer .1) (filled .ensures .0) (filled .ensures .1)

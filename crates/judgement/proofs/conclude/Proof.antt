@@ -13,13 +13,20 @@ informative-requires : tie.Need-informative-requires
 informative-requires c κs = search needs
 
 fraction-requires : tie.Need-fraction-requires
-fraction-requires c κs = (omega (arith, informing-few (c .before .before .before .before .before .args .ss .now) (c .before .before .before .before .before .args .gs .now) (length (c .before .before .before .before .before .args .ss .now)) (c .informative .ensures), c .before .before .before .before .before .pre .2, c .before .before .before .before .before .pre .3), c .before .before .before .before .before .pre .3)
+fraction-requires c κs =
+    let args = c .before .before .before .before .before .args in
+    let pre = c .before .before .before .before .before .pre in
+    (omega (arith, informing-few (args .ss .now) (args .gs .now) (length (args .ss .now)) (c .informative .ensures), pre .2, pre .3), pre .3)
 
 warn-requires : tie.Need-warn-requires
 warn-requires c κs = search needs
 
 returns : tie.Need-returns
-returns c = concluded-is (c .before .before .before .before .before .before .before .before .before .args .labels .now) (c .before .before .before .before .before .before .before .before .before .args .ss .now) (c .before .before .before .before .before .before .before .before .before .args .gs .now) (c .before .before .before .before .before .before .before .before .before .args .counts .now) (c .before .before .before .before .before .before .before .before .before .args .stratified) (c .before .before .before .before .before .before .before .before .before .args .m) (c .before .before .before .before .before .before .before .before .before .args .g) (c .before .before .before .before .before .before .before .before .before .args .ways) (c .before .before .before .before .before .before .before .before .before .args .o) (c .before .before .before .before .before .before .before .before .before .args .c) (c .before .before .before .before .before .before .before .before .before .pre .2) (c .before .before .before .before .informative .ensures) (c .before .before .before .fraction .ensures) (c .before .before .warn .ensures)
+returns c =
+    let after-fraction = c .before .before .before in
+    let after-informative = after-fraction .before in
+    let start = after-informative .before .before .before .before .before in
+    concluded-is (start .args .labels .now) (start .args .ss .now) (start .args .gs .now) (start .args .counts .now) (start .args .stratified) (start .args .m) (start .args .g) (start .args .ways) (start .args .o) (start .args .c) (start .pre .2) (after-informative .informative .ensures) (after-fraction .fraction .ensures) (c .before .before .warn .ensures)
 
 pub conclude-spec : {M : Type 1} → statement M
 conclude-spec = tie.close (tie.spec informative-requires fraction-requires warn-requires returns)

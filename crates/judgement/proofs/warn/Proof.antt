@@ -22,7 +22,11 @@ warning-requires : tie.Need-warning-requires
 warning-requires c κs = search needs
 
 returns : tie.Need-returns
-returns c = warned-is (c .before .before .before .before .before .before .before .args .labels .now) (c .before .before .before .before .before .before .before .args .stratified) (c .before .before .before .before .before .before .before .args .informing) (c .before .before .before .before .before .before .before .args .fraction) (c .before .before .before .before .before .before .before .args .counts .now) (c .before .before .before .before .before .before .before .args .negative) (c .before .before .before .before .left-out .ensures) (c .before .before .before .uninformed .ensures) (c .before .before .few-inform .ensures) (c .before .some-small .ensures) (c .warning .ensures)
+returns c =
+    let after-uninformed = c .before .before .before in
+    let after-left-out = after-uninformed .before in
+    let start = after-left-out .before .before .before in
+    warned-is (start .args .labels .now) (start .args .stratified) (start .args .informing) (start .args .fraction) (start .args .counts .now) (start .args .negative) (after-left-out .left-out .ensures) (after-uninformed .uninformed .ensures) (c .before .before .few-inform .ensures) (c .before .some-small .ensures) (c .warning .ensures)
 
 pub warn-spec : {M : Type 1} → statement M
 warn-spec =

@@ -12,10 +12,15 @@ use Rattle.judging.proofs.assign_with.Statement.{statement}
 use Rattle.judging.proofs.assign_with.Tie as tie
 
 place-way-requires : tie.Need-place-way-requires
-place-way-requires c κs = (c .before .before .before .before .before .before .before .pre .0 .judged .all ∙ sym (c .before .before .before .before .before .before .before .pre .0 .samples), subst (λ (k : ℕ). Below k (c .before .before .before .before .before .before .before .args .ks .now)) (sym (ap length (c .before .before .before .before .before .before .before .pre .2) ∙ length-replicate (c .before .before .before .before .before .before .before .args .n) none)) (c .before .before .before .before .before .before .before .pre .0 .places))
+place-way-requires c κs =
+    let start = c .before .before .before .before .before .before .before in
+    (start .pre .0 .judged .all ∙ sym (start .pre .0 .samples), subst (λ (k : ℕ). Below k (start .args .ks .now)) (sym (ap length (start .pre .2) ∙ length-replicate (start .args .n) none)) (start .pre .0 .places))
 
 discriminate-requires : tie.Need-discriminate-requires
-discriminate-requires c κs = way-ready (c .before .before .before .before .before .before .before .before .before .before .before .before .before .pre .0) (placed-from (c .before .before .before .before .before .before .before .before .before .before .before .before .before .args .n) (c .before .before .before .before .before .before .before .before .before .before .before .before .before .args .ks .now) (c .before .before .before .before .before .before .before .before .before .before .before .before .before .args .way .now) (c .before .before .before .before .before .before .before .before .before .before .before .before .before .pre .2) (c .before .before .before .before .before .place-way .ensures)) (c .before .before .before .before .before .place-way .kept .0 ∙ ap length (c .before .before .before .before .before .before .before .before .before .before .before .before .before .pre .2) ∙ length-replicate (c .before .before .before .before .before .before .before .before .before .before .before .before .before .args .n) none) (c .before .before .before .before .before .before .before .before .before .before .before .before .before .pre .1)
+discriminate-requires c κs =
+    let after-place-way = c .before .before .before .before .before in
+    let start = after-place-way .before .before .before .before .before .before .before .before in
+    way-ready (start .pre .0) (placed-from (start .args .n) (start .args .ks .now) (start .args .way .now) (start .pre .2) (after-place-way .place-way .ensures)) (after-place-way .place-way .kept .0 ∙ ap length (start .pre .2) ∙ length-replicate (start .args .n) none) (start .pre .1)
 
 right-of-requires : tie.Need-right-of-requires
 right-of-requires c κs = search needs
@@ -30,7 +35,11 @@ same-length-3 : tie.Need-same-length-3
 same-length-3 c = search needs
 
 returns : tie.Need-returns
-returns c = way-found (c .before .before .before .before .before .before .before .before .before .before .before .before .before .before .before .before .before .before .before .pre .0) (placed-from (c .before .before .before .before .before .before .before .before .before .before .before .before .before .before .before .before .before .before .before .args .n) (c .before .before .before .before .before .before .before .before .before .before .before .before .before .before .before .before .before .before .before .args .ks .now) (c .before .before .before .before .before .before .before .before .before .before .before .before .before .before .before .before .before .before .before .args .way .now) (c .before .before .before .before .before .before .before .before .before .before .before .before .before .before .before .before .before .before .before .pre .2) (c .before .before .before .before .before .before .before .before .before .before .before .place-way .ensures)) (c .before .before .before .before .before .before .before .before .before .before .before .place-way .kept .0 ∙ ap length (c .before .before .before .before .before .before .before .before .before .before .before .before .before .before .before .before .before .before .before .pre .2) ∙ length-replicate (c .before .before .before .before .before .before .before .before .before .before .before .before .before .before .before .before .before .before .before .args .n) none) (found-by _ _ _ _ _ _ (c .before .before .before .before .before .discriminate .result) (c .right-of .ensures) (c .before .before .before .before .before .discriminate .ensures))
+returns c =
+    let after-discriminate = c .before .before .before .before .before in
+    let after-place-way = after-discriminate .before .before .before .before .before .before in
+    let start = after-place-way .before .before .before .before .before .before .before .before in
+    way-found (start .pre .0) (placed-from (start .args .n) (start .args .ks .now) (start .args .way .now) (start .pre .2) (after-place-way .place-way .ensures)) (after-place-way .place-way .kept .0 ∙ ap length (start .pre .2) ∙ length-replicate (start .args .n) none) (found-by _ _ _ _ _ _ (after-discriminate .discriminate .result) (c .right-of .ensures) (after-discriminate .discriminate .ensures))
 
 pub assign-with-spec : {M : Type 1} → statement M
 assign-with-spec =

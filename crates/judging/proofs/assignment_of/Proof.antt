@@ -26,13 +26,19 @@ slice-aggregate-assign-with-2 : tie.Need-slice-aggregate-assign-with-2
 slice-aggregate-assign-with-2 c = sym (length-take-le _ _ (omega (arith, c .before .before .before .before .before .before .before .before .pre .few)))
 
 assign-with-requires : tie.Need-assign-with-requires
-assign-with-requires c κs = (c .before .before .before .before .before .before .before .before .pre, length-take-le _ _ (omega (arith, c .before .before .before .before .before .before .before .before .pre .few)), take-replicate (c .before .before .before .before .before .before .before .before .args .n) 256 none (omega (arith, c .before .before .before .before .before .before .before .before .pre .few)))
+assign-with-requires c κs =
+    let args = c .before .before .before .before .before .before .before .before .args in
+    let pre = c .before .before .before .before .before .before .before .before .pre in
+    (pre, length-take-le _ _ (omega (arith, pre .few)), take-replicate (args .n) 256 none (omega (arith, pre .few)))
 
 same-length : tie.Need-same-length
 same-length c = search needs
 
 returns-2 : tie.Need-returns-2
-returns-2 c = assignment-found _ _ _ _ _ _ _ (c .before .before .before .before .before .before .before .before .if1 .left) (c .before .before .before .before .assign-with .ensures)
+returns-2 c =
+    let after-assign-with = c .before .before .before .before in
+    let at-if1 = after-assign-with .before .before .before .before in
+    assignment-found _ _ _ _ _ _ _ (at-if1 .if1 .left) (after-assign-with .assign-with .ensures)
 
 pub assignment-of-spec : {M : Type 1} → statement M
 assignment-of-spec =

@@ -27,7 +27,9 @@ slice-aggregate-both-with-5 : tie.Need-slice-aggregate-both-with-5
 slice-aggregate-both-with-5 c = sym (length-take-le _ _ (omega (arith, c .before .before .before .before .before .before .before .before .before .pre .7)))
 
 both-with-requires : tie.Need-both-with-requires
-both-with-requires c κs = (c .before .before .before .before .before .before .before .before .before .pre, (refl, refl, refl, refl, length-take-le _ _ (omega (arith, c .before .before .before .before .before .before .before .before .before .pre .7))))
+both-with-requires c κs =
+    let pre = c .before .before .before .before .before .before .before .before .before .pre in
+    (pre, (refl, refl, refl, refl, length-take-le _ _ (omega (arith, pre .7))))
 
 returns : tie.Need-returns
 returns c = search needs

@@ -19,7 +19,10 @@ fill-z-requires : tie.Need-fill-z-requires
 fill-z-requires c κs = search needs
 
 anova-f-requires : tie.Need-anova-f-requires
-anova-f-requires c κs = ((c .before .before .before .before .before .before .before .before .fill-z .kept .1 .1 .1 .1 .1 .1 .1 .1 .1 .1 .0 ∙ c .before .before .before .before .before .before .before .before .before .before .before .before .before .before .before .before .before .before .before .before .before .pre .1 .4, c .before .before .before .before .before .before .before .before .before .before .before .before .before .before .before .before .before .before .before .before .before .pre .0 .3, c .before .before .before .before .before .before .before .before .before .before .before .before .before .before .before .before .before .before .before .before .before .pre .0 .4, c .before .before .before .before .before .before .before .before .before .before .before .before .before .before .before .before .before .before .before .before .before .pre .1 .0, c .before .before .before .before .before .before .before .before .before .before .before .before .before .before .before .before .before .before .before .before .before .pre .1 .1), (omega (arith, c .before .before .before .before .before .before .before .before .fill-z .kept .1 .1 .1 .1 .1 .1 .1 .1 .0, c .before .before .before .before .before .before .before .before .before .before .before .before .before .before .before .before .before .before .before .before .before .pre .1 .2), c .before .before .before .before .before .before .before .before .before .before .before .before .before .before .before .before .before .before .before .before .before .pre .1 .5, c .before .before .before .before .before .before .before .before .before .before .before .before .before .before .before .before .before .before .before .before .before .pre .1 .6, c .before .before .before .before .before .before .before .before .before .before .before .before .before .before .before .before .before .before .before .before .before .pre .1 .7))
+anova-f-requires c κs =
+    let fill-z = c .before .before .before .before .before .before .before .before .fill-z in
+    let pre = c .before .before .before .before .before .before .before .before .before .before .before .before .before .before .before .before .before .before .before .before .before .pre in
+    ((fill-z .kept .1 .1 .1 .1 .1 .1 .1 .1 .1 .1 .0 ∙ pre .1 .4, pre .0 .3, pre .0 .4, pre .1 .0, pre .1 .1), (omega (arith, fill-z .kept .1 .1 .1 .1 .1 .1 .1 .1 .0, pre .1 .2), pre .1 .5, pre .1 .6, pre .1 .7))
 
 statistic-of-requires : tie.Need-statistic-of-requires
 statistic-of-requires c κs = search needs
@@ -35,7 +38,11 @@ same-length-3 c = search needs
 
 returns : tie.Need-returns
 unfolding dispersionBy
-returns c = c .statistic-of .ensures ∙ ap statistic (c .before .before .before .anova-f .ensures ∙ ap (λ (z : List Float). anovaF z (c .before .before .before .before .before .before .before .before .before .before .before .before .before .before .before .before .before .before .before .before .before .before .before .before .before .args .way .now) (c .before .before .before .before .before .before .before .before .before .before .before .before .before .before .before .before .before .before .before .before .before .before .before .before .before .args .m) (c .before .before .before .before .before .before .before .before .before .before .before .before .before .before .before .before .before .before .before .before .before .before .before .before .before .args .g)) (c .before .before .before .before .before .before .before .before .before .before .before .before .fill-z .ensures .1))
+returns c =
+    let after-anova-f = c .before .before .before in
+    let after-fill-z = after-anova-f .before .before .before .before .before .before .before .before .before in
+    let start = after-fill-z .before .before .before .before .before .before .before .before .before .before .before .before .before in
+    c .statistic-of .ensures ∙ ap statistic (after-anova-f .anova-f .ensures ∙ ap (λ (z : List Float). anovaF z (start .args .way .now) (start .args .m) (start .args .g)) (after-fill-z .fill-z .ensures .1))
 
 pub dispersion-of-spec : {M : Type 1} → statement M
 dispersion-of-spec =

@@ -16,7 +16,10 @@ same-length : tie.Need-same-length
 same-length c = search needs
 
 returns : tie.Need-returns
-returns c = hits-by (c .before .before .before .before .before .before .before .before .before .before .before .before .args .observed) (c .before .before .before .see .result) (c .hits-of .ensures) (c .before .before .before .see .ensures .0) (c .before .before .before .see .ensures .1) (c .before .before .before .see .ensures .2)
+returns c =
+    let after-see = c .before .before .before in
+    let start = after-see .before .before .before .before .before .before .before .before .before in
+    hits-by (start .args .observed) (after-see .see .result) (c .hits-of .ensures) (after-see .see .ensures .0) (after-see .see .ensures .1) (after-see .see .ensures .2)
 
 pub judge-way-spec : {M : Type 1} → statement M
 judge-way-spec = tie.close (tie.spec see-requires hits-of-requires same-length returns)

@@ -24,7 +24,9 @@ statistic-of-requires c κs = search needs
 
 returns : tie.Need-returns
 unfolding locationBy
-returns c = c .statistic-of .ensures ∙ ap statistic (c .before .pseudo-f .ensures ∙ ap (λ (x : Float). pseudoF (c .before .before .before .before .before .before .before .before .args .total) x (c .before .before .before .before .before .before .before .before .args .m) (c .before .before .before .before .before .before .before .before .args .g)) (c .before .before .within .ensures))
+returns c =
+    let start = c .before .before .before .before .before .before .before .before in
+    c .statistic-of .ensures ∙ ap statistic (c .before .pseudo-f .ensures ∙ ap (λ (x : Float). pseudoF (start .args .total) x (start .args .m) (start .args .g)) (c .before .before .within .ensures))
 
 pub location-of-spec : {M : Type 1} → statement M
 location-of-spec =

@@ -28,10 +28,16 @@ shared-slice-read-each : tie.Need-shared-slice-read-each Inv-loop μ-loop
 shared-slice-read-each c = omega arith
 
 mul-each-2 : tie.Need-mul-each-2 Inv-loop μ-loop
-mul-each-2 c = omega (arith, c .before .before .before .before .before .before .before .pre .1 (c .before .before .before .loop .k) (omega arith), c .before .entry .ensures, c .before .before .before .loop .inv .1)
+mul-each-2 c =
+    let turn = c .before .before .before .loop in
+    let pre = c .before .before .before .before .before .before .before .pre in
+    omega (arith, pre .1 (turn .k) (omega arith), c .before .entry .ensures, turn .inv .1)
 
 slice-write-each : tie.Need-slice-write-each Inv-loop μ-loop
-slice-write-each c = omega (arith, c .before .before .before .before .before .before .before .pre .1 (c .before .before .before .loop .k) (omega arith), c .before .entry .ensures, c .before .before .before .loop .inv .1)
+slice-write-each c =
+    let turn = c .before .before .before .loop in
+    let pre = c .before .before .before .before .before .before .before .pre in
+    omega (arith, pre .1 (turn .k) (omega arith), c .before .entry .ensures, turn .inv .1)
 
 add-k : tie.Need-add-k Inv-loop μ-loop
 add-k c = omega arith
@@ -40,13 +46,18 @@ loop-less : tie.Need-loop-less Inv-loop μ-loop
 loop-less c = omega arith
 
 loop-again : tie.Need-loop-again Inv-loop μ-loop
-loop-again c = (omega arith, length-set (c .before .before .before .loop .each) _ _ ∙ c .before .before .before .loop .inv .1, inTurn-next (λ k l. set l (getD (c .before .before .before .before .before .before .before .args .ks .now) k 0) (getD (c .before .before .before .before .before .before .before .args .way .now) k 0)) (c .before .before .before .loop .k) (c .before .before .before .before .before .before .before .args .each .now) (c .before .before .before .loop .inv .2) (ap (λ (i : ℕ). set (c .before .before .before .loop .each) i (getD (c .before .before .before .before .before .before .before .args .way .now) (c .before .before .before .loop .k) 0)) (c .before .entry .ensures)))
+loop-again c =
+    let turn = c .before .before .before .loop in
+    let args = c .before .before .before .before .before .before .before .args in
+    (omega arith, length-set (turn .each) _ _ ∙ turn .inv .1, inTurn-next (λ k l. set l (getD (args .ks .now) k 0) (getD (args .way .now) k 0)) (turn .k) (args .each .now) (turn .inv .2) (ap (λ (i : ℕ). set (turn .each) i (getD (args .way .now) (turn .k) 0)) (c .before .entry .ensures)))
 
 same-length : tie.Need-same-length Inv-loop μ-loop
 same-length c = c .before .loop .inv .1
 
 returns : tie.Need-returns Inv-loop μ-loop
-returns c = let e : c .before .loop .k ≡ length (c .before .before .before .before .before .args .ks .now) = omega arith in c .before .loop .inv .2 ∙ ap (λ (k : ℕ). inTurn (λ k l. set l (getD (c .before .before .before .before .before .args .ks .now) k 0) (getD (c .before .before .before .before .before .args .way .now) k 0)) k (c .before .before .before .before .before .args .each .now)) e
+returns c =
+    let args = c .before .before .before .before .before .args in
+    let e : c .before .loop .k ≡ length (args .ks .now) = omega arith in c .before .loop .inv .2 ∙ ap (λ (k : ℕ). inTurn (λ k l. set l (getD (args .ks .now) k 0) (getD (args .way .now) k 0)) k (args .each .now)) e
 
 pub place-way-spec : {M : Type 1} → statement M
 place-way-spec =

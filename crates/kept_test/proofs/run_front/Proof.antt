@@ -25,16 +25,22 @@ slice-relend-prefix-run-kept : tie.Need-slice-relend-prefix-run-kept
 slice-relend-prefix-run-kept c = search needs
 
 slice-aggregate-run-kept-4 : tie.Need-slice-aggregate-run-kept-4
-slice-aggregate-run-kept-4 c = sym (length-take-le (c .before .before .before .before .before .before .before .before .before .before .before .before .before .before .before .before .args .m * c .before .before .before .before .before .before .before .before .before .before .before .before .before .before .before .before .args .m) (c .before .before .before .before .before .before .before .before .before .before .before .before .before .before .before .before .args .t .now) (c .before .before .before .before .before .before .before .before .before .before .before .before .before .before .before .before .pre .1 .5))
+slice-aggregate-run-kept-4 c =
+    let start = c .before .before .before .before .before .before .before .before .before .before .before .before .before .before .before .before in
+    sym (length-take-le (start .args .m * start .args .m) (start .args .t .now) (start .pre .1 .5))
 
 slice-relend-prefix-run-kept-2 : tie.Need-slice-relend-prefix-run-kept-2
 slice-relend-prefix-run-kept-2 c = search needs
 
 slice-aggregate-run-kept-5 : tie.Need-slice-aggregate-run-kept-5
-slice-aggregate-run-kept-5 c = sym (length-take-le (c .before .before .before .before .before .before .before .before .before .before .before .before .before .before .before .before .before .args .m * c .before .before .before .before .before .before .before .before .before .before .before .before .before .before .before .before .before .args .m) (c .before .before .before .before .before .before .before .before .before .before .before .before .before .before .before .before .before .args .p .now) (c .before .before .before .before .before .before .before .before .before .before .before .before .before .before .before .before .before .pre .1 .6))
+slice-aggregate-run-kept-5 c =
+    let start = c .before .before .before .before .before .before .before .before .before .before .before .before .before .before .before .before .before in
+    sym (length-take-le (start .args .m * start .args .m) (start .args .p .now) (start .pre .1 .6))
 
 run-kept-requires : tie.Need-run-kept-requires
-run-kept-requires c κs = (c .before .before .before .before .before .before .before .before .before .before .before .before .before .before .before .before .before .pre .0, (c .before .before .before .before .before .before .before .before .before .before .before .before .before .before .before .before .before .pre .1 .3, c .before .before .before .before .before .before .before .before .before .before .before .before .before .before .before .before .before .pre .1 .4, length-take-le (c .before .before .before .before .before .before .before .before .before .before .before .before .before .before .before .before .before .args .m * c .before .before .before .before .before .before .before .before .before .before .before .before .before .before .before .before .before .args .m) (c .before .before .before .before .before .before .before .before .before .before .before .before .before .before .before .before .before .args .t .now) (c .before .before .before .before .before .before .before .before .before .before .before .before .before .before .before .before .before .pre .1 .5), length-take-le (c .before .before .before .before .before .before .before .before .before .before .before .before .before .before .before .before .before .args .m * c .before .before .before .before .before .before .before .before .before .before .before .before .before .before .before .before .before .args .m) (c .before .before .before .before .before .before .before .before .before .before .before .before .before .before .before .before .before .args .p .now) (c .before .before .before .before .before .before .before .before .before .before .before .before .before .before .before .before .before .pre .1 .6)))
+run-kept-requires c κs =
+    let start = c .before .before .before .before .before .before .before .before .before .before .before .before .before .before .before .before .before in
+    (start .pre .0, (start .pre .1 .3, start .pre .1 .4, length-take-le (start .args .m * start .args .m) (start .args .t .now) (start .pre .1 .5), length-take-le (start .args .m * start .args .m) (start .args .p .now) (start .pre .1 .6)))
 
 clear-requires : tie.Need-clear-requires
 clear-requires c κs = search needs
@@ -55,7 +61,11 @@ same-length-4 : tie.Need-same-length-4
 same-length-4 c = search needs
 
 returns : tie.Need-returns
-returns c = (c .before .before .before .before .before .before .before .before .before .before .before .before .before .before .before .before .run-kept .ensures .0, c .before .before .before .before .before .before .before .before .before .before .before .before .before .before .before .before .run-kept .ensures .1, c .before .before .before .before .before .before .before .before .before .before .before .before .before .before .before .before .run-kept .ensures .2, cleared-lent zero⁺ (c .before .before .before .before .before .before .before .before .before .before .before .before .before .before .before .before .before .before .before .before .before .before .before .before .before .before .before .before .before .before .before .before .before .before .args .m * c .before .before .before .before .before .before .before .before .before .before .before .before .before .before .before .before .before .before .before .before .before .before .before .before .before .before .before .before .before .before .before .before .before .before .args .m) (c .before .before .before .before .before .before .before .before .before .before .before .before .before .before .before .before .before .before .before .before .before .before .before .before .before .before .before .before .before .before .before .before .before .before .args .t .now) (c .before .before .before .before .before .before .before .before .before .before .before .before .before .before .before .before .run-kept .last .1 .1 .1 .1 .1 .1 .1 .1 .1 .1 .1 .1 .1 .1 .1 .1 .0) (c .before .before .before .before .before .before .before .before .before .before .before .before .before .before .before .before .before .before .before .before .before .before .before .before .before .before .before .before .before .before .before .before .before .before .pre .1 .5) (c .before .before .before .before .before .before .before .before .before .before .before .before .before .before .before .before .run-kept .kept .1 .1 .1 .1 .1 .1 .1 .1 .1 .1 .1 .1 .1 .1 .1 .1 .0) (c .before .before .before .before .before .before .clear .ensures), cleared-lent zero⁺ (c .before .before .before .before .before .before .before .before .before .before .before .before .before .before .before .before .before .before .before .before .before .before .before .before .before .before .before .before .before .before .before .before .before .before .args .m * c .before .before .before .before .before .before .before .before .before .before .before .before .before .before .before .before .before .before .before .before .before .before .before .before .before .before .before .before .before .before .before .before .before .before .args .m) (c .before .before .before .before .before .before .before .before .before .before .before .before .before .before .before .before .before .before .before .before .before .before .before .before .before .before .before .before .before .before .before .before .before .before .args .p .now) (c .before .before .before .before .before .before .before .before .before .before .before .before .before .before .before .before .run-kept .last .1 .1 .1 .1 .1 .1 .1 .1 .1 .1 .1 .1 .1 .1 .1 .1 .1 .0) (c .before .before .before .before .before .before .before .before .before .before .before .before .before .before .before .before .before .before .before .before .before .before .before .before .before .before .before .before .before .before .before .before .before .before .pre .1 .6) (c .before .before .before .before .before .before .before .before .before .before .before .before .before .before .before .before .run-kept .kept .1 .1 .1 .1 .1 .1 .1 .1 .1 .1 .1 .1 .1 .1 .1 .1 .1 .0) (c .before .before .clear2 .ensures))
+returns c =
+    let after-clear = c .before .before .before .before .before .before in
+    let after-run-kept = after-clear .before .before .before .before .before .before .before .before .before .before in
+    let start = after-run-kept .before .before .before .before .before .before .before .before .before .before .before .before .before .before .before .before .before .before in
+    (after-run-kept .run-kept .ensures .0, after-run-kept .run-kept .ensures .1, after-run-kept .run-kept .ensures .2, cleared-lent zero⁺ (start .args .m * start .args .m) (start .args .t .now) (after-run-kept .run-kept .last .1 .1 .1 .1 .1 .1 .1 .1 .1 .1 .1 .1 .1 .1 .1 .1 .0) (start .pre .1 .5) (after-run-kept .run-kept .kept .1 .1 .1 .1 .1 .1 .1 .1 .1 .1 .1 .1 .1 .1 .1 .1 .0) (after-clear .clear .ensures), cleared-lent zero⁺ (start .args .m * start .args .m) (start .args .p .now) (after-run-kept .run-kept .last .1 .1 .1 .1 .1 .1 .1 .1 .1 .1 .1 .1 .1 .1 .1 .1 .1 .0) (start .pre .1 .6) (after-run-kept .run-kept .kept .1 .1 .1 .1 .1 .1 .1 .1 .1 .1 .1 .1 .1 .1 .1 .1 .1 .0) (c .before .before .clear2 .ensures))
 
 pub run-front-spec : {M : Type 1} → statement M
 run-front-spec =

@@ -13,16 +13,25 @@ array-borrow-prefix-w : tie.Need-array-borrow-prefix-w
 array-borrow-prefix-w c = search needs
 
 slice-aggregate-run-with : tie.Need-slice-aggregate-run-with
-slice-aggregate-run-with c = sym (length-take-le (c .before .before .before .before .before .before .before .before .before .before .before .before .before .before .before .args .m) _ (omega (arith, c .before .before .before .before .before .before .before .before .before .before .before .before .before .before .before .pre .0 .0 .few)))
+slice-aggregate-run-with c =
+    let args = c .before .before .before .before .before .before .before .before .before .before .before .before .before .before .before .args in
+    let pre = c .before .before .before .before .before .before .before .before .before .before .before .before .before .before .before .pre in
+    sym (length-take-le (args .m) _ (omega (arith, pre .0 .0 .few)))
 
 array-borrow-prefix-z : tie.Need-array-borrow-prefix-z
 array-borrow-prefix-z c = search needs
 
 slice-aggregate-run-with-2 : tie.Need-slice-aggregate-run-with-2
-slice-aggregate-run-with-2 c = sym (length-take-le (c .before .before .before .before .before .before .before .before .before .before .before .before .before .before .before .before .args .m) _ (omega (arith, c .before .before .before .before .before .before .before .before .before .before .before .before .before .before .before .before .pre .0 .0 .few)))
+slice-aggregate-run-with-2 c =
+    let args = c .before .before .before .before .before .before .before .before .before .before .before .before .before .before .before .before .args in
+    let pre = c .before .before .before .before .before .before .before .before .before .before .before .before .before .before .before .before .pre in
+    sym (length-take-le (args .m) _ (omega (arith, pre .0 .0 .few)))
 
 run-with-requires : tie.Need-run-with-requires
-run-with-requires c κs = (c .before .before .before .before .before .before .before .before .before .before .before .before .before .before .before .before .pre .0, (c .before .before .before .before .before .before .before .before .before .before .before .before .before .before .before .before .pre .1 .0, c .before .before .before .before .before .before .before .before .before .before .before .before .before .before .before .before .pre .1 .1, c .before .before .before .before .before .before .before .before .before .before .before .before .before .before .before .before .pre .1 .2, c .before .before .before .before .before .before .before .before .before .before .before .before .before .before .before .before .pre .1 .3, length-take-le (c .before .before .before .before .before .before .before .before .before .before .before .before .before .before .before .before .args .m) _ (omega (arith, c .before .before .before .before .before .before .before .before .before .before .before .before .before .before .before .before .pre .0 .0 .few)), length-take-le (c .before .before .before .before .before .before .before .before .before .before .before .before .before .before .before .before .args .m) _ (omega (arith, c .before .before .before .before .before .before .before .before .before .before .before .before .before .before .before .before .pre .0 .0 .few))))
+run-with-requires c κs =
+    let args = c .before .before .before .before .before .before .before .before .before .before .before .before .before .before .before .before .args in
+    let pre = c .before .before .before .before .before .before .before .before .before .before .before .before .before .before .before .before .pre in
+    (pre .0, (pre .1 .0, pre .1 .1, pre .1 .2, pre .1 .3, length-take-le (args .m) _ (omega (arith, pre .0 .0 .few)), length-take-le (args .m) _ (omega (arith, pre .0 .0 .few))))
 
 same-length : tie.Need-same-length
 same-length c = search needs

@@ -28,7 +28,10 @@ returns : tie.Need-returns
 returns c = turned-away wayArrays (arrays (c .before .before .before .before .args .values .now) (c .before .before .before .before .args .numbers .now)) (ap answerOf (c .before .before .a .given .1)) (c .number-of .ensures)
 
 returns-2 : tie.Need-returns-2
-returns-2 c = laid-out wayArrays (arrays (c .before .before .before .before .before .args .values .now) (c .before .before .before .before .before .args .numbers .now)) (ap answerOf (c .before .before .before .a2 .given .1)) (λ i. arrays (c .before .way-values .ensures i) (c .way-numbers .ensures i))
+returns-2 c =
+    let after-a2 = c .before .before .before in
+    let start = after-a2 .before .before in
+    laid-out wayArrays (arrays (start .args .values .now) (start .args .numbers .now)) (ap answerOf (after-a2 .a2 .given .1)) (λ i. arrays (c .before .way-values .ensures i) (c .way-numbers .ensures i))
 
 pub lay-ways-spec : {M : Type 1} → statement M
 lay-ways-spec =

@@ -21,7 +21,11 @@ cast-t18 : tie.Need-cast-t18
 cast-t18 c = search needs
 
 returns : tie.Need-returns
-returns c = way-numbers-are (c .before .before .before .before .before .before .before .before .args .j) (c .before .before .before .before .is-bounded .ensures) (c .before .before .before .is-bounded2 .ensures) (c .before .before .is-assigned .ensures) (c .before .right-of .ensures)
+returns c =
+    let after-is-bounded2 = c .before .before .before in
+    let after-is-bounded = after-is-bounded2 .before in
+    let start = after-is-bounded .before .before .before .before in
+    way-numbers-are (start .args .j) (after-is-bounded .is-bounded .ensures) (after-is-bounded2 .is-bounded2 .ensures) (c .before .before .is-assigned .ensures) (c .before .right-of .ensures)
 
 pub way-numbers-spec : {M : Type 1} → statement M
 way-numbers-spec =

@@ -11,7 +11,8 @@ judge-requires c κs = search needs
 
 write-front-requires : tie.Need-write-front-requires
 write-front-requires c κs =
-    size-fits (judgeText (c .before .before .before .before .before .args .text .now)) (c .before .before .before .before .before .args .out .now) (c .before .before .judge .ensures)
+    let start = c .before .before .before .before .before in
+    size-fits (judgeText (start .args .text .now)) (start .args .out .now) (c .before .before .judge .ensures)
 
 returns : tie.Need-returns
 returns c = search needs

@@ -26,19 +26,41 @@ entry-requires : tie.Need-entry-requires Inv-loop μ-loop
 entry-requires c κs = omega arith
 
 mul-counts : tie.Need-mul-counts Inv-loop μ-loop
-mul-counts c = omega (arith, c .before .before .before .loop .inv .long, is-numbered (c .before .before .before .before .before .before .args .groups .now) (c .before .before .before .loop .i) (c .before .entry .ensures) (length (c .before .before .before .before .before .before .args .counts .now)) (c .before .before .before .before .before .before .pre .1) (c .before .before .loop-test .taken) (c .if1 .taken))
+mul-counts c =
+    let turn = c .before .before .before .loop in
+    let args = c .before .before .before .before .before .before .args in
+    let pre = c .before .before .before .before .before .before .pre in
+    omega (arith, turn .inv .long, is-numbered (args .groups .now) (turn .i) (c .before .entry .ensures) (length (args .counts .now)) (pre .1) (c .before .before .loop-test .taken) (c .if1 .taken))
 
 slice-read-counts : tie.Need-slice-read-counts Inv-loop μ-loop
-slice-read-counts c = omega (arith, c .before .before .before .before .loop .inv .long, is-numbered (c .before .before .before .before .before .before .before .args .groups .now) (c .before .before .before .before .loop .i) (c .before .before .entry .ensures) (length (c .before .before .before .before .before .before .before .args .counts .now)) (c .before .before .before .before .before .before .before .pre .1) (c .before .before .before .loop-test .taken) (c .before .if1 .taken))
+slice-read-counts c =
+    let turn = c .before .before .before .before .loop in
+    let args = c .before .before .before .before .before .before .before .args in
+    let pre = c .before .before .before .before .before .before .before .pre in
+    omega (arith, turn .inv .long, is-numbered (args .groups .now) (turn .i) (c .before .before .entry .ensures) (length (args .counts .now)) (pre .1) (c .before .before .before .loop-test .taken) (c .before .if1 .taken))
 
 add-counts : tie.Need-add-counts Inv-loop μ-loop
-add-counts c = omega (arith, counting-room (c .before .before .before .before .before .before .before .args .groups .now) (length (c .before .before .before .before .before .before .before .args .counts .now)) (c .before .before .before .before .loop .inv) (c .before .before .before .loop-test .taken) (is-numbered (c .before .before .before .before .before .before .before .args .groups .now) (c .before .before .before .before .loop .i) (c .before .before .entry .ensures) (length (c .before .before .before .before .before .before .before .args .counts .now)) (c .before .before .before .before .before .before .before .pre .1) (c .before .before .before .loop-test .taken) (c .before .if1 .taken)) (sym (c .before .before .entry .ensures)))
+add-counts c =
+    let entry2 = c .before .before .entry in
+    let loop-test = c .before .before .before .loop-test in
+    let turn = c .before .before .before .before .loop in
+    let args = c .before .before .before .before .before .before .before .args in
+    let pre = c .before .before .before .before .before .before .before .pre in
+    omega (arith, counting-room (args .groups .now) (length (args .counts .now)) (turn .inv) (loop-test .taken) (is-numbered (args .groups .now) (turn .i) (entry2 .ensures) (length (args .counts .now)) (pre .1) (loop-test .taken) (c .before .if1 .taken)) (sym (entry2 .ensures)))
 
 mul-counts-2 : tie.Need-mul-counts-2 Inv-loop μ-loop
-mul-counts-2 c = omega (arith, c .before .before .before .before .loop .inv .long, is-numbered (c .before .before .before .before .before .before .before .args .groups .now) (c .before .before .before .before .loop .i) (c .before .before .entry .ensures) (length (c .before .before .before .before .before .before .before .args .counts .now)) (c .before .before .before .before .before .before .before .pre .1) (c .before .before .before .loop-test .taken) (c .before .if1 .taken))
+mul-counts-2 c =
+    let turn = c .before .before .before .before .loop in
+    let args = c .before .before .before .before .before .before .before .args in
+    let pre = c .before .before .before .before .before .before .before .pre in
+    omega (arith, turn .inv .long, is-numbered (args .groups .now) (turn .i) (c .before .before .entry .ensures) (length (args .counts .now)) (pre .1) (c .before .before .before .loop-test .taken) (c .before .if1 .taken))
 
 slice-write-counts : tie.Need-slice-write-counts Inv-loop μ-loop
-slice-write-counts c = omega (arith, c .before .before .before .before .loop .inv .long, is-numbered (c .before .before .before .before .before .before .before .args .groups .now) (c .before .before .before .before .loop .i) (c .before .before .entry .ensures) (length (c .before .before .before .before .before .before .before .args .counts .now)) (c .before .before .before .before .before .before .before .pre .1) (c .before .before .before .loop-test .taken) (c .before .if1 .taken))
+slice-write-counts c =
+    let turn = c .before .before .before .before .loop in
+    let args = c .before .before .before .before .before .before .before .args in
+    let pre = c .before .before .before .before .before .before .before .pre in
+    omega (arith, turn .inv .long, is-numbered (args .groups .now) (turn .i) (c .before .before .entry .ensures) (length (args .counts .now)) (pre .1) (c .before .before .before .loop-test .taken) (c .before .if1 .taken))
 
 add-i : tie.Need-add-i Inv-loop μ-loop
 add-i c = omega arith
@@ -48,11 +70,15 @@ loop-less c = omega arith
 
 loop-again : tie.Need-loop-again Inv-loop μ-loop
 loop-again c =
+    let loop-test = c .before .before .loop-test in
+    let turn = c .before .before .before .loop in
+    let args = c .before .before .before .before .before .before .args in
+    let pre = c .before .before .before .before .before .before .pre in
     ⊎-elim
-    (λ w. subst (λ (l : List ℕ). Counting (c .before .before .before .before .before .before .args .groups .now) (length (c .before .before .before .before .before .before .args .counts .now)) l (c .before .before .before .loop .i + 1)) (sym (w .2))
-    (counting-next (c .before .before .before .before .before .before .args .groups .now) (length (c .before .before .before .before .before .before .args .counts .now)) (c .before .before .before .loop .inv) (c .before .before .loop-test .taken) (is-numbered (c .before .before .before .before .before .before .args .groups .now) (c .before .before .before .loop .i) (c .before .entry .ensures) (length (c .before .before .before .before .before .before .args .counts .now)) (c .before .before .before .before .before .before .pre .1) (c .before .before .loop-test .taken) (w .0 .taken)) (sym (c .before .entry .ensures))))
-    (λ w. subst (λ (l : List ℕ). Counting (c .before .before .before .before .before .before .args .groups .now) (length (c .before .before .before .before .before .before .args .counts .now)) l (c .before .before .before .loop .i + 1)) (sym (w .1))
-    (counting-pass (c .before .before .before .before .before .before .args .groups .now) (length (c .before .before .before .before .before .before .args .counts .now)) (c .before .before .before .loop .inv) (c .before .before .loop-test .taken) (λ j h e. omega (arith, w .0 .left, c .before .entry .ensures))))
+    (λ w. subst (λ (l : List ℕ). Counting (args .groups .now) (length (args .counts .now)) l (turn .i + 1)) (sym (w .2))
+    (counting-next (args .groups .now) (length (args .counts .now)) (turn .inv) (loop-test .taken) (is-numbered (args .groups .now) (turn .i) (c .before .entry .ensures) (length (args .counts .now)) (pre .1) (loop-test .taken) (w .0 .taken)) (sym (c .before .entry .ensures))))
+    (λ w. subst (λ (l : List ℕ). Counting (args .groups .now) (length (args .counts .now)) l (turn .i + 1)) (sym (w .1))
+    (counting-pass (args .groups .now) (length (args .counts .now)) (turn .inv) (loop-test .taken) (λ j h e. omega (arith, w .0 .left, c .before .entry .ensures))))
     (c .if1 .came)
 
 same-length : tie.Need-same-length Inv-loop μ-loop

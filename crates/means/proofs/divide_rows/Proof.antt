@@ -31,39 +31,72 @@ unfolding inFloat
 int-to-float-n c = le→leb (c .before .entry .result) (2 ^ 53) (omega (arith, c .before .entry .ensures, c .before .before .before .before .shared-slice-known .given (c .before .before .before .loop .j)))
 
 mul-divide : tie.Need-mul-divide Inv-loop μ-loop
-mul-divide c = omega (arith, row-end (c .before .before .before .before .before .before .args .p) (c .before .before .before .loop .j) (length (c .before .before .before .before .before .before .args .counts .now)) (c .before .before .loop-test .taken), c .before .before .before .loop .inv .long)
+mul-divide c =
+    let turn = c .before .before .before .loop in
+    let args = c .before .before .before .before .before .before .args in
+    omega (arith, row-end (args .p) (turn .j) (length (args .counts .now)) (c .before .before .loop-test .taken), turn .inv .long)
 
 mul-divide-2 : tie.Need-mul-divide-2 Inv-loop μ-loop
-mul-divide-2 c = omega (arith, row-end (c .before .before .before .before .before .before .args .p) (c .before .before .before .loop .j) (length (c .before .before .before .before .before .before .args .counts .now)) (c .before .before .loop-test .taken), c .before .before .before .loop .inv .long)
+mul-divide-2 c =
+    let turn = c .before .before .before .loop in
+    let args = c .before .before .before .before .before .before .args in
+    omega (arith, row-end (args .p) (turn .j) (length (args .counts .now)) (c .before .before .loop-test .taken), turn .inv .long)
 
 add-divide : tie.Need-add-divide Inv-loop μ-loop
-add-divide c = omega (arith, row-end (c .before .before .before .before .before .before .args .p) (c .before .before .before .loop .j) (length (c .before .before .before .before .before .before .args .counts .now)) (c .before .before .loop-test .taken), c .before .before .before .loop .inv .long)
+add-divide c =
+    let turn = c .before .before .before .loop in
+    let args = c .before .before .before .before .before .before .args in
+    omega (arith, row-end (args .p) (turn .j) (length (args .counts .now)) (c .before .before .loop-test .taken), turn .inv .long)
 
 mul-divide-3 : tie.Need-mul-divide-3 Inv-loop μ-loop
-mul-divide-3 c = omega (arith, row-end (c .before .before .before .before .before .before .args .p) (c .before .before .before .loop .j) (length (c .before .before .before .before .before .before .args .counts .now)) (c .before .before .loop-test .taken), c .before .before .before .loop .inv .long)
+mul-divide-3 c =
+    let turn = c .before .before .before .loop in
+    let args = c .before .before .before .before .before .before .args in
+    omega (arith, row-end (args .p) (turn .j) (length (args .counts .now)) (c .before .before .loop-test .taken), turn .inv .long)
 
 sub-divide : tie.Need-sub-divide Inv-loop μ-loop
-sub-divide c = omega (arith, row-end (c .before .before .before .before .before .before .args .p) (c .before .before .before .loop .j) (length (c .before .before .before .before .before .before .args .counts .now)) (c .before .before .loop-test .taken), c .before .before .before .loop .inv .long)
+sub-divide c =
+    let turn = c .before .before .before .loop in
+    let args = c .before .before .before .before .before .before .args in
+    omega (arith, row-end (args .p) (turn .j) (length (args .counts .now)) (c .before .before .loop-test .taken), turn .inv .long)
 
 part-divide-start : tie.Need-part-divide-start Inv-loop μ-loop
-part-divide-start c = omega (arith, row-end (c .before .before .before .before .before .before .args .p) (c .before .before .before .loop .j) (length (c .before .before .before .before .before .before .args .counts .now)) (c .before .before .loop-test .taken), c .before .before .before .loop .inv .long)
+part-divide-start c =
+    let turn = c .before .before .before .loop in
+    let args = c .before .before .before .before .before .before .args in
+    omega (arith, row-end (args .p) (turn .j) (length (args .counts .now)) (c .before .before .loop-test .taken), turn .inv .long)
 
 part-divide-end : tie.Need-part-divide-end Inv-loop μ-loop
-part-divide-end c = omega (arith, row-end (c .before .before .before .before .before .before .args .p) (c .before .before .before .loop .j) (length (c .before .before .before .before .before .before .args .counts .now)) (c .before .before .loop-test .taken), c .before .before .before .loop .inv .long)
+part-divide-end c =
+    let turn = c .before .before .before .loop in
+    let args = c .before .before .before .before .before .before .args in
+    omega (arith, row-end (args .p) (turn .j) (length (args .counts .now)) (c .before .before .loop-test .taken), turn .inv .long)
 
 divide-requires : tie.Need-divide-requires Inv-loop μ-loop
 divide-requires c κs = tt
 
 add-j : tie.Need-add-j Inv-loop μ-loop
-add-j c = omega (arith, row-end (c .before .before .before .before .before .before .before .before .before .before .args .p) (c .before .before .before .before .before .before .before .loop .j) (length (c .before .before .before .before .before .before .before .before .before .before .args .counts .now)) (c .before .before .before .before .before .before .loop-test .taken), c .before .before .before .before .before .before .before .loop .inv .long)
+add-j c =
+    let loop-test = c .before .before .before .before .before .before .loop-test in
+    let turn = c .before .before .before .before .before .before .before .loop in
+    let args = c .before .before .before .before .before .before .before .before .before .before .args in
+    omega (arith, row-end (args .p) (turn .j) (length (args .counts .now)) (loop-test .taken), turn .inv .long)
 
 loop-less : tie.Need-loop-less Inv-loop μ-loop
-loop-less c = omega (arith, row-end (c .before .before .before .before .before .before .before .before .before .before .args .p) (c .before .before .before .before .before .before .before .loop .j) (length (c .before .before .before .before .before .before .before .before .before .before .args .counts .now)) (c .before .before .before .before .before .before .loop-test .taken), c .before .before .before .before .before .before .before .loop .inv .long)
+loop-less c =
+    let loop-test = c .before .before .before .before .before .before .loop-test in
+    let turn = c .before .before .before .before .before .before .before .loop in
+    let args = c .before .before .before .before .before .before .before .before .before .before .args in
+    omega (arith, row-end (args .p) (turn .j) (length (args .counts .now)) (loop-test .taken), turn .inv .long)
 
 loop-again : tie.Need-loop-again Inv-loop μ-loop
 loop-again c =
-    reworked-row _ _ _ _ (c .before .before .before .before .before .before .before .loop .mu) _ (λ _ v. v ⊘ num (c .before .before .before .before .before .entry .result)) (c .before .before .before .before .before .before .before .before .before .before .pre) (c .before .before .before .before .before .before .before .loop .inv) (c .before .before .before .before .before .before .loop-test .taken) (c .before .before .divide .ensures)
-    (λ i _. ap (λ (k : ℕ). entry (c .before .before .before .before .before .before .before .before .before .before .args .p) (c .before .before .before .before .before .before .before .before .before .before .args .mu .now) (c .before .before .before .before .before .before .before .loop .j) i ⊘ num k) (c .before .before .before .before .before .entry .ensures))
+    let after-entry = c .before .before .before .before .before in
+    let in-loop = after-entry .before in
+    let at-loop = in-loop .before in
+    let start = at-loop .before .before .before in
+    reworked-row _ _ _ _ (at-loop .loop .mu) _ (λ _ v. v ⊘ num (after-entry .entry .result)) (start .pre) (at-loop .loop .inv) (in-loop .loop-test .taken) (c .before .before .divide .ensures)
+    (λ i _. ap (λ (k : ℕ). entry (start .args .p) (start .args .mu .now) (at-loop .loop .j) i ⊘ num k) (after-entry .entry .ensures))
 
 same-length : tie.Need-same-length Inv-loop μ-loop
 same-length c = c .before .loop .inv .long

@@ -13,13 +13,22 @@ use Rattle.means.proofs.fill_group_means.Statement.{statement}
 use Rattle.means.proofs.fill_group_means.Tie as tie
 
 count-groups-requires : tie.Need-count-groups-requires
-count-groups-requires c κs = let e : length (c .before .before .before .before .before .args .counts .now) ≡ c .before .before .before .before .before .args .g = ap length (c .before .before .before .before .before .pre .1) ∙ length-replicate {A = ℕ} (c .before .before .before .before .before .args .g) 0 in (c .before .before .before .before .before .pre .1 ∙ ap (λ (k : ℕ). replicate k 0) (sym e), rw e (c .before .before .before .before .before .pre .5), omega arith, c .before .before .before .before .before .pre .6)
+count-groups-requires c κs =
+    let args = c .before .before .before .before .before .args in
+    let pre = c .before .before .before .before .before .pre in
+    let e : length (args .counts .now) ≡ args .g = ap length (pre .1) ∙ length-replicate {A = ℕ} (args .g) 0 in (pre .1 ∙ ap (λ (k : ℕ). replicate k 0) (sym e), rw e (pre .5), omega arith, pre .6)
 
 add-members-requires : tie.Need-add-members-requires
-add-members-requires c κs = (ap length (c .before .before .before .before .before .before .before .before .before .pre .0) ∙ length-replicate (c .before .before .before .before .before .before .before .before .before .args .g * c .before .before .before .before .before .before .before .before .before .args .p) zero⁺, c .before .before .before .before .before .before .before .before .before .pre .2, c .before .before .before .before .before .before .before .before .before .pre .3, c .before .before .before .before .before .before .before .before .before .pre .4, c .before .before .before .before .before .before .before .before .before .pre .5)
+add-members-requires c κs =
+    let start = c .before .before .before .before .before .before .before .before .before in
+    (ap length (start .pre .0) ∙ length-replicate (start .args .g * start .args .p) zero⁺, start .pre .2, start .pre .3, start .pre .4, start .pre .5)
 
 divide-rows-requires : tie.Need-divide-rows-requires
-divide-rows-requires c κs = c .before .before .before .before .add-members .kept .0 ∙ ap length (c .before .before .before .before .before .before .before .before .before .before .before .before .before .before .pre .0) ∙ length-replicate (c .before .before .before .before .before .before .before .before .before .before .before .before .before .before .args .g * c .before .before .before .before .before .before .before .before .before .before .before .before .before .before .args .p) zero⁺ ∙ ap (λ (k : ℕ). k * c .before .before .before .before .before .before .before .before .before .before .before .before .before .before .args .p) (sym (c .before .before .before .before .before .before .before .before .count-groups .kept .0 ∙ ap length (c .before .before .before .before .before .before .before .before .before .before .before .before .before .before .pre .1) ∙ length-replicate {A = ℕ} (c .before .before .before .before .before .before .before .before .before .before .before .before .before .before .args .g) 0))
+divide-rows-requires c κs =
+    let after-add-members = c .before .before .before .before in
+    let after-count-groups = after-add-members .before .before .before .before in
+    let start = after-count-groups .before .before .before .before .before .before in
+    after-add-members .add-members .kept .0 ∙ ap length (start .pre .0) ∙ length-replicate (start .args .g * start .args .p) zero⁺ ∙ ap (λ (k : ℕ). k * start .args .p) (sym (after-count-groups .count-groups .kept .0 ∙ ap length (start .pre .1) ∙ length-replicate {A = ℕ} (start .args .g) 0))
 
 same-length : tie.Need-same-length
 same-length c = search needs
@@ -29,9 +38,12 @@ same-length-2 c = search needs
 
 returns : tie.Need-returns
 returns c =
-    let counted : c .before .before .before .before .before .before .before .before .before .before .before .count-groups .last .0 ≡ sizes (c .before .before .before .before .before .before .before .before .before .before .before .before .before .before .before .before .before .args .groups .now) (length (c .before .before .before .before .before .before .before .before .before .before .before .before .before .before .before .before .before .args .groups .now)) (c .before .before .before .before .before .before .before .before .before .before .before .before .before .before .before .before .before .args .g) =
-    c .before .before .before .before .before .before .before .before .before .before .before .count-groups .ensures ∙ ap (sizes (c .before .before .before .before .before .before .before .before .before .before .before .before .before .before .before .before .before .args .groups .now) (length (c .before .before .before .before .before .before .before .before .before .before .before .before .before .before .before .before .before .args .groups .now))) (ap length (c .before .before .before .before .before .before .before .before .before .before .before .before .before .before .before .before .before .pre .1) ∙ length-replicate {A = ℕ} (c .before .before .before .before .before .before .before .before .before .before .before .before .before .before .before .before .before .args .g) 0) in
-    (group-means-are (c .before .before .before .before .before .before .before .before .before .before .before .before .before .before .before .before .before .args .p) (c .before .before .before .before .before .before .before .before .before .before .before .before .before .before .before .before .before .args .columns) (c .before .before .before .before .before .before .before .before .before .before .before .before .before .before .before .before .before .args .x .now) (c .before .before .before .before .before .before .before .before .before .before .before .before .before .before .before .before .before .args .groups .now) (c .before .before .before .before .before .before .before .before .before .before .before .before .before .before .before .before .before .args .g) (c .before .before .before .before .before .before .before .before .before .before .before .before .before .before .before .before .before .pre .0) (c .before .before .before .before .before .before .before .add-members .ensures) counted (c .before .before .divide-rows .ensures), counted)
+    let after-add-members = c .before .before .before .before .before .before .before in
+    let after-count-groups = after-add-members .before .before .before .before in
+    let start = after-count-groups .before .before .before .before .before .before in
+    let counted : after-count-groups .count-groups .last .0 ≡ sizes (start .args .groups .now) (length (start .args .groups .now)) (start .args .g) =
+    after-count-groups .count-groups .ensures ∙ ap (sizes (start .args .groups .now) (length (start .args .groups .now))) (ap length (start .pre .1) ∙ length-replicate {A = ℕ} (start .args .g) 0) in
+    (group-means-are (start .args .p) (start .args .columns) (start .args .x .now) (start .args .groups .now) (start .args .g) (start .pre .0) (after-add-members .add-members .ensures) counted (c .before .before .divide-rows .ensures), counted)
 
 pub fill-group-means-spec : {M : Type 1} → statement M
 fill-group-means-spec =

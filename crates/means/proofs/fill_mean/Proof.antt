@@ -14,7 +14,9 @@ use Rattle.means.proofs.fill_mean.Statement.{statement}
 use Rattle.means.proofs.fill_mean.Tie as tie
 
 add-grouped-requires : tie.Need-add-grouped-requires
-add-grouped-requires c κs = (ap length (c .before .before .before .before .pre .0) ∙ length-replicate (c .before .before .before .before .args .p) zero⁻, c .before .before .before .before .pre .1, c .before .before .before .before .pre .2)
+add-grouped-requires c κs =
+    let start = c .before .before .before .before in
+    (ap length (start .pre .0) ∙ length-replicate (start .args .p) zero⁻, start .pre .1, start .pre .2)
 
 int-to-float-divide : tie.Need-int-to-float-divide
 unfolding inFloat
@@ -27,7 +29,10 @@ same-length : tie.Need-same-length
 same-length c = search needs
 
 returns : tie.Need-returns
-returns c = mean-is (c .before .before .before .before .before .before .before .before .before .before .before .before .args .p) (c .before .before .before .before .before .before .before .before .before .before .before .before .args .columns) (c .before .before .before .before .before .before .before .before .before .before .before .before .args .x .now) (c .before .before .before .before .before .before .before .before .before .before .before .before .args .groups .now) (c .before .before .before .before .before .before .before .before .before .before .before .before .pre .0) (c .before .before .before .before .before .before .before .add-grouped .ensures) (c .before .before .before .before .before .before .before .before .before .before .before .before .pre .3) (c .before .before .divide .ensures)
+returns c =
+    let after-add-grouped = c .before .before .before .before .before .before .before in
+    let start = after-add-grouped .before .before .before .before .before in
+    mean-is (start .args .p) (start .args .columns) (start .args .x .now) (start .args .groups .now) (start .pre .0) (after-add-grouped .add-grouped .ensures) (start .pre .3) (c .before .before .divide .ensures)
 
 pub fill-mean-spec : {M : Type 1} → statement M
 fill-mean-spec =

@@ -19,49 +19,84 @@ abbrev μ-loop : tie.MeasureT-loop
 μ-loop row cen axes g first b₀ j₀ b j = g - j
 
 slice-aggregate-gap-between : tie.Need-slice-aggregate-gap-between Inv-loop μ-loop
-slice-aggregate-gap-between c = sym (length-take-le (c .before .before .before .args .axes) (c .before .before .before .args .cen .now) (omega (arith, row-end (c .before .before .before .args .axes) 0 (c .before .before .before .args .g) (c .before .before .before .pre .2))))
+slice-aggregate-gap-between c =
+    let args = c .before .before .before .args in
+    sym (length-take-le (args .axes) (args .cen .now) (omega (arith, row-end (args .axes) 0 (args .g) (c .before .before .before .pre .2))))
 
 gap-between-requires : tie.Need-gap-between-requires Inv-loop μ-loop
-gap-between-requires c κs = length-take-le (c .before .before .before .args .axes) (c .before .before .before .args .cen .now) (omega (arith, row-end (c .before .before .before .args .axes) 0 (c .before .before .before .args .g) (c .before .before .before .pre .2))) ∙ sym (c .before .before .before .pre .0)
+gap-between-requires c κs =
+    let args = c .before .before .before .args in
+    let pre = c .before .before .before .pre in
+    length-take-le (args .axes) (args .cen .now) (omega (arith, row-end (args .axes) 0 (args .g) (pre .2))) ∙ sym (pre .0)
 
 loop-holds : tie.Need-loop-holds Inv-loop μ-loop
-loop-holds c = nearing-first (c .before .before .before .before .args .g) _ (c .before .before .before .before .pre .2) (c .gap-between .ensures ∙ gap-first (c .before .before .before .before .args .axes) (c .before .before .before .before .args .row .now) (c .before .before .before .before .args .cen .now) (c .before .before .before .before .pre .0)) (nan-ne (c .gap-between .result))
+loop-holds c =
+    let start = c .before .before .before .before in
+    nearing-first (start .args .g) _ (start .pre .2) (c .gap-between .ensures ∙ gap-first (start .args .axes) (start .args .row .now) (start .args .cen .now) (start .pre .0)) (nan-ne (c .gap-between .result))
 
 mul-gap-between : tie.Need-mul-gap-between Inv-loop μ-loop
-mul-gap-between c = omega (arith, row-end (c .before .before .before .before .before .before .args .axes) (c .before .loop .j) (c .before .before .before .before .before .before .args .g) (c .loop-test .taken))
+mul-gap-between c =
+    let args = c .before .before .before .before .before .before .args in
+    omega (arith, row-end (args .axes) (c .before .loop .j) (args .g) (c .loop-test .taken))
 
 mul-gap-between-2 : tie.Need-mul-gap-between-2 Inv-loop μ-loop
-mul-gap-between-2 c = omega (arith, row-end (c .before .before .before .before .before .before .args .axes) (c .before .loop .j) (c .before .before .before .before .before .before .args .g) (c .loop-test .taken))
+mul-gap-between-2 c =
+    let args = c .before .before .before .before .before .before .args in
+    omega (arith, row-end (args .axes) (c .before .loop .j) (args .g) (c .loop-test .taken))
 
 add-gap-between : tie.Need-add-gap-between Inv-loop μ-loop
-add-gap-between c = omega (arith, row-end (c .before .before .before .before .before .before .args .axes) (c .before .loop .j) (c .before .before .before .before .before .before .args .g) (c .loop-test .taken))
+add-gap-between c =
+    let args = c .before .before .before .before .before .before .args in
+    omega (arith, row-end (args .axes) (c .before .loop .j) (args .g) (c .loop-test .taken))
 
 mul-gap-between-3 : tie.Need-mul-gap-between-3 Inv-loop μ-loop
-mul-gap-between-3 c = omega (arith, row-end (c .before .before .before .before .before .before .args .axes) (c .before .loop .j) (c .before .before .before .before .before .before .args .g) (c .loop-test .taken))
+mul-gap-between-3 c =
+    let args = c .before .before .before .before .before .before .args in
+    omega (arith, row-end (args .axes) (c .before .loop .j) (args .g) (c .loop-test .taken))
 
 sub-gap-between : tie.Need-sub-gap-between Inv-loop μ-loop
-sub-gap-between c = omega (arith, row-end (c .before .before .before .before .before .before .args .axes) (c .before .loop .j) (c .before .before .before .before .before .before .args .g) (c .loop-test .taken))
+sub-gap-between c =
+    let args = c .before .before .before .before .before .before .args in
+    omega (arith, row-end (args .axes) (c .before .loop .j) (args .g) (c .loop-test .taken))
 
 part-gap-between-start : tie.Need-part-gap-between-start Inv-loop μ-loop
-part-gap-between-start c = omega (arith, row-end (c .before .before .before .before .before .before .args .axes) (c .before .loop .j) (c .before .before .before .before .before .before .args .g) (c .loop-test .taken))
+part-gap-between-start c =
+    let args = c .before .before .before .before .before .before .args in
+    omega (arith, row-end (args .axes) (c .before .loop .j) (args .g) (c .loop-test .taken))
 
 part-gap-between-end : tie.Need-part-gap-between-end Inv-loop μ-loop
-part-gap-between-end c = omega (arith, row-end (c .before .before .before .before .before .before .args .axes) (c .before .loop .j) (c .before .before .before .before .before .before .args .g) (c .loop-test .taken))
+part-gap-between-end c =
+    let args = c .before .before .before .before .before .before .args in
+    omega (arith, row-end (args .axes) (c .before .loop .j) (args .g) (c .loop-test .taken))
 
 gap-between-requires-2 : tie.Need-gap-between-requires-2 Inv-loop μ-loop
-gap-between-requires-2 c κs = length-part (c .before .before .before .before .before .before .before .args .axes) (c .before .before .loop .j) (c .before .before .before .before .before .before .before .args .cen .now) (omega (arith, row-end (c .before .before .before .before .before .before .before .args .axes) (c .before .before .loop .j) (c .before .before .before .before .before .before .before .args .g) (c .before .loop-test .taken))) ∙ sym (c .before .before .before .before .before .before .before .pre .0)
+gap-between-requires-2 c κs =
+    let turn = c .before .before .loop in
+    let args = c .before .before .before .before .before .before .before .args in
+    let pre = c .before .before .before .before .before .before .before .pre in
+    length-part (args .axes) (turn .j) (args .cen .now) (omega (arith, row-end (args .axes) (turn .j) (args .g) (c .before .loop-test .taken))) ∙ sym (pre .0)
 
 nearer-requires : tie.Need-nearer-requires Inv-loop μ-loop
-nearer-requires c κs = omega (arith, row-end (c .before .before .before .before .before .before .before .before .args .axes) (c .before .before .before .loop .j) (c .before .before .before .before .before .before .before .before .args .g) (c .before .before .loop-test .taken))
+nearer-requires c κs =
+    let args = c .before .before .before .before .before .before .before .before .args in
+    omega (arith, row-end (args .axes) (c .before .before .before .loop .j) (args .g) (c .before .before .loop-test .taken))
 
 add-j : tie.Need-add-j Inv-loop μ-loop
-add-j c = omega (arith, row-end (c .before .before .before .before .before .before .before .before .before .args .axes) (c .before .before .before .before .loop .j) (c .before .before .before .before .before .before .before .before .before .args .g) (c .before .before .before .loop-test .taken))
+add-j c =
+    let args = c .before .before .before .before .before .before .before .before .before .args in
+    omega (arith, row-end (args .axes) (c .before .before .before .before .loop .j) (args .g) (c .before .before .before .loop-test .taken))
 
 loop-less : tie.Need-loop-less Inv-loop μ-loop
-loop-less c = omega (arith, row-end (c .before .before .before .before .before .before .before .before .before .args .axes) (c .before .before .before .before .loop .j) (c .before .before .before .before .before .before .before .before .before .args .g) (c .before .before .before .loop-test .taken))
+loop-less c =
+    let args = c .before .before .before .before .before .before .before .before .before .args in
+    omega (arith, row-end (args .axes) (c .before .before .before .before .loop .j) (args .g) (c .before .before .before .loop-test .taken))
 
 loop-again : tie.Need-loop-again Inv-loop μ-loop
-loop-again c = nearing-next (c .before .before .before .before .before .before .before .before .before .args .g) _ (c .before .before .before .before .loop .inv) (c .before .before .before .loop-test .taken) (c .before .gap-between2 .ensures ∙ gap-part (c .before .before .before .before .before .before .before .before .before .args .axes) (c .before .before .before .before .before .before .before .before .before .args .row .now) (c .before .before .before .before .before .before .before .before .before .args .cen .now) (c .before .before .before .before .before .before .before .before .before .pre .0) (c .before .before .before .before .loop .j)) (c .nearer .ensures .0) (c .nearer .ensures .1) (c .nearer .ensures .2)
+loop-again c =
+    let in-loop = c .before .before .before in
+    let at-loop = in-loop .before in
+    let start = at-loop .before .before .before .before .before in
+    nearing-next (start .args .g) _ (at-loop .loop .inv) (in-loop .loop-test .taken) (c .before .gap-between2 .ensures ∙ gap-part (start .args .axes) (start .args .row .now) (start .args .cen .now) (start .pre .0) (at-loop .loop .j)) (c .nearer .ensures .0) (c .nearer .ensures .1) (c .nearer .ensures .2)
 
 returns : tie.Need-returns Inv-loop μ-loop
 unfolding gaps

@@ -18,20 +18,22 @@ add-right c = search needs
 
 returns : tie.Need-returns
 returns c =
-    let nans = c .before .before .before .args .t .unordered in (
+    let start = c .before .before .before in
+    let nans = start .args .t .unordered in (
       (⊎-elim
-          (λ w. w .1 ∙ ap (λ (t : Bool). c .before .before .before .args .t .right + cond t 1 0) (sym (eq-eqb (c .before .before .before .args .b .group) (c .before .before .before .args .own) (w .0 .taken))))
-          (λ w. w .1 ∙ sym (add-zero (c .before .before .before .args .t .right)) ∙ ap (λ (t : Bool). c .before .before .before .args .t .right + cond t 1 0) (sym (ne-eqb (c .before .before .before .args .b .group) (c .before .before .before .args .own) (w .0 .left))))
+          (λ w. w .1 ∙ ap (λ (t : Bool). start .args .t .right + cond t 1 0) (sym (eq-eqb (start .args .b .group) (start .args .own) (w .0 .taken))))
+          (λ w. w .1 ∙ sym (add-zero (start .args .t .right)) ∙ ap (λ (t : Bool). start .args .t .right + cond t 1 0) (sym (ne-eqb (start .args .b .group) (start .args .own) (w .0 .left))))
           (c .before .if1 .came)),
       sym (ap (λ (t : Bool). nans || t) (c .if2 .taken) ∙ or-true nans),
     )
 
 returns-2 : tie.Need-returns-2
 returns-2 c =
-    let nans = c .before .before .before .args .t .unordered in (
+    let start = c .before .before .before in
+    let nans = start .args .t .unordered in (
       (⊎-elim
-          (λ w. w .1 ∙ ap (λ (t : Bool). c .before .before .before .args .t .right + cond t 1 0) (sym (eq-eqb (c .before .before .before .args .b .group) (c .before .before .before .args .own) (w .0 .taken))))
-          (λ w. w .1 ∙ sym (add-zero (c .before .before .before .args .t .right)) ∙ ap (λ (t : Bool). c .before .before .before .args .t .right + cond t 1 0) (sym (ne-eqb (c .before .before .before .args .b .group) (c .before .before .before .args .own) (w .0 .left))))
+          (λ w. w .1 ∙ ap (λ (t : Bool). start .args .t .right + cond t 1 0) (sym (eq-eqb (start .args .b .group) (start .args .own) (w .0 .taken))))
+          (λ w. w .1 ∙ sym (add-zero (start .args .t .right)) ∙ ap (λ (t : Bool). start .args .t .right + cond t 1 0) (sym (ne-eqb (start .args .b .group) (start .args .own) (w .0 .left))))
           (c .before .if1 .came)),
       sym (ap (λ (t : Bool). nans || t) (c .if2 .left) ∙ or-false nans),
     )

@@ -23,9 +23,11 @@ same-length-2 c = search needs
 returns : tie.Need-returns
 unfolding firstBlock
 returns c =
+    let after-orthonormalize = c .before .before .before .before in
+    let after-draw = after-orthonormalize .before .before .before .before .before in
     let s = c .before .before .before .before .before .before .before .before .before .before .before .before .before in
-    c .before .before .before .before .orthonormalize .ensures
-    ∙ ap (orthonormal (s .args .n) (s .args .b)) (c .before .before .before .before .before .before .before .before .before .draw .ensures ∙ ap (λ (k : ℕ). map uniform (states k 0xc0ffee)) (s .pre .1))
+    after-orthonormalize .orthonormalize .ensures
+    ∙ ap (orthonormal (s .args .n) (s .args .b)) (after-draw .draw .ensures ∙ ap (λ (k : ℕ). map uniform (states k 0xc0ffee)) (s .pre .1))
 
 pub first-block-spec : {M : Type 1} → statement M
 first-block-spec =

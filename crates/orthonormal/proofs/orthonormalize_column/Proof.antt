@@ -88,9 +88,11 @@ same-length-2 c = search needs
 
 returns : tie.Need-returns
 returns c =
-    let a = c .before .before .before .before .before .before .before .before .before .before .before .before .before .args in
-    let z = c .before .before .before .before .before .before .before .before .project-off-all .last .0 in (
-      on-row (a .n) (a .j) (offAll (a .n) (now (a .q)) (a .j)) (now (a .z)) (c .before .before .before .before .before .before .before .before .project-off-all .ensures),
+    let after-project-off-all = c .before .before .before .before .before .before .before .before in
+    let start = after-project-off-all .before .before .before .before .before in
+    let a = start .args in
+    let z = after-project-off-all .project-off-all .last .0 in (
+      on-row (a .n) (a .j) (offAll (a .n) (now (a .q)) (a .j)) (now (a .z)) (after-project-off-all .project-off-all .ensures),
       put-row (a .n) (a .j) (now (a .q)) _ ∙ ap (λ (r : List Float). putRow (a .n) (a .j) r (now (a .q))) (c .before .before .put-unit .ensures ∙ ap unit (part-row (a .n) (a .j) _)),
     )
 

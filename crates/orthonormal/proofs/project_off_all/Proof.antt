@@ -24,16 +24,28 @@ loop-holds : tie.Need-loop-holds Inv-loop μ-loop
 loop-holds c = let a = c .before .before .args in (omega arith, refl, inTurn-none (λ i. projectedOff (row (a .n) i (now (a .q)))) (now (a .x)))
 
 mul-project-off : tie.Need-mul-project-off Inv-loop μ-loop
-mul-project-off c = let e = row-end (c .before .before .before .before .before .args .n) (c .before .before .loop .i) (c .before .before .before .before .before .args .j) (c .before .loop-test .taken) in omega (arith, e, c .before .before .before .before .before .pre .1)
+mul-project-off c =
+    let args = c .before .before .before .before .before .args in
+    let pre = c .before .before .before .before .before .pre in
+    let e = row-end (args .n) (c .before .before .loop .i) (args .j) (c .before .loop-test .taken) in omega (arith, e, pre .1)
 
 mul-project-off-2 : tie.Need-mul-project-off-2 Inv-loop μ-loop
-mul-project-off-2 c = let e = row-end (c .before .before .before .before .before .args .n) (c .before .before .loop .i) (c .before .before .before .before .before .args .j) (c .before .loop-test .taken) in omega (arith, e, c .before .before .before .before .before .pre .1)
+mul-project-off-2 c =
+    let args = c .before .before .before .before .before .args in
+    let pre = c .before .before .before .before .before .pre in
+    let e = row-end (args .n) (c .before .before .loop .i) (args .j) (c .before .loop-test .taken) in omega (arith, e, pre .1)
 
 add-project-off : tie.Need-add-project-off Inv-loop μ-loop
-add-project-off c = let e = row-end (c .before .before .before .before .before .args .n) (c .before .before .loop .i) (c .before .before .before .before .before .args .j) (c .before .loop-test .taken) in omega (arith, e, c .before .before .before .before .before .pre .1)
+add-project-off c =
+    let args = c .before .before .before .before .before .args in
+    let pre = c .before .before .before .before .before .pre in
+    let e = row-end (args .n) (c .before .before .loop .i) (args .j) (c .before .loop-test .taken) in omega (arith, e, pre .1)
 
 mul-project-off-3 : tie.Need-mul-project-off-3 Inv-loop μ-loop
-mul-project-off-3 c = let e = row-end (c .before .before .before .before .before .args .n) (c .before .before .loop .i) (c .before .before .before .before .before .args .j) (c .before .loop-test .taken) in omega (arith, e, c .before .before .before .before .before .pre .1)
+mul-project-off-3 c =
+    let args = c .before .before .before .before .before .args in
+    let pre = c .before .before .before .before .before .pre in
+    let e = row-end (args .n) (c .before .before .loop .i) (args .j) (c .before .loop-test .taken) in omega (arith, e, pre .1)
 
 sub-project-off : tie.Need-sub-project-off Inv-loop μ-loop
 sub-project-off c = omega arith
@@ -42,7 +54,10 @@ part-project-off-start : tie.Need-part-project-off-start Inv-loop μ-loop
 part-project-off-start c = omega arith
 
 part-project-off-end : tie.Need-part-project-off-end Inv-loop μ-loop
-part-project-off-end c = let e = row-end (c .before .before .before .before .before .args .n) (c .before .before .loop .i) (c .before .before .before .before .before .args .j) (c .before .loop-test .taken) in omega (arith, e, c .before .before .before .before .before .pre .1)
+part-project-off-end c =
+    let args = c .before .before .before .before .before .args in
+    let pre = c .before .before .before .before .before .pre in
+    let e = row-end (args .n) (c .before .before .loop .i) (args .j) (c .before .loop-test .taken) in omega (arith, e, pre .1)
 
 project-off-requires : tie.Need-project-off-requires Inv-loop μ-loop
 project-off-requires c κs =

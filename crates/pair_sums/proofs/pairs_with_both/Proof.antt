@@ -62,10 +62,13 @@ sum-rows-requires c κs =
 
 returns : tie.Need-returns
 returns c =
-    let args = c .before .before .before .before .before .before .before .before .args in
+    let after-entry2 = c .before .before .before in
+    let after-entry = after-entry2 .before in
+    let start = after-entry .before .before .before .before in
+    let args = start .args in
     let t = args .t .now in (
-      sum-later t (args .m) (args .p .now) (args .x) (args .s) (c .before .before .before .before .entry .ensures) (c .sum-rows .ensures .0),
-      sum-later t (args .m) (args .q .now) (args .x) (args .u) (c .before .before .before .entry2 .ensures) (c .sum-rows .ensures .1),
+      sum-later t (args .m) (args .p .now) (args .x) (args .s) (after-entry .entry .ensures) (c .sum-rows .ensures .0),
+      sum-later t (args .m) (args .q .now) (args .x) (args .u) (after-entry2 .entry2 .ensures) (c .sum-rows .ensures .1),
     )
 
 pub pairs-with-both-spec : {M : Type 1} → statement M

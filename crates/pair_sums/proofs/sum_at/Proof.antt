@@ -38,7 +38,10 @@ loop-less : tie.Need-loop-less Inv-loop μ-loop
 loop-less c = omega arith
 
 loop-again : tie.Need-loop-again Inv-loop μ-loop
-loop-again c = list-turn (at (c .before .before .before .before .before .before .args .w .now)) _ (c .before .before .before .before .before .before .args .mem .now) (c .before .before .before .loop .x) 0 (omega arith) (ap (at (c .before .before .before .before .before .before .args .w .now)) (c .before .entry .ensures)) refl (c .before .before .before .loop .inv)
+loop-again c =
+    let turn = c .before .before .before .loop in
+    let args = c .before .before .before .before .before .before .args in
+    list-turn (at (args .w .now)) _ (args .mem .now) (turn .x) 0 (omega arith) (ap (at (args .w .now)) (c .before .entry .ensures)) refl (turn .inv)
 
 returns : tie.Need-returns Inv-loop μ-loop
 returns c = list-end (at (c .before .before .before .before .args .w .now)) _ (c .before .before .before .before .args .mem .now) (c .before .loop .x) (omega arith) (c .before .loop .inv)

@@ -32,16 +32,28 @@ loop-holds c =
     filling-none (a .b) (a .n) (λ c. times (a .n) (now (a .a)) (row (a .n) c (now (a .q)))) (λ c. long-times (a .n) (now (a .a)) (row (a .n) c (now (a .q)))) (now (a .z)) (s .pre .0)
 
 mul-matvec : tie.Need-mul-matvec Inv-loop μ-loop
-mul-matvec c = let e = row-end (c .before .before .before .before .before .args .n) (c .before .loop .c) (c .before .before .before .before .before .args .b) (c .loop-test .taken) in omega (arith, e, c .before .before .before .before .before .pre, c .before .loop .inv .long)
+mul-matvec c =
+    let args = c .before .before .before .before .before .args in
+    let pre = c .before .before .before .before .before .pre in
+    let e = row-end (args .n) (c .before .loop .c) (args .b) (c .loop-test .taken) in omega (arith, e, pre, c .before .loop .inv .long)
 
 mul-matvec-2 : tie.Need-mul-matvec-2 Inv-loop μ-loop
-mul-matvec-2 c = let e = row-end (c .before .before .before .before .before .args .n) (c .before .loop .c) (c .before .before .before .before .before .args .b) (c .loop-test .taken) in omega (arith, e, c .before .before .before .before .before .pre, c .before .loop .inv .long)
+mul-matvec-2 c =
+    let args = c .before .before .before .before .before .args in
+    let pre = c .before .before .before .before .before .pre in
+    let e = row-end (args .n) (c .before .loop .c) (args .b) (c .loop-test .taken) in omega (arith, e, pre, c .before .loop .inv .long)
 
 add-matvec : tie.Need-add-matvec Inv-loop μ-loop
-add-matvec c = let e = row-end (c .before .before .before .before .before .args .n) (c .before .loop .c) (c .before .before .before .before .before .args .b) (c .loop-test .taken) in omega (arith, e, c .before .before .before .before .before .pre, c .before .loop .inv .long)
+add-matvec c =
+    let args = c .before .before .before .before .before .args in
+    let pre = c .before .before .before .before .before .pre in
+    let e = row-end (args .n) (c .before .loop .c) (args .b) (c .loop-test .taken) in omega (arith, e, pre, c .before .loop .inv .long)
 
 mul-matvec-3 : tie.Need-mul-matvec-3 Inv-loop μ-loop
-mul-matvec-3 c = let e = row-end (c .before .before .before .before .before .args .n) (c .before .loop .c) (c .before .before .before .before .before .args .b) (c .loop-test .taken) in omega (arith, e, c .before .before .before .before .before .pre, c .before .loop .inv .long)
+mul-matvec-3 c =
+    let args = c .before .before .before .before .before .args in
+    let pre = c .before .before .before .before .before .pre in
+    let e = row-end (args .n) (c .before .loop .c) (args .b) (c .loop-test .taken) in omega (arith, e, pre, c .before .loop .inv .long)
 
 sub-matvec : tie.Need-sub-matvec Inv-loop μ-loop
 sub-matvec c = omega arith
@@ -50,19 +62,38 @@ part-matvec-start : tie.Need-part-matvec-start Inv-loop μ-loop
 part-matvec-start c = omega arith
 
 part-matvec-end : tie.Need-part-matvec-end Inv-loop μ-loop
-part-matvec-end c = let e = row-end (c .before .before .before .before .before .args .n) (c .before .loop .c) (c .before .before .before .before .before .args .b) (c .loop-test .taken) in omega (arith, e, c .before .before .before .before .before .pre, c .before .loop .inv .long)
+part-matvec-end c =
+    let args = c .before .before .before .before .before .args in
+    let pre = c .before .before .before .before .before .pre in
+    let e = row-end (args .n) (c .before .loop .c) (args .b) (c .loop-test .taken) in omega (arith, e, pre, c .before .loop .inv .long)
 
 mul-matvec-4 : tie.Need-mul-matvec-4 Inv-loop μ-loop
-mul-matvec-4 c = let e = row-end (c .before .before .before .before .before .before .args .n) (c .before .before .loop .c) (c .before .before .before .before .before .before .args .b) (c .before .loop-test .taken) in omega (arith, e, c .before .before .before .before .before .before .pre, c .before .before .loop .inv .long)
+mul-matvec-4 c =
+    let turn = c .before .before .loop in
+    let args = c .before .before .before .before .before .before .args in
+    let pre = c .before .before .before .before .before .before .pre in
+    let e = row-end (args .n) (turn .c) (args .b) (c .before .loop-test .taken) in omega (arith, e, pre, turn .inv .long)
 
 mul-matvec-5 : tie.Need-mul-matvec-5 Inv-loop μ-loop
-mul-matvec-5 c = let e = row-end (c .before .before .before .before .before .before .args .n) (c .before .before .loop .c) (c .before .before .before .before .before .before .args .b) (c .before .loop-test .taken) in omega (arith, e, c .before .before .before .before .before .before .pre, c .before .before .loop .inv .long)
+mul-matvec-5 c =
+    let turn = c .before .before .loop in
+    let args = c .before .before .before .before .before .before .args in
+    let pre = c .before .before .before .before .before .before .pre in
+    let e = row-end (args .n) (turn .c) (args .b) (c .before .loop-test .taken) in omega (arith, e, pre, turn .inv .long)
 
 add-matvec-2 : tie.Need-add-matvec-2 Inv-loop μ-loop
-add-matvec-2 c = let e = row-end (c .before .before .before .before .before .before .args .n) (c .before .before .loop .c) (c .before .before .before .before .before .before .args .b) (c .before .loop-test .taken) in omega (arith, e, c .before .before .before .before .before .before .pre, c .before .before .loop .inv .long)
+add-matvec-2 c =
+    let turn = c .before .before .loop in
+    let args = c .before .before .before .before .before .before .args in
+    let pre = c .before .before .before .before .before .before .pre in
+    let e = row-end (args .n) (turn .c) (args .b) (c .before .loop-test .taken) in omega (arith, e, pre, turn .inv .long)
 
 mul-matvec-6 : tie.Need-mul-matvec-6 Inv-loop μ-loop
-mul-matvec-6 c = let e = row-end (c .before .before .before .before .before .before .args .n) (c .before .before .loop .c) (c .before .before .before .before .before .before .args .b) (c .before .loop-test .taken) in omega (arith, e, c .before .before .before .before .before .before .pre, c .before .before .loop .inv .long)
+mul-matvec-6 c =
+    let turn = c .before .before .loop in
+    let args = c .before .before .before .before .before .before .args in
+    let pre = c .before .before .before .before .before .before .pre in
+    let e = row-end (args .n) (turn .c) (args .b) (c .before .loop-test .taken) in omega (arith, e, pre, turn .inv .long)
 
 sub-matvec-2 : tie.Need-sub-matvec-2 Inv-loop μ-loop
 sub-matvec-2 c = omega arith
@@ -71,7 +102,11 @@ part-matvec-start-2 : tie.Need-part-matvec-start-2 Inv-loop μ-loop
 part-matvec-start-2 c = omega arith
 
 part-matvec-end-2 : tie.Need-part-matvec-end-2 Inv-loop μ-loop
-part-matvec-end-2 c = let e = row-end (c .before .before .before .before .before .before .args .n) (c .before .before .loop .c) (c .before .before .before .before .before .before .args .b) (c .before .loop-test .taken) in omega (arith, e, c .before .before .before .before .before .before .pre, c .before .before .loop .inv .long)
+part-matvec-end-2 c =
+    let turn = c .before .before .loop in
+    let args = c .before .before .before .before .before .before .args in
+    let pre = c .before .before .before .before .before .before .pre in
+    let e = row-end (args .n) (turn .c) (args .b) (c .before .loop-test .taken) in omega (arith, e, pre, turn .inv .long)
 
 matvec-requires : tie.Need-matvec-requires Inv-loop μ-loop
 matvec-requires c κs =

@@ -38,7 +38,9 @@ loop-less : tie.Need-loop-less Inv-loop μ-loop
 loop-less c = omega arith
 
 loop-again : tie.Need-loop-again Inv-loop μ-loop
-loop-again c = length-set (c .before .before .before .before .loop .x) (c .before .before .before .before .loop .i) _ ∙ c .before .before .before .before .loop .inv
+loop-again c =
+    let at-loop = c .before .before .before .before in
+    length-set (at-loop .loop .x) (at-loop .loop .i) _ ∙ at-loop .loop .inv
 
 same-length : tie.Need-same-length Inv-loop μ-loop
 same-length c = c .before .loop .inv

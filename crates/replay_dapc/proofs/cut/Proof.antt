@@ -35,25 +35,37 @@ slice-relend-prefix-held : tie.Need-slice-relend-prefix-held
 slice-relend-prefix-held c = search needs
 
 slice-aggregate-held : tie.Need-slice-aggregate-held
-slice-aggregate-held c = sym (length-take-le _ (c .before .before .before .before .before .before .before .before .before .before .before .before .before .before .args .x .now) (c .before .before .before .before .if1 .left))
+slice-aggregate-held c =
+    let at-if1 = c .before .before .before .before in
+    let start = at-if1 .before .before .before .before .before .before .before .before .before .before in
+    sym (length-take-le _ (start .args .x .now) (at-if1 .if1 .left))
 
 slice-relend-prefix-held-2 : tie.Need-slice-relend-prefix-held-2
 slice-relend-prefix-held-2 c = search needs
 
 slice-aggregate-held-2 : tie.Need-slice-aggregate-held-2
-slice-aggregate-held-2 c = sym (length-take-le _ (c .before .before .before .before .before .before .before .before .before .before .before .before .before .before .before .args .labels .now) (c .before .before .before .if3 .left))
+slice-aggregate-held-2 c =
+    let at-if3 = c .before .before .before in
+    let start = at-if3 .before .before .before .before .before .before .before .before .before .before .before .before in
+    sym (length-take-le _ (start .args .labels .now) (at-if3 .if3 .left))
 
 slice-relend-prefix-held-3 : tie.Need-slice-relend-prefix-held-3
 slice-relend-prefix-held-3 c = search needs
 
 slice-aggregate-held-3 : tie.Need-slice-aggregate-held-3
-slice-aggregate-held-3 c = sym (length-take-le _ (c .before .before .before .before .before .before .before .before .before .before .before .before .before .before .before .before .args .out .now) (c .before .before .before .before .before .if2 .left))
+slice-aggregate-held-3 c =
+    let at-if2 = c .before .before .before .before .before in
+    let start = at-if2 .before .before .before .before .before .before .before .before .before .before .before in
+    sym (length-take-le _ (start .args .out .now) (at-if2 .if2 .left))
 
 slice-relend-prefix-held-4 : tie.Need-slice-relend-prefix-held-4
 slice-relend-prefix-held-4 c = search needs
 
 slice-aggregate-held-4 : tie.Need-slice-aggregate-held-4
-slice-aggregate-held-4 c = sym (length-take-le _ (c .before .before .before .before .before .before .before .before .before .before .before .before .before .before .before .before .before .args .assigned .now) (c .before .before .before .before .if4 .left))
+slice-aggregate-held-4 c =
+    let at-if4 = c .before .before .before .before in
+    let start = at-if4 .before .before .before .before .before .before .before .before .before .before .before .before .before in
+    sym (length-take-le _ (start .args .assigned .now) (at-if4 .if4 .left))
 
 held-requires : tie.Need-held-requires
 held-requires c κs = search needs

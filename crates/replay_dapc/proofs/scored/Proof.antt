@@ -38,7 +38,9 @@ returns-2 : tie.Need-returns-2
 returns-2 c = search needs
 
 slice-aggregate-same-floats : tie.Need-slice-aggregate-same-floats
-slice-aggregate-same-floats c = sym (length-take-le _ (c .before .before .before .before .before .before .before .before .before .before .before .before .before .before .args .out .now) (c .before .if2 .left))
+slice-aggregate-same-floats c =
+    let start = c .before .before .before .before .before .before .before .before .before .before .before .before .before .before in
+    sym (length-take-le _ (start .args .out .now) (c .before .if2 .left))
 
 same-floats-requires : tie.Need-same-floats-requires
 same-floats-requires c κs = search needs

@@ -29,13 +29,17 @@ slice-relend-prefix-held : tie.Need-slice-relend-prefix-held
 slice-relend-prefix-held c = search needs
 
 slice-aggregate-held : tie.Need-slice-aggregate-held
-slice-aggregate-held c = sym (length-take-le _ (c .before .before .before .before .before .before .before .before .before .before .before .before .before .before .before .before .args .hashes .now) (c .before .before .if1 .left))
+slice-aggregate-held c =
+    let start = c .before .before .before .before .before .before .before .before .before .before .before .before .before .before .before .before in
+    sym (length-take-le _ (start .args .hashes .now) (c .before .before .if1 .left))
 
 slice-relend-prefix-held-2 : tie.Need-slice-relend-prefix-held-2
 slice-relend-prefix-held-2 c = search needs
 
 slice-aggregate-held-2 : tie.Need-slice-aggregate-held-2
-slice-aggregate-held-2 c = sym (length-take-le _ (c .before .before .before .before .before .before .before .before .before .before .before .before .before .before .before .before .before .args .offsets .now) (c .before .before .if2 .left))
+slice-aggregate-held-2 c =
+    let start = c .before .before .before .before .before .before .before .before .before .before .before .before .before .before .before .before .before in
+    sym (length-take-le _ (start .args .offsets .now) (c .before .before .if2 .left))
 
 held-requires : tie.Need-held-requires
 held-requires c κs = search needs

@@ -32,7 +32,10 @@ after-requires-4 : tie.Need-after-requires-4
 after-requires-4 c κs = search needs
 
 slice-aggregate-same-floats : tie.Need-slice-aggregate-same-floats
-slice-aggregate-same-floats c = sym (length-take-le _ (c .before .before .before .before .before .before .before .before .before .before .before .before .args .out .now) (c .before .before .before .before .if1 .left))
+slice-aggregate-same-floats c =
+    let at-if1 = c .before .before .before .before in
+    let start = at-if1 .before .before .before .before .before .before .before .before in
+    sym (length-take-le _ (start .args .out .now) (at-if1 .if1 .left))
 
 same-floats-requires : tie.Need-same-floats-requires
 same-floats-requires c κs = search needs

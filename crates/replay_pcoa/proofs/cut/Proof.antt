@@ -20,7 +20,9 @@ slice-relend-prefix-held : tie.Need-slice-relend-prefix-held
 slice-relend-prefix-held c = search needs
 
 slice-aggregate-held : tie.Need-slice-aggregate-held
-slice-aggregate-held c = sym (length-take-le _ (c .before .before .before .before .before .before .before .before .before .before .before .args .d .now) (c .before .if1 .left))
+slice-aggregate-held c =
+    let start = c .before .before .before .before .before .before .before .before .before .before .before in
+    sym (length-take-le _ (start .args .d .now) (c .before .if1 .left))
 
 held-requires : tie.Need-held-requires
 held-requires c κs = search needs

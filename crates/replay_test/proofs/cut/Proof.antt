@@ -20,7 +20,9 @@ slice-relend-prefix-cut-samples : tie.Need-slice-relend-prefix-cut-samples
 slice-relend-prefix-cut-samples c = search needs
 
 slice-aggregate-cut-samples : tie.Need-slice-aggregate-cut-samples
-slice-aggregate-cut-samples c = sym (length-take-le _ (c .before .before .before .before .before .before .before .before .before .before .before .args .d .now) (c .before .if1 .left))
+slice-aggregate-cut-samples c =
+    let start = c .before .before .before .before .before .before .before .before .before .before .before in
+    sym (length-take-le _ (start .args .d .now) (c .before .if1 .left))
 
 cut-samples-requires : tie.Need-cut-samples-requires
 cut-samples-requires c κs = search needs

@@ -20,19 +20,28 @@ slice-relend-prefix-held : tie.Need-slice-relend-prefix-held
 slice-relend-prefix-held c = search needs
 
 slice-aggregate-held : tie.Need-slice-aggregate-held
-slice-aggregate-held c = sym (length-take-le _ (c .before .before .before .before .before .before .before .before .before .before .before .before .args .labels .now) (c .before .before .before .before .if1 .left))
+slice-aggregate-held c =
+    let at-if1 = c .before .before .before .before in
+    let start = at-if1 .before .before .before .before .before .before .before .before in
+    sym (length-take-le _ (start .args .labels .now) (at-if1 .if1 .left))
 
 slice-relend-prefix-held-2 : tie.Need-slice-relend-prefix-held-2
 slice-relend-prefix-held-2 c = search needs
 
 slice-aggregate-held-2 : tie.Need-slice-aggregate-held-2
-slice-aggregate-held-2 c = sym (length-take-le _ (c .before .before .before .before .before .before .before .before .before .before .before .before .before .args .strata .now) (c .before .before .before .before .if2 .left))
+slice-aggregate-held-2 c =
+    let at-if2 = c .before .before .before .before in
+    let start = at-if2 .before .before .before .before .before .before .before .before .before in
+    sym (length-take-le _ (start .args .strata .now) (at-if2 .if2 .left))
 
 slice-relend-prefix-held-3 : tie.Need-slice-relend-prefix-held-3
 slice-relend-prefix-held-3 c = search needs
 
 slice-aggregate-held-3 : tie.Need-slice-aggregate-held-3
-slice-aggregate-held-3 c = sym (length-take-le _ (c .before .before .before .before .before .before .before .before .before .before .before .before .before .before .args .weights .now) (c .before .before .before .before .if3 .left))
+slice-aggregate-held-3 c =
+    let at-if3 = c .before .before .before .before in
+    let start = at-if3 .before .before .before .before .before .before .before .before .before .before in
+    sym (length-take-le _ (start .args .weights .now) (at-if3 .if3 .left))
 
 slice-aggregate-held-4 : tie.Need-slice-aggregate-held-4
 slice-aggregate-held-4 c = search needs

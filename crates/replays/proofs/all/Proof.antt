@@ -45,7 +45,10 @@ loop-less : tie.Need-loop-less Inv-loop μ-loop
 loop-less c = omega arith
 
 loop-again : tie.Need-loop-again Inv-loop μ-loop
-loop-again c = c .before .before .before .before .before .next .kept .1 .0 ∙ c .before .before .before .before .before .before .before .before .loop .inv
+loop-again c =
+    let after-next = c .before .before .before .before .before in
+    let at-loop = after-next .before .before .before in
+    after-next .next .kept .1 .0 ∙ at-loop .loop .inv
 
 tell-requires : tie.Need-tell-requires Inv-loop μ-loop
 tell-requires c κs = tt

@@ -41,10 +41,16 @@ loop-less : tie.Need-loop-less Inv-loop μ-loop
 loop-less c = omega arith
 
 loop-again : tie.Need-loop-again Inv-loop μ-loop
-loop-again c = (omega arith, sum-turn (λ k. getD (c .before .before .before .before .args .d .now) k nan ⊗ getD (c .before .before .before .before .args .v .now) k nan) (c .before .before .before .loop .s) (c .before .before .before .loop .c) (length (c .before .before .before .before .args .d .now)) (c .before .before .loop-test .taken) refl refl (c .before .before .before .loop .inv .1))
+loop-again c =
+    let turn = c .before .before .before .loop in
+    let args = c .before .before .before .before .args in
+    (omega arith, sum-turn (λ k. getD (args .d .now) k nan ⊗ getD (args .v .now) k nan) (turn .s) (turn .c) (length (args .d .now)) (c .before .before .loop-test .taken) refl refl (turn .inv .1))
 
 returns : tie.Need-returns Inv-loop μ-loop
-returns c = sum-end (λ k. getD (c .before .before .args .d .now) k nan ⊗ getD (c .before .before .args .v .now) k nan) (c .before .loop .s) (c .before .loop .c) (length (c .before .before .args .d .now)) (c .loop-test .left) (c .before .loop .inv .1) ∙ sym (sum-table zero⁻ (length (c .before .before .args .d .now)) (λ k. getD (c .before .before .args .d .now) k nan ⊗ getD (c .before .before .args .v .now) k nan))
+returns c =
+    let at-loop = c .before in
+    let start = at-loop .before in
+    sum-end (λ k. getD (start .args .d .now) k nan ⊗ getD (start .args .v .now) k nan) (at-loop .loop .s) (at-loop .loop .c) (length (start .args .d .now)) (c .loop-test .left) (at-loop .loop .inv .1) ∙ sym (sum-table zero⁻ (length (start .args .d .now)) (λ k. getD (start .args .d .now) k nan ⊗ getD (start .args .v .now) k nan))
 
 pub dot-spec : {M : Type 1} → statement M
 dot-spec =

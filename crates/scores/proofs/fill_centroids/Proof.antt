@@ -25,62 +25,157 @@ abbrev μ-loop : tie.MeasureT-loop
 μ-loop cen₀ axes g scores groups counts i₀ i-end cen i = length groups - i
 
 loop-holds : tie.Need-loop-holds Inv-loop μ-loop
-loop-holds c = adding-none _ _ _ _ _ _ (ap length (c .before .before .before .before .pre .0) ∙ length-replicate (c .before .before .before .before .args .g * c .before .before .before .before .args .axes) zero⁺)
+loop-holds c =
+    let start = c .before .before .before .before in
+    adding-none _ _ _ _ _ _ (ap length (start .pre .0) ∙ length-replicate (start .args .g * start .args .axes) zero⁺)
 
 entry-requires : tie.Need-entry-requires Inv-loop μ-loop
 entry-requires c κs = omega arith
 
 entry-requires-2 : tie.Need-entry-requires-2 Inv-loop μ-loop
-entry-requires-2 c κs = omega (arith, is-numbered (c .before .before .before .before .before .before .before .before .args .groups .now) (c .before .before .before .loop .i) (c .before .entry .ensures) (c .before .before .before .before .before .before .before .before .args .g) (c .before .before .before .before .before .before .before .before .pre .4) (c .before .before .loop-test .taken) (c .if1 .taken), ap length (c .before .before .before .before .before .before .before .before .pre .2) ∙ length-sizes (c .before .before .before .before .before .before .before .before .args .groups .now) (length (c .before .before .before .before .before .before .before .before .args .groups .now)) (c .before .before .before .before .before .before .before .before .args .g))
+entry-requires-2 c κs =
+    let args = c .before .before .before .before .before .before .before .before .args in
+    let pre = c .before .before .before .before .before .before .before .before .pre in
+    omega (arith, is-numbered (args .groups .now) (c .before .before .before .loop .i) (c .before .entry .ensures) (args .g) (pre .4) (c .before .before .loop-test .taken) (c .if1 .taken), ap length (pre .2) ∙ length-sizes (args .groups .now) (length (args .groups .now)) (args .g))
 
 int-to-float-n : tie.Need-int-to-float-n Inv-loop μ-loop
 unfolding inFloat
 int-to-float-n c = le→leb (c .before .entry2 .result) (2 ^ 53) (omega (arith, c .before .entry2 .ensures, c .before .before .before .before .before .before .shared-slice-known3 .given (c .before .before .before .entry .result)))
 
 mul-add-quotients : tie.Need-mul-add-quotients Inv-loop μ-loop
-mul-add-quotients c = omega (arith, row-end (c .before .before .before .before .before .before .before .before .before .before .args .axes) (c .before .before .before .before .before .loop .i) (length (c .before .before .before .before .before .before .before .before .before .before .args .groups .now)) (c .before .before .before .before .loop-test .taken), row-end (c .before .before .before .before .before .before .before .before .before .before .args .axes) (c .before .before .before .entry .result) (c .before .before .before .before .before .before .before .before .before .before .args .g) (is-numbered (c .before .before .before .before .before .before .before .before .before .before .args .groups .now) (c .before .before .before .before .before .loop .i) (c .before .before .before .entry .ensures) (c .before .before .before .before .before .before .before .before .before .before .args .g) (c .before .before .before .before .before .before .before .before .before .before .pre .4) (c .before .before .before .before .loop-test .taken) (c .before .before .if1 .taken)), c .before .before .before .before .before .loop .inv .long, ap length (c .before .before .before .before .before .before .before .before .before .before .pre .0) ∙ length-replicate (c .before .before .before .before .before .before .before .before .before .before .args .g * c .before .before .before .before .before .before .before .before .before .before .args .axes) zero⁺)
+mul-add-quotients c =
+    let entry2 = c .before .before .before .entry in
+    let loop-test = c .before .before .before .before .loop-test in
+    let turn = c .before .before .before .before .before .loop in
+    let args = c .before .before .before .before .before .before .before .before .before .before .args in
+    let pre = c .before .before .before .before .before .before .before .before .before .before .pre in
+    omega (arith, row-end (args .axes) (turn .i) (length (args .groups .now)) (loop-test .taken), row-end (args .axes) (entry2 .result) (args .g) (is-numbered (args .groups .now) (turn .i) (entry2 .ensures) (args .g) (pre .4) (loop-test .taken) (c .before .before .if1 .taken)), turn .inv .long, ap length (pre .0) ∙ length-replicate (args .g * args .axes) zero⁺)
 
 mul-add-quotients-2 : tie.Need-mul-add-quotients-2 Inv-loop μ-loop
-mul-add-quotients-2 c = omega (arith, row-end (c .before .before .before .before .before .before .before .before .before .before .args .axes) (c .before .before .before .before .before .loop .i) (length (c .before .before .before .before .before .before .before .before .before .before .args .groups .now)) (c .before .before .before .before .loop-test .taken), row-end (c .before .before .before .before .before .before .before .before .before .before .args .axes) (c .before .before .before .entry .result) (c .before .before .before .before .before .before .before .before .before .before .args .g) (is-numbered (c .before .before .before .before .before .before .before .before .before .before .args .groups .now) (c .before .before .before .before .before .loop .i) (c .before .before .before .entry .ensures) (c .before .before .before .before .before .before .before .before .before .before .args .g) (c .before .before .before .before .before .before .before .before .before .before .pre .4) (c .before .before .before .before .loop-test .taken) (c .before .before .if1 .taken)), c .before .before .before .before .before .loop .inv .long, ap length (c .before .before .before .before .before .before .before .before .before .before .pre .0) ∙ length-replicate (c .before .before .before .before .before .before .before .before .before .before .args .g * c .before .before .before .before .before .before .before .before .before .before .args .axes) zero⁺)
+mul-add-quotients-2 c =
+    let entry2 = c .before .before .before .entry in
+    let loop-test = c .before .before .before .before .loop-test in
+    let turn = c .before .before .before .before .before .loop in
+    let args = c .before .before .before .before .before .before .before .before .before .before .args in
+    let pre = c .before .before .before .before .before .before .before .before .before .before .pre in
+    omega (arith, row-end (args .axes) (turn .i) (length (args .groups .now)) (loop-test .taken), row-end (args .axes) (entry2 .result) (args .g) (is-numbered (args .groups .now) (turn .i) (entry2 .ensures) (args .g) (pre .4) (loop-test .taken) (c .before .before .if1 .taken)), turn .inv .long, ap length (pre .0) ∙ length-replicate (args .g * args .axes) zero⁺)
 
 add-add-quotients : tie.Need-add-add-quotients Inv-loop μ-loop
-add-add-quotients c = omega (arith, row-end (c .before .before .before .before .before .before .before .before .before .before .args .axes) (c .before .before .before .before .before .loop .i) (length (c .before .before .before .before .before .before .before .before .before .before .args .groups .now)) (c .before .before .before .before .loop-test .taken), row-end (c .before .before .before .before .before .before .before .before .before .before .args .axes) (c .before .before .before .entry .result) (c .before .before .before .before .before .before .before .before .before .before .args .g) (is-numbered (c .before .before .before .before .before .before .before .before .before .before .args .groups .now) (c .before .before .before .before .before .loop .i) (c .before .before .before .entry .ensures) (c .before .before .before .before .before .before .before .before .before .before .args .g) (c .before .before .before .before .before .before .before .before .before .before .pre .4) (c .before .before .before .before .loop-test .taken) (c .before .before .if1 .taken)), c .before .before .before .before .before .loop .inv .long, ap length (c .before .before .before .before .before .before .before .before .before .before .pre .0) ∙ length-replicate (c .before .before .before .before .before .before .before .before .before .before .args .g * c .before .before .before .before .before .before .before .before .before .before .args .axes) zero⁺)
+add-add-quotients c =
+    let entry2 = c .before .before .before .entry in
+    let loop-test = c .before .before .before .before .loop-test in
+    let turn = c .before .before .before .before .before .loop in
+    let args = c .before .before .before .before .before .before .before .before .before .before .args in
+    let pre = c .before .before .before .before .before .before .before .before .before .before .pre in
+    omega (arith, row-end (args .axes) (turn .i) (length (args .groups .now)) (loop-test .taken), row-end (args .axes) (entry2 .result) (args .g) (is-numbered (args .groups .now) (turn .i) (entry2 .ensures) (args .g) (pre .4) (loop-test .taken) (c .before .before .if1 .taken)), turn .inv .long, ap length (pre .0) ∙ length-replicate (args .g * args .axes) zero⁺)
 
 mul-add-quotients-3 : tie.Need-mul-add-quotients-3 Inv-loop μ-loop
-mul-add-quotients-3 c = omega (arith, row-end (c .before .before .before .before .before .before .before .before .before .before .args .axes) (c .before .before .before .before .before .loop .i) (length (c .before .before .before .before .before .before .before .before .before .before .args .groups .now)) (c .before .before .before .before .loop-test .taken), row-end (c .before .before .before .before .before .before .before .before .before .before .args .axes) (c .before .before .before .entry .result) (c .before .before .before .before .before .before .before .before .before .before .args .g) (is-numbered (c .before .before .before .before .before .before .before .before .before .before .args .groups .now) (c .before .before .before .before .before .loop .i) (c .before .before .before .entry .ensures) (c .before .before .before .before .before .before .before .before .before .before .args .g) (c .before .before .before .before .before .before .before .before .before .before .pre .4) (c .before .before .before .before .loop-test .taken) (c .before .before .if1 .taken)), c .before .before .before .before .before .loop .inv .long, ap length (c .before .before .before .before .before .before .before .before .before .before .pre .0) ∙ length-replicate (c .before .before .before .before .before .before .before .before .before .before .args .g * c .before .before .before .before .before .before .before .before .before .before .args .axes) zero⁺)
+mul-add-quotients-3 c =
+    let entry2 = c .before .before .before .entry in
+    let loop-test = c .before .before .before .before .loop-test in
+    let turn = c .before .before .before .before .before .loop in
+    let args = c .before .before .before .before .before .before .before .before .before .before .args in
+    let pre = c .before .before .before .before .before .before .before .before .before .before .pre in
+    omega (arith, row-end (args .axes) (turn .i) (length (args .groups .now)) (loop-test .taken), row-end (args .axes) (entry2 .result) (args .g) (is-numbered (args .groups .now) (turn .i) (entry2 .ensures) (args .g) (pre .4) (loop-test .taken) (c .before .before .if1 .taken)), turn .inv .long, ap length (pre .0) ∙ length-replicate (args .g * args .axes) zero⁺)
 
 sub-add-quotients : tie.Need-sub-add-quotients Inv-loop μ-loop
-sub-add-quotients c = omega (arith, row-end (c .before .before .before .before .before .before .before .before .before .before .args .axes) (c .before .before .before .before .before .loop .i) (length (c .before .before .before .before .before .before .before .before .before .before .args .groups .now)) (c .before .before .before .before .loop-test .taken), row-end (c .before .before .before .before .before .before .before .before .before .before .args .axes) (c .before .before .before .entry .result) (c .before .before .before .before .before .before .before .before .before .before .args .g) (is-numbered (c .before .before .before .before .before .before .before .before .before .before .args .groups .now) (c .before .before .before .before .before .loop .i) (c .before .before .before .entry .ensures) (c .before .before .before .before .before .before .before .before .before .before .args .g) (c .before .before .before .before .before .before .before .before .before .before .pre .4) (c .before .before .before .before .loop-test .taken) (c .before .before .if1 .taken)), c .before .before .before .before .before .loop .inv .long, ap length (c .before .before .before .before .before .before .before .before .before .before .pre .0) ∙ length-replicate (c .before .before .before .before .before .before .before .before .before .before .args .g * c .before .before .before .before .before .before .before .before .before .before .args .axes) zero⁺)
+sub-add-quotients c =
+    let entry2 = c .before .before .before .entry in
+    let loop-test = c .before .before .before .before .loop-test in
+    let turn = c .before .before .before .before .before .loop in
+    let args = c .before .before .before .before .before .before .before .before .before .before .args in
+    let pre = c .before .before .before .before .before .before .before .before .before .before .pre in
+    omega (arith, row-end (args .axes) (turn .i) (length (args .groups .now)) (loop-test .taken), row-end (args .axes) (entry2 .result) (args .g) (is-numbered (args .groups .now) (turn .i) (entry2 .ensures) (args .g) (pre .4) (loop-test .taken) (c .before .before .if1 .taken)), turn .inv .long, ap length (pre .0) ∙ length-replicate (args .g * args .axes) zero⁺)
 
 part-add-quotients-start : tie.Need-part-add-quotients-start Inv-loop μ-loop
-part-add-quotients-start c = omega (arith, row-end (c .before .before .before .before .before .before .before .before .before .before .args .axes) (c .before .before .before .before .before .loop .i) (length (c .before .before .before .before .before .before .before .before .before .before .args .groups .now)) (c .before .before .before .before .loop-test .taken), row-end (c .before .before .before .before .before .before .before .before .before .before .args .axes) (c .before .before .before .entry .result) (c .before .before .before .before .before .before .before .before .before .before .args .g) (is-numbered (c .before .before .before .before .before .before .before .before .before .before .args .groups .now) (c .before .before .before .before .before .loop .i) (c .before .before .before .entry .ensures) (c .before .before .before .before .before .before .before .before .before .before .args .g) (c .before .before .before .before .before .before .before .before .before .before .pre .4) (c .before .before .before .before .loop-test .taken) (c .before .before .if1 .taken)), c .before .before .before .before .before .loop .inv .long, ap length (c .before .before .before .before .before .before .before .before .before .before .pre .0) ∙ length-replicate (c .before .before .before .before .before .before .before .before .before .before .args .g * c .before .before .before .before .before .before .before .before .before .before .args .axes) zero⁺)
+part-add-quotients-start c =
+    let entry2 = c .before .before .before .entry in
+    let loop-test = c .before .before .before .before .loop-test in
+    let turn = c .before .before .before .before .before .loop in
+    let args = c .before .before .before .before .before .before .before .before .before .before .args in
+    let pre = c .before .before .before .before .before .before .before .before .before .before .pre in
+    omega (arith, row-end (args .axes) (turn .i) (length (args .groups .now)) (loop-test .taken), row-end (args .axes) (entry2 .result) (args .g) (is-numbered (args .groups .now) (turn .i) (entry2 .ensures) (args .g) (pre .4) (loop-test .taken) (c .before .before .if1 .taken)), turn .inv .long, ap length (pre .0) ∙ length-replicate (args .g * args .axes) zero⁺)
 
 part-add-quotients-end : tie.Need-part-add-quotients-end Inv-loop μ-loop
-part-add-quotients-end c = omega (arith, row-end (c .before .before .before .before .before .before .before .before .before .before .args .axes) (c .before .before .before .before .before .loop .i) (length (c .before .before .before .before .before .before .before .before .before .before .args .groups .now)) (c .before .before .before .before .loop-test .taken), row-end (c .before .before .before .before .before .before .before .before .before .before .args .axes) (c .before .before .before .entry .result) (c .before .before .before .before .before .before .before .before .before .before .args .g) (is-numbered (c .before .before .before .before .before .before .before .before .before .before .args .groups .now) (c .before .before .before .before .before .loop .i) (c .before .before .before .entry .ensures) (c .before .before .before .before .before .before .before .before .before .before .args .g) (c .before .before .before .before .before .before .before .before .before .before .pre .4) (c .before .before .before .before .loop-test .taken) (c .before .before .if1 .taken)), c .before .before .before .before .before .loop .inv .long, ap length (c .before .before .before .before .before .before .before .before .before .before .pre .0) ∙ length-replicate (c .before .before .before .before .before .before .before .before .before .before .args .g * c .before .before .before .before .before .before .before .before .before .before .args .axes) zero⁺)
+part-add-quotients-end c =
+    let entry2 = c .before .before .before .entry in
+    let loop-test = c .before .before .before .before .loop-test in
+    let turn = c .before .before .before .before .before .loop in
+    let args = c .before .before .before .before .before .before .before .before .before .before .args in
+    let pre = c .before .before .before .before .before .before .before .before .before .before .pre in
+    omega (arith, row-end (args .axes) (turn .i) (length (args .groups .now)) (loop-test .taken), row-end (args .axes) (entry2 .result) (args .g) (is-numbered (args .groups .now) (turn .i) (entry2 .ensures) (args .g) (pre .4) (loop-test .taken) (c .before .before .if1 .taken)), turn .inv .long, ap length (pre .0) ∙ length-replicate (args .g * args .axes) zero⁺)
 
 mul-add-quotients-4 : tie.Need-mul-add-quotients-4 Inv-loop μ-loop
-mul-add-quotients-4 c = omega (arith, row-end (c .before .before .before .before .before .before .before .before .before .before .before .args .axes) (c .before .before .before .before .before .before .loop .i) (length (c .before .before .before .before .before .before .before .before .before .before .before .args .groups .now)) (c .before .before .before .before .before .loop-test .taken), row-end (c .before .before .before .before .before .before .before .before .before .before .before .args .axes) (c .before .before .before .before .entry .result) (c .before .before .before .before .before .before .before .before .before .before .before .args .g) (is-numbered (c .before .before .before .before .before .before .before .before .before .before .before .args .groups .now) (c .before .before .before .before .before .before .loop .i) (c .before .before .before .before .entry .ensures) (c .before .before .before .before .before .before .before .before .before .before .before .args .g) (c .before .before .before .before .before .before .before .before .before .before .before .pre .4) (c .before .before .before .before .before .loop-test .taken) (c .before .before .before .if1 .taken)), c .before .before .before .before .before .before .loop .inv .long, ap length (c .before .before .before .before .before .before .before .before .before .before .before .pre .0) ∙ length-replicate (c .before .before .before .before .before .before .before .before .before .before .before .args .g * c .before .before .before .before .before .before .before .before .before .before .before .args .axes) zero⁺)
+mul-add-quotients-4 c =
+    let entry2 = c .before .before .before .before .entry in
+    let loop-test = c .before .before .before .before .before .loop-test in
+    let turn = c .before .before .before .before .before .before .loop in
+    let args = c .before .before .before .before .before .before .before .before .before .before .before .args in
+    let pre = c .before .before .before .before .before .before .before .before .before .before .before .pre in
+    omega (arith, row-end (args .axes) (turn .i) (length (args .groups .now)) (loop-test .taken), row-end (args .axes) (entry2 .result) (args .g) (is-numbered (args .groups .now) (turn .i) (entry2 .ensures) (args .g) (pre .4) (loop-test .taken) (c .before .before .before .if1 .taken)), turn .inv .long, ap length (pre .0) ∙ length-replicate (args .g * args .axes) zero⁺)
 
 mul-add-quotients-5 : tie.Need-mul-add-quotients-5 Inv-loop μ-loop
-mul-add-quotients-5 c = omega (arith, row-end (c .before .before .before .before .before .before .before .before .before .before .before .args .axes) (c .before .before .before .before .before .before .loop .i) (length (c .before .before .before .before .before .before .before .before .before .before .before .args .groups .now)) (c .before .before .before .before .before .loop-test .taken), row-end (c .before .before .before .before .before .before .before .before .before .before .before .args .axes) (c .before .before .before .before .entry .result) (c .before .before .before .before .before .before .before .before .before .before .before .args .g) (is-numbered (c .before .before .before .before .before .before .before .before .before .before .before .args .groups .now) (c .before .before .before .before .before .before .loop .i) (c .before .before .before .before .entry .ensures) (c .before .before .before .before .before .before .before .before .before .before .before .args .g) (c .before .before .before .before .before .before .before .before .before .before .before .pre .4) (c .before .before .before .before .before .loop-test .taken) (c .before .before .before .if1 .taken)), c .before .before .before .before .before .before .loop .inv .long, ap length (c .before .before .before .before .before .before .before .before .before .before .before .pre .0) ∙ length-replicate (c .before .before .before .before .before .before .before .before .before .before .before .args .g * c .before .before .before .before .before .before .before .before .before .before .before .args .axes) zero⁺)
+mul-add-quotients-5 c =
+    let entry2 = c .before .before .before .before .entry in
+    let loop-test = c .before .before .before .before .before .loop-test in
+    let turn = c .before .before .before .before .before .before .loop in
+    let args = c .before .before .before .before .before .before .before .before .before .before .before .args in
+    let pre = c .before .before .before .before .before .before .before .before .before .before .before .pre in
+    omega (arith, row-end (args .axes) (turn .i) (length (args .groups .now)) (loop-test .taken), row-end (args .axes) (entry2 .result) (args .g) (is-numbered (args .groups .now) (turn .i) (entry2 .ensures) (args .g) (pre .4) (loop-test .taken) (c .before .before .before .if1 .taken)), turn .inv .long, ap length (pre .0) ∙ length-replicate (args .g * args .axes) zero⁺)
 
 add-add-quotients-2 : tie.Need-add-add-quotients-2 Inv-loop μ-loop
-add-add-quotients-2 c = omega (arith, row-end (c .before .before .before .before .before .before .before .before .before .before .before .args .axes) (c .before .before .before .before .before .before .loop .i) (length (c .before .before .before .before .before .before .before .before .before .before .before .args .groups .now)) (c .before .before .before .before .before .loop-test .taken), row-end (c .before .before .before .before .before .before .before .before .before .before .before .args .axes) (c .before .before .before .before .entry .result) (c .before .before .before .before .before .before .before .before .before .before .before .args .g) (is-numbered (c .before .before .before .before .before .before .before .before .before .before .before .args .groups .now) (c .before .before .before .before .before .before .loop .i) (c .before .before .before .before .entry .ensures) (c .before .before .before .before .before .before .before .before .before .before .before .args .g) (c .before .before .before .before .before .before .before .before .before .before .before .pre .4) (c .before .before .before .before .before .loop-test .taken) (c .before .before .before .if1 .taken)), c .before .before .before .before .before .before .loop .inv .long, ap length (c .before .before .before .before .before .before .before .before .before .before .before .pre .0) ∙ length-replicate (c .before .before .before .before .before .before .before .before .before .before .before .args .g * c .before .before .before .before .before .before .before .before .before .before .before .args .axes) zero⁺)
+add-add-quotients-2 c =
+    let entry2 = c .before .before .before .before .entry in
+    let loop-test = c .before .before .before .before .before .loop-test in
+    let turn = c .before .before .before .before .before .before .loop in
+    let args = c .before .before .before .before .before .before .before .before .before .before .before .args in
+    let pre = c .before .before .before .before .before .before .before .before .before .before .before .pre in
+    omega (arith, row-end (args .axes) (turn .i) (length (args .groups .now)) (loop-test .taken), row-end (args .axes) (entry2 .result) (args .g) (is-numbered (args .groups .now) (turn .i) (entry2 .ensures) (args .g) (pre .4) (loop-test .taken) (c .before .before .before .if1 .taken)), turn .inv .long, ap length (pre .0) ∙ length-replicate (args .g * args .axes) zero⁺)
 
 mul-add-quotients-6 : tie.Need-mul-add-quotients-6 Inv-loop μ-loop
-mul-add-quotients-6 c = omega (arith, row-end (c .before .before .before .before .before .before .before .before .before .before .before .args .axes) (c .before .before .before .before .before .before .loop .i) (length (c .before .before .before .before .before .before .before .before .before .before .before .args .groups .now)) (c .before .before .before .before .before .loop-test .taken), row-end (c .before .before .before .before .before .before .before .before .before .before .before .args .axes) (c .before .before .before .before .entry .result) (c .before .before .before .before .before .before .before .before .before .before .before .args .g) (is-numbered (c .before .before .before .before .before .before .before .before .before .before .before .args .groups .now) (c .before .before .before .before .before .before .loop .i) (c .before .before .before .before .entry .ensures) (c .before .before .before .before .before .before .before .before .before .before .before .args .g) (c .before .before .before .before .before .before .before .before .before .before .before .pre .4) (c .before .before .before .before .before .loop-test .taken) (c .before .before .before .if1 .taken)), c .before .before .before .before .before .before .loop .inv .long, ap length (c .before .before .before .before .before .before .before .before .before .before .before .pre .0) ∙ length-replicate (c .before .before .before .before .before .before .before .before .before .before .before .args .g * c .before .before .before .before .before .before .before .before .before .before .before .args .axes) zero⁺)
+mul-add-quotients-6 c =
+    let entry2 = c .before .before .before .before .entry in
+    let loop-test = c .before .before .before .before .before .loop-test in
+    let turn = c .before .before .before .before .before .before .loop in
+    let args = c .before .before .before .before .before .before .before .before .before .before .before .args in
+    let pre = c .before .before .before .before .before .before .before .before .before .before .before .pre in
+    omega (arith, row-end (args .axes) (turn .i) (length (args .groups .now)) (loop-test .taken), row-end (args .axes) (entry2 .result) (args .g) (is-numbered (args .groups .now) (turn .i) (entry2 .ensures) (args .g) (pre .4) (loop-test .taken) (c .before .before .before .if1 .taken)), turn .inv .long, ap length (pre .0) ∙ length-replicate (args .g * args .axes) zero⁺)
 
 sub-add-quotients-2 : tie.Need-sub-add-quotients-2 Inv-loop μ-loop
-sub-add-quotients-2 c = omega (arith, row-end (c .before .before .before .before .before .before .before .before .before .before .before .args .axes) (c .before .before .before .before .before .before .loop .i) (length (c .before .before .before .before .before .before .before .before .before .before .before .args .groups .now)) (c .before .before .before .before .before .loop-test .taken), row-end (c .before .before .before .before .before .before .before .before .before .before .before .args .axes) (c .before .before .before .before .entry .result) (c .before .before .before .before .before .before .before .before .before .before .before .args .g) (is-numbered (c .before .before .before .before .before .before .before .before .before .before .before .args .groups .now) (c .before .before .before .before .before .before .loop .i) (c .before .before .before .before .entry .ensures) (c .before .before .before .before .before .before .before .before .before .before .before .args .g) (c .before .before .before .before .before .before .before .before .before .before .before .pre .4) (c .before .before .before .before .before .loop-test .taken) (c .before .before .before .if1 .taken)), c .before .before .before .before .before .before .loop .inv .long, ap length (c .before .before .before .before .before .before .before .before .before .before .before .pre .0) ∙ length-replicate (c .before .before .before .before .before .before .before .before .before .before .before .args .g * c .before .before .before .before .before .before .before .before .before .before .before .args .axes) zero⁺)
+sub-add-quotients-2 c =
+    let entry2 = c .before .before .before .before .entry in
+    let loop-test = c .before .before .before .before .before .loop-test in
+    let turn = c .before .before .before .before .before .before .loop in
+    let args = c .before .before .before .before .before .before .before .before .before .before .before .args in
+    let pre = c .before .before .before .before .before .before .before .before .before .before .before .pre in
+    omega (arith, row-end (args .axes) (turn .i) (length (args .groups .now)) (loop-test .taken), row-end (args .axes) (entry2 .result) (args .g) (is-numbered (args .groups .now) (turn .i) (entry2 .ensures) (args .g) (pre .4) (loop-test .taken) (c .before .before .before .if1 .taken)), turn .inv .long, ap length (pre .0) ∙ length-replicate (args .g * args .axes) zero⁺)
 
 part-add-quotients-start-2 : tie.Need-part-add-quotients-start-2 Inv-loop μ-loop
-part-add-quotients-start-2 c = omega (arith, row-end (c .before .before .before .before .before .before .before .before .before .before .before .args .axes) (c .before .before .before .before .before .before .loop .i) (length (c .before .before .before .before .before .before .before .before .before .before .before .args .groups .now)) (c .before .before .before .before .before .loop-test .taken), row-end (c .before .before .before .before .before .before .before .before .before .before .before .args .axes) (c .before .before .before .before .entry .result) (c .before .before .before .before .before .before .before .before .before .before .before .args .g) (is-numbered (c .before .before .before .before .before .before .before .before .before .before .before .args .groups .now) (c .before .before .before .before .before .before .loop .i) (c .before .before .before .before .entry .ensures) (c .before .before .before .before .before .before .before .before .before .before .before .args .g) (c .before .before .before .before .before .before .before .before .before .before .before .pre .4) (c .before .before .before .before .before .loop-test .taken) (c .before .before .before .if1 .taken)), c .before .before .before .before .before .before .loop .inv .long, ap length (c .before .before .before .before .before .before .before .before .before .before .before .pre .0) ∙ length-replicate (c .before .before .before .before .before .before .before .before .before .before .before .args .g * c .before .before .before .before .before .before .before .before .before .before .before .args .axes) zero⁺)
+part-add-quotients-start-2 c =
+    let entry2 = c .before .before .before .before .entry in
+    let loop-test = c .before .before .before .before .before .loop-test in
+    let turn = c .before .before .before .before .before .before .loop in
+    let args = c .before .before .before .before .before .before .before .before .before .before .before .args in
+    let pre = c .before .before .before .before .before .before .before .before .before .before .before .pre in
+    omega (arith, row-end (args .axes) (turn .i) (length (args .groups .now)) (loop-test .taken), row-end (args .axes) (entry2 .result) (args .g) (is-numbered (args .groups .now) (turn .i) (entry2 .ensures) (args .g) (pre .4) (loop-test .taken) (c .before .before .before .if1 .taken)), turn .inv .long, ap length (pre .0) ∙ length-replicate (args .g * args .axes) zero⁺)
 
 part-add-quotients-end-2 : tie.Need-part-add-quotients-end-2 Inv-loop μ-loop
-part-add-quotients-end-2 c = omega (arith, row-end (c .before .before .before .before .before .before .before .before .before .before .before .args .axes) (c .before .before .before .before .before .before .loop .i) (length (c .before .before .before .before .before .before .before .before .before .before .before .args .groups .now)) (c .before .before .before .before .before .loop-test .taken), row-end (c .before .before .before .before .before .before .before .before .before .before .before .args .axes) (c .before .before .before .before .entry .result) (c .before .before .before .before .before .before .before .before .before .before .before .args .g) (is-numbered (c .before .before .before .before .before .before .before .before .before .before .before .args .groups .now) (c .before .before .before .before .before .before .loop .i) (c .before .before .before .before .entry .ensures) (c .before .before .before .before .before .before .before .before .before .before .before .args .g) (c .before .before .before .before .before .before .before .before .before .before .before .pre .4) (c .before .before .before .before .before .loop-test .taken) (c .before .before .before .if1 .taken)), c .before .before .before .before .before .before .loop .inv .long, ap length (c .before .before .before .before .before .before .before .before .before .before .before .pre .0) ∙ length-replicate (c .before .before .before .before .before .before .before .before .before .before .before .args .g * c .before .before .before .before .before .before .before .before .before .before .before .args .axes) zero⁺)
+part-add-quotients-end-2 c =
+    let entry2 = c .before .before .before .before .entry in
+    let loop-test = c .before .before .before .before .before .loop-test in
+    let turn = c .before .before .before .before .before .before .loop in
+    let args = c .before .before .before .before .before .before .before .before .before .before .before .args in
+    let pre = c .before .before .before .before .before .before .before .before .before .before .before .pre in
+    omega (arith, row-end (args .axes) (turn .i) (length (args .groups .now)) (loop-test .taken), row-end (args .axes) (entry2 .result) (args .g) (is-numbered (args .groups .now) (turn .i) (entry2 .ensures) (args .g) (pre .4) (loop-test .taken) (c .before .before .before .if1 .taken)), turn .inv .long, ap length (pre .0) ∙ length-replicate (args .g * args .axes) zero⁺)
 
 add-quotients-requires : tie.Need-add-quotients-requires Inv-loop μ-loop
-add-quotients-requires c κs = length-part (c .before .before .before .before .before .before .before .before .before .before .before .before .args .axes) (c .before .before .before .before .before .before .before .loop .i) (c .before .before .before .before .before .before .before .before .before .before .before .before .args .scores .now) (omega (arith, row-end (c .before .before .before .before .before .before .before .before .before .before .before .before .args .axes) (c .before .before .before .before .before .before .before .loop .i) (length (c .before .before .before .before .before .before .before .before .before .before .before .before .args .groups .now)) (c .before .before .before .before .before .before .loop-test .taken))) ∙ sym (length-part (c .before .before .before .before .before .before .before .before .before .before .before .before .args .axes) (c .before .before .before .before .before .entry .result) (c .before .before .before .before .before .before .before .loop .cen) (omega (arith, row-end (c .before .before .before .before .before .before .before .before .before .before .before .before .args .axes) (c .before .before .before .before .before .entry .result) (c .before .before .before .before .before .before .before .before .before .before .before .before .args .g) (is-numbered (c .before .before .before .before .before .before .before .before .before .before .before .before .args .groups .now) (c .before .before .before .before .before .before .before .loop .i) (c .before .before .before .before .before .entry .ensures) (c .before .before .before .before .before .before .before .before .before .before .before .before .args .g) (c .before .before .before .before .before .before .before .before .before .before .before .before .pre .4) (c .before .before .before .before .before .before .loop-test .taken) (c .before .before .before .before .if1 .taken)), c .before .before .before .before .before .before .before .loop .inv .long)))
+add-quotients-requires c κs =
+    let entry2 = c .before .before .before .before .before .entry in
+    let loop-test = c .before .before .before .before .before .before .loop-test in
+    let turn = c .before .before .before .before .before .before .before .loop in
+    let args = c .before .before .before .before .before .before .before .before .before .before .before .before .args in
+    let pre = c .before .before .before .before .before .before .before .before .before .before .before .before .pre in
+    length-part (args .axes) (turn .i) (args .scores .now) (omega (arith, row-end (args .axes) (turn .i) (length (args .groups .now)) (loop-test .taken))) ∙ sym (length-part (args .axes) (entry2 .result) (turn .cen) (omega (arith, row-end (args .axes) (entry2 .result) (args .g) (is-numbered (args .groups .now) (turn .i) (entry2 .ensures) (args .g) (pre .4) (loop-test .taken) (c .before .before .before .before .if1 .taken)), turn .inv .long)))
 
 add-i : tie.Need-add-i Inv-loop μ-loop
 add-i c = omega arith
@@ -90,16 +185,24 @@ loop-less c = omega arith
 
 loop-again : tie.Need-loop-again Inv-loop μ-loop
 loop-again c =
+    let loop-test = c .before .before .loop-test in
+    let turn = c .before .before .before .loop in
+    let args = c .before .before .before .before .before .before .before .before .args in
+    let pre = c .before .before .before .before .before .before .before .before .pre in
     ⊎-elim
-    (λ w. centroid-turn (c .before .before .before .before .before .before .before .before .args .axes) (c .before .before .before .before .before .before .before .before .args .g) (c .before .before .before .before .before .before .before .before .args .groups .now) (c .before .before .before .before .before .before .before .before .args .scores .now) (c .before .before .before .before .before .before .before .before .args .counts .now) _ (c .before .before .before .loop .cen) _ (c .before .before .before .loop .inv) (c .before .before .loop-test .taken) (c .before .entry .ensures) (is-numbered (c .before .before .before .before .before .before .before .before .args .groups .now) (c .before .before .before .loop .i) (c .before .entry .ensures) (c .before .before .before .before .before .before .before .before .args .g) (c .before .before .before .before .before .before .before .before .pre .4) (c .before .before .loop-test .taken) (w .0 .taken)) (w .1 .ensures) (w .5 .ensures) (w .8))
-    (λ w. centroid-pass (c .before .before .before .before .before .before .before .before .args .axes) (c .before .before .before .before .before .before .before .before .args .g) (c .before .before .before .before .before .before .before .before .args .groups .now) (c .before .before .before .before .before .before .before .before .args .scores .now) (c .before .before .before .before .before .before .before .before .args .counts .now) _ (c .before .before .before .loop .cen) (c .before .before .before .loop .inv) (c .before .before .loop-test .taken) (c .before .entry .ensures) (omega arith) (w .0 .left) (w .1))
+    (λ w. centroid-turn (args .axes) (args .g) (args .groups .now) (args .scores .now) (args .counts .now) _ (turn .cen) _ (turn .inv) (loop-test .taken) (c .before .entry .ensures) (is-numbered (args .groups .now) (turn .i) (c .before .entry .ensures) (args .g) (pre .4) (loop-test .taken) (w .0 .taken)) (w .1 .ensures) (w .5 .ensures) (w .8))
+    (λ w. centroid-pass (args .axes) (args .g) (args .groups .now) (args .scores .now) (args .counts .now) _ (turn .cen) (turn .inv) (loop-test .taken) (c .before .entry .ensures) (omega arith) (w .0 .left) (w .1))
     (c .if1 .came)
 
 same-length : tie.Need-same-length Inv-loop μ-loop
-same-length c = c .before .loop .inv .long ∙ sym (ap length (c .before .before .before .before .before .before .pre .0) ∙ length-replicate (c .before .before .before .before .before .before .args .g * c .before .before .before .before .before .before .args .axes) zero⁺)
+same-length c =
+    let start = c .before .before .before .before .before .before in
+    c .before .loop .inv .long ∙ sym (ap length (start .pre .0) ∙ length-replicate (start .args .g * start .args .axes) zero⁺)
 
 returns : tie.Need-returns Inv-loop μ-loop
-returns c = centroid-end (c .before .before .before .before .before .before .args .axes) (c .before .before .before .before .before .before .args .g) (c .before .before .before .before .before .before .args .groups .now) (c .before .before .before .before .before .before .args .scores .now) (c .before .before .before .before .before .before .args .counts .now) _ (c .before .loop .inv) (c .loop-test .left) (c .before .before .before .before .before .before .pre .0) (c .before .before .before .before .before .before .pre .2)
+returns c =
+    let start = c .before .before .before .before .before .before in
+    centroid-end (start .args .axes) (start .args .g) (start .args .groups .now) (start .args .scores .now) (start .args .counts .now) _ (c .before .loop .inv) (c .loop-test .left) (start .pre .0) (start .pre .2)
 
 pub fill-centroids-spec : {M : Type 1} → statement M
 fill-centroids-spec =

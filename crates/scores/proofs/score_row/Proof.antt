@@ -25,43 +25,76 @@ loop-holds : tie.Need-loop-holds Inv-loop μ-loop
 loop-holds c = writing-none _ _
 
 mul-dot : tie.Need-mul-dot Inv-loop μ-loop
-mul-dot c = omega (arith, row-end (c .before .before .before .before .before .args .p) (c .before .loop .a) (length (c .before .before .before .before .before .args .row .now)) (c .loop-test .taken), c .before .loop .inv .long)
+mul-dot c =
+    let args = c .before .before .before .before .before .args in
+    omega (arith, row-end (args .p) (c .before .loop .a) (length (args .row .now)) (c .loop-test .taken), c .before .loop .inv .long)
 
 mul-dot-2 : tie.Need-mul-dot-2 Inv-loop μ-loop
-mul-dot-2 c = omega (arith, row-end (c .before .before .before .before .before .args .p) (c .before .loop .a) (length (c .before .before .before .before .before .args .row .now)) (c .loop-test .taken), c .before .loop .inv .long)
+mul-dot-2 c =
+    let args = c .before .before .before .before .before .args in
+    omega (arith, row-end (args .p) (c .before .loop .a) (length (args .row .now)) (c .loop-test .taken), c .before .loop .inv .long)
 
 add-dot : tie.Need-add-dot Inv-loop μ-loop
-add-dot c = omega (arith, row-end (c .before .before .before .before .before .args .p) (c .before .loop .a) (length (c .before .before .before .before .before .args .row .now)) (c .loop-test .taken), c .before .loop .inv .long)
+add-dot c =
+    let args = c .before .before .before .before .before .args in
+    omega (arith, row-end (args .p) (c .before .loop .a) (length (args .row .now)) (c .loop-test .taken), c .before .loop .inv .long)
 
 mul-dot-3 : tie.Need-mul-dot-3 Inv-loop μ-loop
-mul-dot-3 c = omega (arith, row-end (c .before .before .before .before .before .args .p) (c .before .loop .a) (length (c .before .before .before .before .before .args .row .now)) (c .loop-test .taken), c .before .loop .inv .long)
+mul-dot-3 c =
+    let args = c .before .before .before .before .before .args in
+    omega (arith, row-end (args .p) (c .before .loop .a) (length (args .row .now)) (c .loop-test .taken), c .before .loop .inv .long)
 
 sub-dot : tie.Need-sub-dot Inv-loop μ-loop
-sub-dot c = omega (arith, row-end (c .before .before .before .before .before .args .p) (c .before .loop .a) (length (c .before .before .before .before .before .args .row .now)) (c .loop-test .taken), c .before .loop .inv .long)
+sub-dot c =
+    let args = c .before .before .before .before .before .args in
+    omega (arith, row-end (args .p) (c .before .loop .a) (length (args .row .now)) (c .loop-test .taken), c .before .loop .inv .long)
 
 part-dot-start : tie.Need-part-dot-start Inv-loop μ-loop
-part-dot-start c = omega (arith, row-end (c .before .before .before .before .before .args .p) (c .before .loop .a) (length (c .before .before .before .before .before .args .row .now)) (c .loop-test .taken), c .before .loop .inv .long)
+part-dot-start c =
+    let args = c .before .before .before .before .before .args in
+    omega (arith, row-end (args .p) (c .before .loop .a) (length (args .row .now)) (c .loop-test .taken), c .before .loop .inv .long)
 
 part-dot-end : tie.Need-part-dot-end Inv-loop μ-loop
-part-dot-end c = omega (arith, row-end (c .before .before .before .before .before .args .p) (c .before .loop .a) (length (c .before .before .before .before .before .args .row .now)) (c .loop-test .taken), c .before .loop .inv .long)
+part-dot-end c =
+    let args = c .before .before .before .before .before .args in
+    omega (arith, row-end (args .p) (c .before .loop .a) (length (args .row .now)) (c .loop-test .taken), c .before .loop .inv .long)
 
 dot-requires : tie.Need-dot-requires Inv-loop μ-loop
-dot-requires c κs = length-part (c .before .before .before .before .before .before .args .p) (c .before .before .loop .a) (c .before .before .before .before .before .before .args .vs .now) (omega (arith, row-end (c .before .before .before .before .before .before .args .p) (c .before .before .loop .a) (length (c .before .before .before .before .before .before .args .row .now)) (c .before .loop-test .taken))) ∙ sym (c .before .before .before .before .before .before .pre .0)
+dot-requires c κs =
+    let turn = c .before .before .loop in
+    let args = c .before .before .before .before .before .before .args in
+    let pre = c .before .before .before .before .before .before .pre in
+    length-part (args .p) (turn .a) (args .vs .now) (omega (arith, row-end (args .p) (turn .a) (length (args .row .now)) (c .before .loop-test .taken))) ∙ sym (pre .0)
 
 mul-row : tie.Need-mul-row Inv-loop μ-loop
-mul-row c = omega (arith, row-end (c .before .before .before .before .before .before .before .args .p) (c .before .before .before .loop .a) (length (c .before .before .before .before .before .before .before .args .row .now)) (c .before .before .loop-test .taken), c .before .before .before .loop .inv .long)
+mul-row c =
+    let turn = c .before .before .before .loop in
+    let args = c .before .before .before .before .before .before .before .args in
+    omega (arith, row-end (args .p) (turn .a) (length (args .row .now)) (c .before .before .loop-test .taken), turn .inv .long)
 
 slice-write-row : tie.Need-slice-write-row Inv-loop μ-loop
-slice-write-row c = omega (arith, row-end (c .before .before .before .before .before .before .before .args .p) (c .before .before .before .loop .a) (length (c .before .before .before .before .before .before .before .args .row .now)) (c .before .before .loop-test .taken), c .before .before .before .loop .inv .long)
+slice-write-row c =
+    let turn = c .before .before .before .loop in
+    let args = c .before .before .before .before .before .before .before .args in
+    omega (arith, row-end (args .p) (turn .a) (length (args .row .now)) (c .before .before .loop-test .taken), turn .inv .long)
 
 add-a : tie.Need-add-a Inv-loop μ-loop
-add-a c = omega (arith, row-end (c .before .before .before .before .before .before .before .args .p) (c .before .before .before .loop .a) (length (c .before .before .before .before .before .before .before .args .row .now)) (c .before .before .loop-test .taken), c .before .before .before .loop .inv .long)
+add-a c =
+    let turn = c .before .before .before .loop in
+    let args = c .before .before .before .before .before .before .before .args in
+    omega (arith, row-end (args .p) (turn .a) (length (args .row .now)) (c .before .before .loop-test .taken), turn .inv .long)
 
 loop-less : tie.Need-loop-less Inv-loop μ-loop
-loop-less c = omega (arith, row-end (c .before .before .before .before .before .before .before .args .p) (c .before .before .before .loop .a) (length (c .before .before .before .before .before .before .before .args .row .now)) (c .before .before .loop-test .taken), c .before .before .before .loop .inv .long)
+loop-less c =
+    let turn = c .before .before .before .loop in
+    let args = c .before .before .before .before .before .before .before .args in
+    omega (arith, row-end (args .p) (turn .a) (length (args .row .now)) (c .before .before .loop-test .taken), turn .inv .long)
 
 loop-again : tie.Need-loop-again Inv-loop μ-loop
-loop-again c = writing-next _ _ (c .before .before .before .loop .inv) (c .before .before .loop-test .taken) (c .dot .ensures ∙ dot-part (c .before .before .before .before .before .before .before .args .p) (c .before .before .before .before .before .before .before .args .d .now) (c .before .before .before .before .before .before .before .args .vs .now) (c .before .before .before .loop .a) (c .before .before .before .before .before .before .before .pre .0))
+loop-again c =
+    let at-loop = c .before .before .before in
+    let start = at-loop .before .before .before .before in
+    writing-next _ _ (at-loop .loop .inv) (c .before .before .loop-test .taken) (c .dot .ensures ∙ dot-part (start .args .p) (start .args .d .now) (start .args .vs .now) (at-loop .loop .a) (start .pre .0))
 
 same-length : tie.Need-same-length Inv-loop μ-loop
 same-length c = c .before .loop .inv .long

@@ -36,8 +36,13 @@ same-length c = search needs
 
 returns : tie.Need-returns
 returns c =
-    let a = c .before .before .before .before .before .before .before .before .before .before .args in
-    drawn (now (a .stratum)) (now (a .lab)) _ (a .i) (a .state) (c .before .before .before .before .before .before .before .next .ensures) (c .before .before .before .before .before .before .below .ensures) (c .before .before .before .before .before .entry .ensures) (c .before .before .before .before .entry2 .ensures) (c .before .before .swap .ensures)
+    let after-entry2 = c .before .before .before .before in
+    let after-entry = after-entry2 .before in
+    let after-below = after-entry .before in
+    let after-next = after-below .before in
+    let start = after-next .before .before .before in
+    let a = start .args in
+    drawn (now (a .stratum)) (now (a .lab)) _ (a .i) (a .state) (after-next .next .ensures) (after-below .below .ensures) (after-entry .entry .ensures) (after-entry2 .entry2 .ensures) (c .before .before .swap .ensures)
 
 pub swap-drawn-spec : {M : Type 1} → statement M
 swap-drawn-spec =

@@ -19,7 +19,9 @@ abbrev μ-loop : tie.MeasureT-loop
 μ-loop row₀ d n ks w a b₀ b-end row b = length row₀ - b
 
 loop-holds : tie.Need-loop-holds Inv-loop μ-loop
-loop-holds c = writing-none (pullAt (c .before .before .before .before .args .d .now) (c .before .before .before .before .args .n) (c .before .before .before .before .args .ks .now) (c .before .before .before .before .args .w .now) (c .before .before .before .before .args .a)) (c .before .before .before .before .args .row .now)
+loop-holds c =
+    let start = c .before .before .before .before in
+    writing-none (pullAt (start .args .d .now) (start .args .n) (start .args .ks .now) (start .args .w .now) (start .args .a)) (start .args .row .now)
 
 mul-row : tie.Need-mul-row Inv-loop μ-loop
 mul-row c = omega arith
@@ -28,7 +30,9 @@ shared-slice-read-row : tie.Need-shared-slice-read-row Inv-loop μ-loop
 shared-slice-read-row c = omega arith
 
 square-requires : tie.Need-square-requires Inv-loop μ-loop
-square-requires c κs = (c .before .before .before .before .before .before .before .pre .2, c .before .before .before .before .before .before .before .pre .3, c .before .before .before .before .before .before .before .pre .4, omega arith)
+square-requires c κs =
+    let pre = c .before .before .before .before .before .before .before .pre in
+    (pre .2, pre .3, pre .4, omega arith)
 
 mul-row-2 : tie.Need-mul-row-2 Inv-loop μ-loop
 mul-row-2 c = omega (arith, c .before .before .before .loop .inv .long)
@@ -44,13 +48,18 @@ loop-less c = omega arith
 
 loop-again : tie.Need-loop-again Inv-loop μ-loop
 unfolding pullAt
-loop-again c = writing-next (pullAt (c .before .before .before .before .before .before .before .before .args .d .now) (c .before .before .before .before .before .before .before .before .args .n) (c .before .before .before .before .before .before .before .before .args .ks .now) (c .before .before .before .before .before .before .before .before .args .w .now) (c .before .before .before .before .before .before .before .before .args .a)) _ (c .before .before .before .loop .inv) (omega arith) (ap (λ (y : Float). getD (c .before .before .before .before .before .before .before .before .args .w .now) (c .before .before .before .loop .b) nan ⊗ y) (c .square .ensures))
+loop-again c =
+    let turn = c .before .before .before .loop in
+    let args = c .before .before .before .before .before .before .before .before .args in
+    writing-next (pullAt (args .d .now) (args .n) (args .ks .now) (args .w .now) (args .a)) _ (turn .inv) (omega arith) (ap (λ (y : Float). getD (args .w .now) (turn .b) nan ⊗ y) (c .square .ensures))
 
 same-length : tie.Need-same-length Inv-loop μ-loop
 same-length c = c .before .loop .inv .long
 
 returns : tie.Need-returns Inv-loop μ-loop
-returns c = writing-all (pullAt (c .before .before .before .before .before .before .args .d .now) (c .before .before .before .before .before .before .args .n) (c .before .before .before .before .before .before .args .ks .now) (c .before .before .before .before .before .before .args .w .now) (c .before .before .before .before .before .before .args .a)) (c .before .before .before .before .before .before .args .row .now) (c .before .loop .inv) (omega arith)
+returns c =
+    let args = c .before .before .before .before .before .before .args in
+    writing-all (pullAt (args .d .now) (args .n) (args .ks .now) (args .w .now) (args .a)) (args .row .now) (c .before .loop .inv) (omega arith)
 
 pub fill-pull-row-spec : {M : Type 1} → statement M
 fill-pull-row-spec =

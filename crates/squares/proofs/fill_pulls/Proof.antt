@@ -24,7 +24,9 @@ within : (c : tie.In-loop Inv-loop μ-loop) → c .before .loop .a * c .before .
 within c = omega (arith, row-end (c .before .before .before .before .before .before .args .m) _ _ (c .loop-test .taken), c .before .loop .inv .long)
 
 loop-holds : tie.Need-loop-holds Inv-loop μ-loop
-loop-holds c = filling-none (c .before .before .before .before .args .m) (c .before .before .before .before .args .m) (λ i. table (c .before .before .before .before .args .m) (pullAt (c .before .before .before .before .args .d .now) (c .before .before .before .before .args .n) (c .before .before .before .before .args .ks .now) (c .before .before .before .before .args .w .now) i)) (λ i. length-table (pullAt (c .before .before .before .before .args .d .now) (c .before .before .before .before .args .n) (c .before .before .before .before .args .ks .now) (c .before .before .before .before .args .w .now) i) (c .before .before .before .before .args .m)) (c .before .before .before .before .args .p .now) (c .before .before .before .before .pre .0)
+loop-holds c =
+    let start = c .before .before .before .before in
+    filling-none (start .args .m) (start .args .m) (λ i. table (start .args .m) (pullAt (start .args .d .now) (start .args .n) (start .args .ks .now) (start .args .w .now) i)) (λ i. length-table (pullAt (start .args .d .now) (start .args .n) (start .args .ks .now) (start .args .w .now) i) (start .args .m)) (start .args .p .now) (start .pre .0)
 
 mul-fill-pull-row : tie.Need-mul-fill-pull-row Inv-loop μ-loop
 mul-fill-pull-row c = omega (arith, within c)
@@ -48,7 +50,11 @@ part-fill-pull-row-end : tie.Need-part-fill-pull-row-end Inv-loop μ-loop
 part-fill-pull-row-end c = omega (arith, within c)
 
 fill-pull-row-requires : tie.Need-fill-pull-row-requires Inv-loop μ-loop
-fill-pull-row-requires c κs = let len = length-part (c .before .before .before .before .before .before .before .args .m) (c .before .before .loop .a) (c .before .before .loop .p) (within (c .before)) in (omega arith, omega arith, c .before .before .before .before .before .before .before .pre .3, c .before .before .before .before .before .before .before .pre .4, omega arith)
+fill-pull-row-requires c κs =
+    let turn = c .before .before .loop in
+    let args = c .before .before .before .before .before .before .before .args in
+    let pre = c .before .before .before .before .before .before .before .pre in
+    let len = length-part (args .m) (turn .a) (turn .p) (within (c .before)) in (omega arith, omega arith, pre .3, pre .4, omega arith)
 
 add-a : tie.Need-add-a Inv-loop μ-loop
 add-a c = omega arith
@@ -58,16 +64,22 @@ loop-less c = omega arith
 
 loop-again : tie.Need-loop-again Inv-loop μ-loop
 loop-again c =
-    let len = length-part (c .before .before .before .before .before .before .before .before .before .before .args .m) (c .before .before .before .before .before .loop .a) (c .before .before .before .before .before .loop .p) (within (c .before .before .before .before)) in
-    filling-next (c .before .before .before .before .before .before .before .before .before .before .args .m) (c .before .before .before .before .before .before .before .before .before .before .args .m) (λ i. table (c .before .before .before .before .before .before .before .before .before .before .args .m) (pullAt (c .before .before .before .before .before .before .before .before .before .before .args .d .now) (c .before .before .before .before .before .before .before .before .before .before .args .n) (c .before .before .before .before .before .before .before .before .before .before .args .ks .now) (c .before .before .before .before .before .before .before .before .before .before .args .w .now) i)) (λ i. length-table (pullAt (c .before .before .before .before .before .before .before .before .before .before .args .d .now) (c .before .before .before .before .before .before .before .before .before .before .args .n) (c .before .before .before .before .before .before .before .before .before .before .args .ks .now) (c .before .before .before .before .before .before .before .before .before .before .args .w .now) i) (c .before .before .before .before .before .before .before .before .before .before .args .m)) (c .before .before .before .before .before .before .before .before .before .before .args .p .now) (c .before .before .before .before .before .before .before .before .before .before .pre .0) (c .before .before .before .before .before .loop .inv) (omega arith)
-    (c .before .before .fill-pull-row .ensures ∙ ap (λ (k : ℕ). table k (pullAt (c .before .before .before .before .before .before .before .before .before .before .args .d .now) (c .before .before .before .before .before .before .before .before .before .before .args .n) (c .before .before .before .before .before .before .before .before .before .before .args .ks .now) (c .before .before .before .before .before .before .before .before .before .before .args .w .now) (c .before .before .before .before .before .loop .a))) len)
+    let turn = c .before .before .before .before .before .loop in
+    let args = c .before .before .before .before .before .before .before .before .before .before .args in
+    let pre = c .before .before .before .before .before .before .before .before .before .before .pre in
+    let len = length-part (args .m) (turn .a) (turn .p) (within (c .before .before .before .before)) in
+    filling-next (args .m) (args .m) (λ i. table (args .m) (pullAt (args .d .now) (args .n) (args .ks .now) (args .w .now) i)) (λ i. length-table (pullAt (args .d .now) (args .n) (args .ks .now) (args .w .now) i) (args .m)) (args .p .now) (pre .0) (turn .inv) (omega arith)
+    (c .before .before .fill-pull-row .ensures ∙ ap (λ (k : ℕ). table k (pullAt (args .d .now) (args .n) (args .ks .now) (args .w .now) (turn .a))) len)
 
 same-length : tie.Need-same-length Inv-loop μ-loop
 same-length c = c .before .loop .inv .long
 
 returns : tie.Need-returns Inv-loop μ-loop
 unfolding pulls grid
-returns c = filling-all (c .before .before .before .before .before .before .args .m) (c .before .before .before .before .before .before .args .m) (λ i. table (c .before .before .before .before .before .before .args .m) (pullAt (c .before .before .before .before .before .before .args .d .now) (c .before .before .before .before .before .before .args .n) (c .before .before .before .before .before .before .args .ks .now) (c .before .before .before .before .before .before .args .w .now) i)) (λ i. length-table (pullAt (c .before .before .before .before .before .before .args .d .now) (c .before .before .before .before .before .before .args .n) (c .before .before .before .before .before .before .args .ks .now) (c .before .before .before .before .before .before .args .w .now) i) (c .before .before .before .before .before .before .args .m)) (c .before .before .before .before .before .before .args .p .now) (c .before .before .before .before .before .before .pre .0) (c .before .loop .inv) (omega arith)
+returns c =
+    let args = c .before .before .before .before .before .before .args in
+    let pre = c .before .before .before .before .before .before .pre in
+    filling-all (args .m) (args .m) (λ i. table (args .m) (pullAt (args .d .now) (args .n) (args .ks .now) (args .w .now) i)) (λ i. length-table (pullAt (args .d .now) (args .n) (args .ks .now) (args .w .now) i) (args .m)) (args .p .now) (pre .0) (c .before .loop .inv) (omega arith)
 
 pub fill-pulls-spec : {M : Type 1} → statement M
 fill-pulls-spec =

@@ -46,7 +46,10 @@ same-length : tie.Need-same-length Inv-loop μ-loop
 same-length c = c .before .loop .inv .long
 
 returns : tie.Need-returns Inv-loop μ-loop
-returns c = writing-table (λ k. weightAt _ _ (getD (c .before .before .before .before .before .args .ks .now) k 0)) (c .before .before .before .before .before .args .w .now) (c .before .loop .inv) (c .before .before .before .before .before .pre .0) (omega arith) ∙ sym (map-table (weightAt _ _) (c .before .before .before .before .before .args .ks .now) 0)
+returns c =
+    let args = c .before .before .before .before .before .args in
+    let pre = c .before .before .before .before .before .pre in
+    writing-table (λ k. weightAt _ _ (getD (args .ks .now) k 0)) (args .w .now) (c .before .loop .inv) (pre .0) (omega arith) ∙ sym (map-table (weightAt _ _) (args .ks .now) 0)
 
 pub fill-weights-spec : {M : Type 1} → statement M
 fill-weights-spec =

@@ -16,7 +16,10 @@ entry-requires-2 : tie.Need-entry-requires-2
 entry-requires-2 c κs = search needs
 
 term-requires : tie.Need-term-requires
-term-requires c κs = (c .before .before .before .before .pre .0, omega (arith, c .before .entry .ensures, c .before .before .before .before .pre .1 (c .before .before .before .before .args .a) (omega arith)), omega (arith, c .entry2 .ensures, c .before .before .before .before .pre .1 (c .before .before .before .before .args .b) (omega arith)))
+term-requires c κs =
+    let args = c .before .before .before .before .args in
+    let pre = c .before .before .before .before .pre in
+    (pre .0, omega (arith, c .before .entry .ensures, pre .1 (args .a) (omega arith)), omega (arith, c .entry2 .ensures, pre .1 (args .b) (omega arith)))
 
 returns : tie.Need-returns
 unfolding squareAt

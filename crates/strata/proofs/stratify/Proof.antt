@@ -35,9 +35,12 @@ same-length c = search needs
 
 returns : tie.Need-returns
 returns c =
+    let after-number = c .before .before in
+    let after-gather = after-number .before .before .before .before in
+    let at-if1 = after-gather .before .before in
     let start = c .before .before .before .before .before .before .before .before .before .before .before .before in
-    stratified-numbered (start .args .given .now) (start .args .ks .now) (start .args .out .now) (c .before .before .before .before .before .before .before .before .if1 .taken)
-    (c .before .before .before .before .before .before .gather .ensures) (c .before .before .number .ensures .0) (c .before .before .number .ensures .1)
+    stratified-numbered (start .args .given .now) (start .args .ks .now) (start .args .out .now) (at-if1 .if1 .taken)
+    (after-gather .gather .ensures) (after-number .number .ensures .0) (after-number .number .ensures .1)
 
 slice-relend-prefix-clear-u16 : tie.Need-slice-relend-prefix-clear-u16
 slice-relend-prefix-clear-u16 c = search needs

@@ -24,7 +24,9 @@ loop-holds c = (omega arith, refl, refl, refl, refl, inTurn-none _ _)
 
 sweep-row-requires : tie.Need-sweep-row-requires Inv-loop μ-loop
 sweep-row-requires c κs =
-    let ends = row-end (c .before .before .before .before .before .before .before .before .before .before .args .n) (c .before .before .before .before .before .loop .p) (c .before .before .before .before .before .before .before .before .before .before .args .n) (c .before .before .before .before .loop-test .taken) in
+    let turn = c .before .before .before .before .before .loop in
+    let args = c .before .before .before .before .before .before .before .before .before .before .args in
+    let ends = row-end (args .n) (turn .p) (args .n) (c .before .before .before .before .loop-test .taken) in
     omega arith
 
 add-p : tie.Need-add-p Inv-loop μ-loop

@@ -27,31 +27,46 @@ array-borrow-prefix-names : tie.Need-array-borrow-prefix-names
 array-borrow-prefix-names c = search needs
 
 slice-aggregate-call-5 : tie.Need-slice-aggregate-call-5
-slice-aggregate-call-5 c = sym (length-take-le (c .before .before .before .before .before .before .args .a) _ (omega (arith, c .before .before .before .before .before .before .pre .0)))
+slice-aggregate-call-5 c =
+    let args = c .before .before .before .before .before .before .args in
+    let pre = c .before .before .before .before .before .before .pre in
+    sym (length-take-le (args .a) _ (omega (arith, pre .0)))
 
 array-borrow-prefix-counts : tie.Need-array-borrow-prefix-counts
 array-borrow-prefix-counts c = search needs
 
 slice-aggregate-call-6 : tie.Need-slice-aggregate-call-6
-slice-aggregate-call-6 c = sym (length-take-le (c .before .before .before .before .before .before .before .args .b) _ (omega (arith, c .before .before .before .before .before .before .before .pre .1)))
+slice-aggregate-call-6 c =
+    let args = c .before .before .before .before .before .before .before .args in
+    let pre = c .before .before .before .before .before .before .before .pre in
+    sym (length-take-le (args .b) _ (omega (arith, pre .1)))
 
 array-borrow-prefix-means : tie.Need-array-borrow-prefix-means
 array-borrow-prefix-means c = search needs
 
 slice-aggregate-call-7 : tie.Need-slice-aggregate-call-7
-slice-aggregate-call-7 c = sym (length-take-le (c .before .before .before .before .before .before .before .before .args .c) _ (omega (arith, c .before .before .before .before .before .before .before .before .pre .2)))
+slice-aggregate-call-7 c =
+    let args = c .before .before .before .before .before .before .before .before .args in
+    let pre = c .before .before .before .before .before .before .before .before .pre in
+    sym (length-take-le (args .c) _ (omega (arith, pre .2)))
 
 array-borrow-prefix-terms : tie.Need-array-borrow-prefix-terms
 array-borrow-prefix-terms c = search needs
 
 slice-aggregate-call-8 : tie.Need-slice-aggregate-call-8
-slice-aggregate-call-8 c = sym (length-take-le (c .before .before .before .before .before .before .before .before .before .args .t) _ (omega (arith, c .before .before .before .before .before .before .before .before .before .pre .3)))
+slice-aggregate-call-8 c =
+    let args = c .before .before .before .before .before .before .before .before .before .args in
+    let pre = c .before .before .before .before .before .before .before .before .before .pre in
+    sym (length-take-le (args .t) _ (omega (arith, pre .3)))
 
 array-borrow-prefix-pulls : tie.Need-array-borrow-prefix-pulls
 array-borrow-prefix-pulls c = search needs
 
 slice-aggregate-call-9 : tie.Need-slice-aggregate-call-9
-slice-aggregate-call-9 c = sym (length-take-le (c .before .before .before .before .before .before .before .before .before .before .args .p) _ (omega (arith, c .before .before .before .before .before .before .before .before .before .before .pre .4)))
+slice-aggregate-call-9 c =
+    let args = c .before .before .before .before .before .before .before .before .before .before .args in
+    let pre = c .before .before .before .before .before .before .before .before .before .before .pre in
+    sym (length-take-le (args .p) _ (omega (arith, pre .4)))
 
 call-requires : tie.Need-call-requires
 call-requires c κs = search needs

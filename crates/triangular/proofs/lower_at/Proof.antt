@@ -25,10 +25,14 @@ at-requires : tie.Need-at-requires Inv-loop μ-loop
 at-requires c κs = (c .before .before .before .pre .1, c .before .before .before .pre .4, c .before .before .before .pre .3)
 
 loop-holds : tie.Need-loop-holds Inv-loop μ-loop
-loop-holds c = (omega arith, c .at .ensures ∙ sym (getD-table (λ n. entry (c .before .before .before .before .args .p) (c .before .before .before .before .args .b .now) n (c .before .before .before .before .args .c)) (c .before .before .before .before .args .p) (c .before .before .before .before .args .i) nan (c .before .before .before .before .pre .4)) ∙ inTurn-none _ _)
+loop-holds c =
+    let args = c .before .before .before .before .args in
+    (omega arith, c .at .ensures ∙ sym (getD-table (λ n. entry (args .p) (args .b .now) n (args .c)) (args .p) (args .i) nan (c .before .before .before .before .pre .4)) ∙ inTurn-none _ _)
 
 at-requires-2 : tie.Need-at-requires-2 Inv-loop μ-loop
-at-requires-2 c κs = (c .before .before .before .before .before .before .pre .0, c .before .before .before .before .before .before .pre .4, omega arith)
+at-requires-2 c κs =
+    let pre = c .before .before .before .before .before .before .pre in
+    (pre .0, pre .4, omega arith)
 
 mul-s : tie.Need-mul-s Inv-loop μ-loop
 mul-s c = omega arith
@@ -43,10 +47,15 @@ loop-less : tie.Need-loop-less Inv-loop μ-loop
 loop-less c = omega arith
 
 loop-again : tie.Need-loop-again Inv-loop μ-loop
-loop-again c = (omega arith, inTurn-next _ _ _ (c .before .before .before .loop .inv .1) (ap (λ (y : Float). c .before .before .before .loop .s ⊖ y ⊗ getD (c .before .before .before .before .before .before .before .before .args .x .now) (c .before .before .before .loop .k) nan) (c .before .at2 .ensures)))
+loop-again c =
+    let turn = c .before .before .before .loop in
+    let args = c .before .before .before .before .before .before .before .before .args in
+    (omega arith, inTurn-next _ _ _ (turn .inv .1) (ap (λ (y : Float). turn .s ⊖ y ⊗ getD (args .x .now) (turn .k) nan) (c .before .at2 .ensures)))
 
 at-requires-3 : tie.Need-at-requires-3 Inv-loop μ-loop
-at-requires-3 c κs = (c .before .before .before .before .before .before .pre .0, c .before .before .before .before .before .before .pre .4, c .before .before .before .before .before .before .pre .4)
+at-requires-3 c κs =
+    let start = c .before .before .before .before .before .before in
+    (start .pre .0, start .pre .4, start .pre .4)
 
 returns : tie.Need-returns Inv-loop μ-loop
 unfolding lowerAt

@@ -23,13 +23,21 @@ loop-holds : tie.Need-loop-holds Inv-loop μ-loop
 loop-holds c = (omega arith, refl, inTurn-none _ _)
 
 lower-at-requires : tie.Need-lower-at-requires Inv-loop μ-loop
-lower-at-requires c κs = (c .before .before .before .before .before .before .pre .0, c .before .before .before .before .before .before .pre .1, c .before .before .loop .inv .1 ∙ ap length (c .before .before .before .before .before .before .pre .2) ∙ length-replicate (c .before .before .before .before .before .before .args .p) zero⁺, c .before .before .before .before .before .before .pre .3, c .before .loop-test .taken)
+lower-at-requires c κs =
+    let start = c .before .before .before .before .before .before in
+    (start .pre .0, start .pre .1, c .before .before .loop .inv .1 ∙ ap length (start .pre .2) ∙ length-replicate (start .args .p) zero⁺, start .pre .3, c .before .loop-test .taken)
 
 mul-x : tie.Need-mul-x Inv-loop μ-loop
-mul-x c = omega (arith, c .before .before .before .loop .inv .1, ap length (c .before .before .before .before .before .before .before .pre .2) ∙ length-replicate (c .before .before .before .before .before .before .before .args .p) zero⁺)
+mul-x c =
+    let args = c .before .before .before .before .before .before .before .args in
+    let pre = c .before .before .before .before .before .before .before .pre in
+    omega (arith, c .before .before .before .loop .inv .1, ap length (pre .2) ∙ length-replicate (args .p) zero⁺)
 
 slice-write-x : tie.Need-slice-write-x Inv-loop μ-loop
-slice-write-x c = omega (arith, c .before .before .before .loop .inv .1, ap length (c .before .before .before .before .before .before .before .pre .2) ∙ length-replicate (c .before .before .before .before .before .before .before .args .p) zero⁺)
+slice-write-x c =
+    let args = c .before .before .before .before .before .before .before .args in
+    let pre = c .before .before .before .before .before .before .before .pre in
+    omega (arith, c .before .before .before .loop .inv .1, ap length (pre .2) ∙ length-replicate (args .p) zero⁺)
 
 add-i : tie.Need-add-i Inv-loop μ-loop
 add-i c = omega arith
@@ -38,18 +46,22 @@ loop-less : tie.Need-loop-less Inv-loop μ-loop
 loop-less c = omega arith
 
 loop-again : tie.Need-loop-again Inv-loop μ-loop
-loop-again c = (
-  omega arith,
-  simp length-set (c .before .before .before .loop .inv .1),
-  inTurn-next _ _ _ (c .before .before .before .loop .inv .2) (ap (set (c .before .before .before .loop .x) (c .before .before .before .loop .i)) (c .lower-at .ensures)),
-)
+loop-again c =
+    let turn = c .before .before .before .loop in (
+      omega arith,
+      simp length-set (turn .inv .1),
+      inTurn-next _ _ _ (turn .inv .2) (ap (set (turn .x) (turn .i)) (c .lower-at .ensures)),
+    )
 
 same-length : tie.Need-same-length Inv-loop μ-loop
 same-length c = c .before .loop .inv .1
 
 returns : tie.Need-returns Inv-loop μ-loop
 unfolding solveLower
-returns c = let e : c .before .loop .i ≡ c .before .before .before .before .before .args .p = omega arith in (rw e at (c .before .loop .inv .2)) ∙ ap (inTurn (λ n y. set y n (lowerAt (c .before .before .before .before .before .args .p) (c .before .before .before .before .before .args .l .now) (table (c .before .before .before .before .before .args .p) (λ n. entry (c .before .before .before .before .before .args .p) (c .before .before .before .before .before .args .b .now) n (c .before .before .before .before .before .args .c))) n y)) (c .before .before .before .before .before .args .p)) (c .before .before .before .before .before .pre .2)
+returns c =
+    let args = c .before .before .before .before .before .args in
+    let pre = c .before .before .before .before .before .pre in
+    let e : c .before .loop .i ≡ args .p = omega arith in (rw e at (c .before .loop .inv .2)) ∙ ap (inTurn (λ n y. set y n (lowerAt (args .p) (args .l .now) (table (args .p) (λ n. entry (args .p) (args .b .now) n (args .c))) n y)) (args .p)) (pre .2)
 
 pub solve-lower-spec : {M : Type 1} → statement M
 solve-lower-spec =

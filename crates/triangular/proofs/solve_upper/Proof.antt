@@ -27,33 +27,50 @@ sub-i : tie.Need-sub-i Inv-loop μ-loop
 sub-i c = omega (arith, c .before .loop .inv .1, ap length (c .before .before .before .before .before .pre .2) ∙ length-replicate (c .before .before .before .before .before .args .p) zero⁺)
 
 upper-at-requires : tie.Need-upper-at-requires Inv-loop μ-loop
-upper-at-requires c κs = (c .before .before .before .before .before .before .pre .0, c .before .before .before .before .before .before .pre .1, c .before .before .loop .inv .1 ∙ ap length (c .before .before .before .before .before .before .pre .2) ∙ length-replicate (c .before .before .before .before .before .before .args .p) zero⁺, omega arith)
+upper-at-requires c κs =
+    let args = c .before .before .before .before .before .before .args in
+    let pre = c .before .before .before .before .before .before .pre in
+    (pre .0, pre .1, c .before .before .loop .inv .1 ∙ ap length (pre .2) ∙ length-replicate (args .p) zero⁺, omega arith)
 
 mul-x : tie.Need-mul-x Inv-loop μ-loop
-mul-x c = omega (arith, c .before .before .before .loop .inv .1, ap length (c .before .before .before .before .before .before .before .pre .2) ∙ length-replicate (c .before .before .before .before .before .before .before .args .p) zero⁺)
+mul-x c =
+    let args = c .before .before .before .before .before .before .before .args in
+    let pre = c .before .before .before .before .before .before .before .pre in
+    omega (arith, c .before .before .before .loop .inv .1, ap length (pre .2) ∙ length-replicate (args .p) zero⁺)
 
 slice-write-x : tie.Need-slice-write-x Inv-loop μ-loop
-slice-write-x c = omega (arith, c .before .before .before .loop .inv .1, ap length (c .before .before .before .before .before .before .before .pre .2) ∙ length-replicate (c .before .before .before .before .before .before .before .args .p) zero⁺)
+slice-write-x c =
+    let args = c .before .before .before .before .before .before .before .args in
+    let pre = c .before .before .before .before .before .before .before .pre in
+    omega (arith, c .before .before .before .loop .inv .1, ap length (pre .2) ∙ length-replicate (args .p) zero⁺)
 
 add-t : tie.Need-add-t Inv-loop μ-loop
-add-t c = omega (arith, c .before .before .before .loop .inv .1, ap length (c .before .before .before .before .before .before .before .pre .2) ∙ length-replicate (c .before .before .before .before .before .before .before .args .p) zero⁺)
+add-t c =
+    let args = c .before .before .before .before .before .before .before .args in
+    let pre = c .before .before .before .before .before .before .before .pre in
+    omega (arith, c .before .before .before .loop .inv .1, ap length (pre .2) ∙ length-replicate (args .p) zero⁺)
 
 loop-less : tie.Need-loop-less Inv-loop μ-loop
 loop-less c = omega arith
 
 loop-again : tie.Need-loop-again Inv-loop μ-loop
-loop-again c = (
-  omega arith,
-  simp length-set (c .before .before .before .loop .inv .1),
-  inTurn-next (λ j y. set y (c .before .before .before .before .before .before .before .args .p - (j + 1)) (upperAt (c .before .before .before .before .before .before .before .args .p) (c .before .before .before .before .before .before .before .args .l .now) (c .before .before .before .before .before .before .before .args .b .now) (c .before .before .before .before .before .before .before .args .p - (j + 1)) y)) _ _ (c .before .before .before .loop .inv .2) (ap (set (c .before .before .before .loop .x) (c .before .before .before .before .before .before .before .args .p - (c .before .before .before .loop .t + 1))) (c .upper-at .ensures)),
-)
+loop-again c =
+    let turn = c .before .before .before .loop in
+    let args = c .before .before .before .before .before .before .before .args in (
+      omega arith,
+      simp length-set (turn .inv .1),
+      inTurn-next (λ j y. set y (args .p - (j + 1)) (upperAt (args .p) (args .l .now) (args .b .now) (args .p - (j + 1)) y)) _ _ (turn .inv .2) (ap (set (turn .x) (args .p - (turn .t + 1))) (c .upper-at .ensures)),
+    )
 
 same-length : tie.Need-same-length Inv-loop μ-loop
 same-length c = c .before .loop .inv .1
 
 returns : tie.Need-returns Inv-loop μ-loop
 unfolding solveUpper downTo
-returns c = let e : c .before .loop .t ≡ c .before .before .before .before .before .args .p - 0 = omega arith in (rw e at (c .before .loop .inv .2)) ∙ ap (inTurn (λ j y. set y (c .before .before .before .before .before .args .p - (j + 1)) (upperAt (c .before .before .before .before .before .args .p) (c .before .before .before .before .before .args .l .now) (c .before .before .before .before .before .args .b .now) (c .before .before .before .before .before .args .p - (j + 1)) y)) (c .before .before .before .before .before .args .p - 0)) (c .before .before .before .before .before .pre .2)
+returns c =
+    let args = c .before .before .before .before .before .args in
+    let pre = c .before .before .before .before .before .pre in
+    let e : c .before .loop .t ≡ args .p - 0 = omega arith in (rw e at (c .before .loop .inv .2)) ∙ ap (inTurn (λ j y. set y (args .p - (j + 1)) (upperAt (args .p) (args .l .now) (args .b .now) (args .p - (j + 1)) y)) (args .p - 0)) (pre .2)
 
 pub solve-upper-spec : {M : Type 1} → statement M
 solve-upper-spec =

@@ -47,10 +47,15 @@ loop-less : tie.Need-loop-less Inv-loop μ-loop
 loop-less c = omega arith
 
 loop-again : tie.Need-loop-again Inv-loop μ-loop
-loop-again c = (omega arith, omega arith, fromTo-next _ _ _ _ (c .before .before .before .loop .inv .0) (c .before .before .before .loop .inv .2) (ap (λ (y : Float). c .before .before .before .loop .s ⊖ y ⊗ getD (c .before .before .before .before .before .before .before .before .args .x .now) (c .before .before .before .loop .k) nan) (c .before .at .ensures)))
+loop-again c =
+    let turn = c .before .before .before .loop in
+    let args = c .before .before .before .before .before .before .before .before .args in
+    (omega arith, omega arith, fromTo-next _ _ _ _ (turn .inv .0) (turn .inv .2) (ap (λ (y : Float). turn .s ⊖ y ⊗ getD (args .x .now) (turn .k) nan) (c .before .at .ensures)))
 
 at-requires-2 : tie.Need-at-requires-2 Inv-loop μ-loop
-at-requires-2 c κs = (c .before .before .before .before .before .before .pre .0, c .before .before .before .before .before .before .pre .3, c .before .before .before .before .before .before .pre .3)
+at-requires-2 c κs =
+    let start = c .before .before .before .before .before .before in
+    (start .pre .0, start .pre .3, start .pre .3)
 
 returns : tie.Need-returns Inv-loop μ-loop
 unfolding upperAt

@@ -19,8 +19,10 @@ same-length c = search needs
 returns : tie.Need-returns
 unfolding projectedOff
 returns c =
-    let a = c .before .before .before .before .before .before .before .before .args in
-    c .before .before .less-times .ensures ∙ ap (λ (d : Float). lessTimes d (now (a .x)) (now (a .y))) (c .before .before .before .before .dot .ensures)
+    let after-dot = c .before .before .before .before in
+    let start = after-dot .before .before .before .before in
+    let a = start .args in
+    c .before .before .less-times .ensures ∙ ap (λ (d : Float). lessTimes d (now (a .x)) (now (a .y))) (after-dot .dot .ensures)
 
 pub project-off-spec : {M : Type 1} → statement M
 project-off-spec = tie.close (tie.spec dot-requires less-times-requires same-length returns)

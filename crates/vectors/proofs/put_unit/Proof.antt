@@ -24,8 +24,11 @@ same-length c = search needs
 returns : tie.Need-returns
 unfolding unit
 returns c =
-    let y = now (c .before .before .before .before .before .before .before .before .args .y) in
-    c .before .before .put-divided .ensures ∙ ap (λ (d : Float). divided d y) (c .before .before .before .before .max .ensures ∙ ap (λ (l : Float). larger l 1e-300) (c .before .before .before .before .before .norm .ensures))
+    let after-max = c .before .before .before .before in
+    let after-norm = after-max .before in
+    let start = after-norm .before .before .before in
+    let y = now (start .args .y) in
+    c .before .before .put-divided .ensures ∙ ap (λ (d : Float). divided d y) (after-max .max .ensures ∙ ap (λ (l : Float). larger l 1e-300) (after-norm .norm .ensures))
 
 pub put-unit-spec : {M : Type 1} → statement M
 put-unit-spec =

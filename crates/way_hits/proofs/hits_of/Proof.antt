@@ -26,7 +26,11 @@ one-if-requires-3 : tie.Need-one-if-requires-3
 one-if-requires-3 c κs = search needs
 
 returns : tie.Need-returns
-returns c = hits-are (c .before .before .before .before .before .hit .ensures) (c .before .before .before .hit2 .ensures) (c .before .as-right .ensures) (c .before .before .before .before .one-if .ensures) (c .before .before .one-if2 .ensures) (c .one-if3 .ensures)
+returns c =
+    let after-hit2 = c .before .before .before in
+    let after-one-if = after-hit2 .before in
+    let after-hit = after-one-if .before in
+    hits-are (after-hit .hit .ensures) (after-hit2 .hit2 .ensures) (c .before .as-right .ensures) (after-one-if .one-if .ensures) (c .before .before .one-if2 .ensures) (c .one-if3 .ensures)
 
 pub hits-of-spec : {M : Type 1} → statement M
 hits-of-spec =

@@ -44,9 +44,11 @@ same-length-2 c = search needs
 
 returns : tie.Need-returns
 returns c =
+    let after-number-labels = c .before .before .before .before in
+    let after-gather = after-number-labels .before .before .before .before .before in
     let start = c .before .before .before .before .before .before .before .before .before .before .before .before .before .before .before in
-    let gather-done = c .before .before .before .before .before .before .before .before .before .gather in
-    let number-labels-done = c .before .before .before .before .number-labels in
+    let gather-done = after-gather .gather in
+    let number-labels-done = after-number-labels .number-labels in
     let labels = start .args .labels .now in
     let ks = start .args .ks .now in
     let gs = start .args .gs .now in
