@@ -23,7 +23,8 @@ use Rattle.lists.proofs.Tallies.{stands-cons}
 use Rattle.lists.proofs.Parts.{drop-map, take-map, getD-map-in}
 use Rattle.hashes.specs.Selected.{selected, frequency}
 use Rattle.hashes.specs.Columns.{none, columnOf}
-use Rattle.hashes.proofs.Upward.{Upward, upward-upward, position-at, stands-at}
+use Rattle.lists.proofs.Upward.{Upward, upward-upward}
+use Rattle.hashes.proofs.Upward.{position-at, stands-at}
 use Rattle.sets.specs.Sets.{setAt, sets}
 use Rattle.columns.specs.Columns.{square, columnSum, columnGram}
 use Rattle.gram.specs.Gram.{meanSum, shared, gram}
