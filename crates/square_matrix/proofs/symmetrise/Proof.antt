@@ -1,4 +1,4 @@
--- `whitening::symmetrise` meets its contract. After i turns the first i rows are evened; all of them make the matrix symmetric.
+-- `square_matrix::symmetrise` meets its contract. After i turns the first i rows are evened; all of them make the matrix symmetric.
 -- Assumes nothing.
 use mathlib.Core.Path.{_≡_, refl, _∙_}
 use Prim.Native.Nat.{_-_, _≤_}
@@ -6,10 +6,10 @@ use native.Mathlib.Omega.{arith}
 use lib.ListN.{length}
 use Rattle.lists.specs.Loops.{inTurn}
 use Rattle.lists.proofs.Loops.{inTurn-none, inTurn-next}
-use Rattle.whitening.specs.Whitened.{evenedRow}
-use Rattle.whitening.proofs.Evening.{evened-all}
-use Rattle.whitening.proofs.symmetrise.Statement.{statement}
-use Rattle.whitening.proofs.symmetrise.Tie as tie
+use Rattle.square_matrix.specs.Symmetric.{evenedRow}
+use Rattle.square_matrix.proofs.Evening.{evened-all}
+use Rattle.square_matrix.proofs.symmetrise.Statement.{statement}
+use Rattle.square_matrix.proofs.symmetrise.Tie as tie
 
 abbrev Inv-loop : tie.InvT-loop
 Inv-loop m₀ p i₀ m i = (i ≤ p) × (length m ≡ length m₀) × (m ≡ inTurn (evenedRow p) i m₀)

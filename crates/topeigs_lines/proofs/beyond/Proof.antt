@@ -1,8 +1,8 @@
--- `topeigs::beyond` meets its contract. One test after the other. Assumes nothing.
+-- `topeigs_lines::beyond` meets its contract. One test after the other. Assumes nothing.
 use borrow.Author.Tests.{lt-ltb, le-ltb, eq-eqb, ne-eqb}
-use Rattle.topeigs.specs.Call.{beyond}
-use Rattle.topeigs.proofs.beyond.Statement.{statement}
-use Rattle.topeigs.proofs.beyond.Tie as tie
+use Rattle.topeigs_lines.specs.TopLines.{beyond}
+use Rattle.topeigs_lines.proofs.beyond.Statement.{statement}
+use Rattle.topeigs_lines.proofs.beyond.Tie as tie
 
 returns : tie.Need-returns
 unfolding beyond

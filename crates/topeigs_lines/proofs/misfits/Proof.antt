@@ -1,4 +1,4 @@
--- `topeigs::misfits` meets its contract. From 2 ^ 32 on the square of n is above every length. Assumes nothing.
+-- `topeigs_lines::misfits` meets its contract. From 2 ^ 32 on the square of n is above every length. Assumes nothing.
 use mathlib.Core.Path.{_≡_, refl}
 use mathlib.Core.Bool.{Bool, true, false, _||_}
 use Prim.Native.Nat.{_*_, _≤_}
@@ -7,9 +7,9 @@ use native.Mathlib.Omega.{arith}
 use borrow.Author.Tests.{lt-ltb, le-ltb, eq-eqb, ne-eqb}
 use Rattle.lists.specs.Filters.{any}
 use Rattle.outcome.specs.Refusals.{short}
-use Rattle.topeigs.specs.Call.{misfits}
-use Rattle.topeigs.proofs.misfits.Statement.{statement}
-use Rattle.topeigs.proofs.misfits.Tie as tie
+use Rattle.topeigs_lines.specs.TopLines.{misfits}
+use Rattle.topeigs_lines.proofs.misfits.Statement.{statement}
+use Rattle.topeigs_lines.proofs.misfits.Tie as tie
 
 -- the last test alone is left
 last : (b : Bool) → b ≡ b || false

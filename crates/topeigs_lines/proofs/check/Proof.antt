@@ -1,11 +1,11 @@
--- `topeigs::check` meets its contract. The lines go by their numbers. Assumes nothing.
+-- `topeigs_lines::check` meets its contract. The lines go by their numbers. Assumes nothing.
 use mathlib.Core.Path.{sym, _∙_}
 use native.Mathlib.Nat.{min-le-right}
 use native.Mathlib.Omega.{arith}
 use borrow.Author.Needs.{needs}
-use Rattle.topeigs.proofs.Call.{line-length, line-limit, line-value, line-none}
-use Rattle.topeigs.proofs.check.Statement.{statement}
-use Rattle.topeigs.proofs.check.Tie as tie
+use Rattle.topeigs_lines.proofs.Lines.{line-length, line-limit, line-value, line-none}
+use Rattle.topeigs_lines.proofs.check.Statement.{statement}
+use Rattle.topeigs_lines.proofs.check.Tie as tie
 
 misfits-requires : tie.Need-misfits-requires
 misfits-requires c κs =

@@ -15,7 +15,7 @@ use Rattle.float.specs.Floats.{_⊕_, _⊘_, 2·0}
 use Rattle.lists.specs.Loops.{inTurn, fromTo}
 use Rattle.lists.specs.Rows.{entry}
 use Rattle.lists.proofs.Rows.{row-end, cell-below}
-use Rattle.whitening.specs.Whitened.{evened, evenedRow, symmetrised}
+use Rattle.square_matrix.specs.Symmetric.{evened, evenedRow, symmetrised}
 use Rattle.lists.proofs.Loops.{inTurn-carries, fromTo-carries}
 use Rattle.lists.proofs.Grids.{grid-of, entry-set, entry-set-other}
 

@@ -1,11 +1,11 @@
--- `small::even` meets its contract. Two stores. Assumes nothing.
+-- `square_matrix::even` meets its contract. Two stores. Assumes nothing.
 use mathlib.Core.Path.{refl}
 use borrow.Author.Needs.{needs}
 use lib.ListN.{length-set}
 use Rattle.lists.specs.Rows.{entry}
-use Rattle.small.specs.Small.{mean, evened}
-use Rattle.small.proofs.even.Statement.{statement}
-use Rattle.small.proofs.even.Tie as tie
+use Rattle.square_matrix.specs.Symmetric.{evened}
+use Rattle.square_matrix.proofs.even.Statement.{statement}
+use Rattle.square_matrix.proofs.even.Tie as tie
 
 mul-x : tie.Need-mul-x
 mul-x c = search needs
@@ -59,7 +59,7 @@ same-length : tie.Need-same-length
 same-length c = simp (length-set, length-set)
 
 returns : tie.Need-returns
-unfolding evened mean entry
+unfolding evened entry
 returns c = refl
 
 pub even-spec : {M : Type 1} → statement M
