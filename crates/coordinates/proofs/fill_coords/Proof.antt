@@ -7,7 +7,7 @@ use Rattle.lists.specs.Ranges.{table}
 use Rattle.lists.proofs.Rows.{row-end, length-part}
 use Rattle.lists.proofs.Writes.{Filling}
 use Rattle.coordinates.specs.Finish.{coordAt, coords}
-use Rattle.coordinates.proofs.Grids.{grid-none, grid-next, grid-all}
+use Rattle.gower.proofs.Grids.{grid-none, grid-next, grid-all}
 use Rattle.coordinates.proofs.fill_coords.Statement.{statement}
 use Rattle.coordinates.proofs.fill_coords.Tie as tie
 

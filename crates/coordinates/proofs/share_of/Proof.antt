@@ -7,7 +7,7 @@ use lib.Ieee.{Float}
 use Rattle.float.specs.Floats.{_⊘_, zero⁺}
 use Rattle.float.specs.Order.{larger}
 use Rattle.coordinates.specs.Finish.{shareOf}
-use Rattle.coordinates.proofs.Chosen.{by-yes, by-no}
+use Rattle.signs.proofs.Chosen.{by-yes, by-no}
 use Rattle.coordinates.proofs.share_of.Statement.{statement}
 use Rattle.coordinates.proofs.share_of.Tie as tie
 

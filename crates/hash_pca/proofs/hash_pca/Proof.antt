@@ -6,8 +6,9 @@ use native.Mathlib.Nat.{min-le-right}
 use native.Mathlib.Omega.{arith}
 use borrow.Author.Needs.{needs}
 use lib.ListN.{length}
-use Rattle.pcoa.proofs.Lines.{asked}
-use Rattle.hash_pca.proofs.Halves.{lent, call-is}
+use Rattle.ordination_lines.proofs.Lines.{asked}
+use Rattle.ordination_lines.proofs.Words.{lent}
+use Rattle.hash_pca.proofs.Halves.{call-is}
 use Rattle.hash_pca.proofs.hash_pca.Statement.{statement}
 use Rattle.hash_pca.proofs.hash_pca.Tie as tie
 

@@ -6,7 +6,7 @@ use borrow.Author.Needs.{needs}
 use lib.ListN.{length}
 use Rattle.pcoa.specs.Given.{given}
 use Rattle.pcoa.proofs.Call.{call-refused, call-passed}
-use Rattle.pcoa.proofs.Lines.{passed-fits}
+use Rattle.ordination_lines.proofs.Lines.{passed-fits}
 use Rattle.pcoa.proofs.pcoa.Statement.{statement}
 use Rattle.pcoa.proofs.pcoa.Tie as tie
 
