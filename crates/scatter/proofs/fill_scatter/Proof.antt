@@ -6,7 +6,7 @@ use Prim.Native.Nat.{ℕ, _*_, _-_}
 use borrow.Author.Needs.{needs}
 use lib.ListN.{length, length-replicate}
 use Rattle.float.specs.Floats.{zero⁺}
-use Rattle.scatter.specs.Scatter.{ridged}
+use Rattle.ridge.specs.Ridge.{ridged}
 use Rattle.scatter.proofs.Scatter.{within-is, between-is}
 use Rattle.means.proofs.Counting.{length-sizes}
 use Rattle.scatter.proofs.fill_scatter.Statement.{statement}

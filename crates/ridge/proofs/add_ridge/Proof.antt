@@ -1,4 +1,4 @@
--- `scatter::add_ridge` meets its contract. The ridge is worked out first.
+-- `ridge::add_ridge` meets its contract. The ridge is worked out first.
 -- Assumes nothing.
 
 use Prim.Native.Nat.{_-_, _^_}
@@ -6,9 +6,9 @@ use native.Mathlib.Omega.{arith}
 use borrow.Author.Needs.{needs}
 use lib.Dec.{le→leb}
 use lib.Ieee.{inFloat}
-use Rattle.scatter.proofs.Scatter.{ridged-is}
-use Rattle.scatter.proofs.add_ridge.Statement.{statement}
-use Rattle.scatter.proofs.add_ridge.Tie as tie
+use Rattle.ridge.proofs.Ridge.{ridged-is}
+use Rattle.ridge.proofs.add_ridge.Statement.{statement}
+use Rattle.ridge.proofs.add_ridge.Tie as tie
 
 trace-requires : tie.Need-trace-requires
 trace-requires c κs = search needs

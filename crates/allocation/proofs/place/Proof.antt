@@ -1,4 +1,4 @@
--- `discriminant::place` meets its contract. Room of its own.
+-- `allocation::place` meets its contract. Room of its own.
 -- Assumes nothing.
 
 use mathlib.Core.Path.{sym}
@@ -8,9 +8,9 @@ use native.Mathlib.Omega.{arith}
 use lib.Seq.{length-take-le}
 use Rattle.float.specs.Floats.{zero⁺}
 use Rattle.lists.proofs.Parts.{take-replicate}
 use Rattle.discriminant.proofs.Outputs.{axes-most}
-use Rattle.discriminant.proofs.place.Statement.{statement}
-use Rattle.discriminant.proofs.place.Tie as tie
+use Rattle.allocation.proofs.place.Statement.{statement}
+use Rattle.allocation.proofs.place.Tie as tie
 
 mul-vs : tie.Need-mul-vs
 mul-vs c = omega (arith, mul-le-mul {n₁ = c .before .before .before .before .before .before .before .before .before .before .args .axes} {m₁ = c .before .before .before .before .before .before .before .before .before .before .args .p} {n₂ = 16} {m₂ = 16} (omega (arith, axes-most (c .before .before .before .before .before .before .before .before .before .before .args .axes) (c .before .before .before .before .before .before .before .before .before .before .args .g) (c .before .before .before .before .before .before .before .before .before .before .args .p) (c .before .before .before .before .before .before .before .before .before .before .pre .0 .axial), c .before .before .before .before .before .before .before .before .before .before .pre .0 .narrow)) (c .before .before .before .before .before .before .before .before .before .before .pre .0 .narrow))

@@ -1,4 +1,4 @@
--- `discriminant::locate` meets its contract. Directions, scores, groups.
+-- `allocation::locate` meets its contract. Directions, scores, groups.
 -- Assumes nothing.
 
 use mathlib.Core.Path.{ap, _∙_}
@@ -8,9 +8,10 @@ use lib.ListN.{length, length-replicate}
 use Rattle.float.specs.Floats.{zero⁺}
 use Rattle.triangular.specs.Triangular.{solveRows}
 use Rattle.lists.proofs.Rows.{part-rest}
-use Rattle.discriminant.proofs.Outputs.{located, length-vectors, axes-most}
-use Rattle.discriminant.proofs.locate.Statement.{statement}
-use Rattle.discriminant.proofs.locate.Tie as tie
+use Rattle.discriminant.proofs.Outputs.{axes-most}
+use Rattle.allocation.proofs.Outputs.{located, length-vectors}
+use Rattle.allocation.proofs.locate.Statement.{statement}
+use Rattle.allocation.proofs.locate.Tie as tie
 
 mul-solve-rows : tie.Need-mul-solve-rows
 mul-solve-rows c = omega arith

@@ -1,4 +1,4 @@
--- `discriminant::write_scores` meets its contract. The output is filled in two parts, each lent by itself.
+-- `allocation::write_scores` meets its contract. The output is filled in two parts, each lent by itself.
 -- Assumes nothing.
 
 use mathlib.Core.Path.{sym, _∙_}
@@ -8,9 +8,9 @@ use native.Mathlib.Omega.{arith}
 use borrow.Author.Needs.{needs}
 use lib.ListN.{take, drop}
 use lib.Seq.{length-take-le, length-front}
-use Rattle.discriminant.proofs.Outputs.{both-written, length-scores, length-part-scores}
-use Rattle.discriminant.proofs.write_scores.Statement.{statement}
-use Rattle.discriminant.proofs.write_scores.Tie as tie
+use Rattle.allocation.proofs.Outputs.{both-written, length-scores, length-part-scores}
+use Rattle.allocation.proofs.write_scores.Statement.{statement}
+use Rattle.allocation.proofs.write_scores.Tie as tie
 
 slice-relend-prefix-copy : tie.Need-slice-relend-prefix-copy
 slice-relend-prefix-copy c = search needs

@@ -1,4 +1,4 @@
--- `scatter::raise` meets its contract. After a turns the first a are raised.
+-- `ridge::raise` meets its contract. After a turns the first a are raised.
 -- Assumes nothing.
 
 use mathlib.Core.Path.{refl, sym, ap, _∙_}
@@ -12,8 +12,8 @@ use Rattle.float.specs.Floats.{_⊕_}
 use Rattle.lists.specs.Rows.{entry}
 use Rattle.lists.proofs.Rows.{cell-below}
 use Rattle.means.proofs.InPlace.{Reworked, reworked-entry, reworked-none, reworked-diagonal, reworked-all}
-use Rattle.scatter.proofs.raise.Statement.{statement}
-use Rattle.scatter.proofs.raise.Tie as tie
+use Rattle.ridge.proofs.raise.Statement.{statement}
+use Rattle.ridge.proofs.raise.Tie as tie
 
 abbrev Inv-loop : tie.InvT-loop
 Inv-loop sw₀ p r a₀ sw a = Reworked p p (λ k i. cond (eqb k i) (entry p sw₀ k i ⊕ r) (entry p sw₀ k i)) sw₀ sw a
