@@ -1,15 +1,15 @@
--- `grams::all_words` is safe and ends. Assumes nothing.
+-- `ordinations::shown::all_words` is safe and ends. Assumes nothing.
 use Prim.Native.Nat.{_-_}
 use native.Mathlib.Omega.{arith}
 use lib.ListN.{length}
-use Rattle.grams.proofs.all_words.Statement.{statement}
-use Rattle.grams.proofs.all_words.Tie as tie
+use Rattle.ordinations.proofs.shown.all_words.Statement.{statement}
+use Rattle.ordinations.proofs.shown.all_words.Tie as tie
 
 abbrev Inv-loop : tie.InvT-loop
-Inv-loop x v i₀ i-end i = Unit
+Inv-loop s x i₀ i-end i = Unit
 
 abbrev μ-loop : tie.MeasureT-loop
-μ-loop x v i₀ i-end i = length x - i
+μ-loop s x i₀ i-end i = length s - i
 
 loop-holds : tie.Need-loop-holds Inv-loop μ-loop
 loop-holds c = tt

@@ -1,11 +1,11 @@
--- `grams::over_and_over` is safe and ends: x stays below m. Assumes nothing.
+-- `ordinations::grams::over_and_over` is safe and ends: x stays below m. Assumes nothing.
 use mathlib.Core.Path.{_≡_, refl, _∙_}
 use Prim.Native.Nat.{_-_, _<_}
 use native.Mathlib.Nat.{mod-lt}
 use native.Mathlib.Omega.{arith}
 use lib.ListN.{length, length-set}
-use Rattle.grams.proofs.over_and_over.Statement.{statement}
-use Rattle.grams.proofs.over_and_over.Tie as tie
+use Rattle.ordinations.proofs.grams.over_and_over.Statement.{statement}
+use Rattle.ordinations.proofs.grams.over_and_over.Tie as tie
 
 abbrev Inv-loop : tie.InvT-loop
 Inv-loop h₀ m x₀ i₀ i-end h x i = (length h ≡ length h₀) × (x < m)

@@ -1,9 +1,9 @@
--- `grams::begins` is safe and ends. Assumes nothing.
+-- `ordinations::grams::begins` is safe and ends. Assumes nothing.
 use Prim.Native.Nat.{_-_}
 use native.Mathlib.Omega.{arith}
 use lib.ListN.{length}
-use Rattle.grams.proofs.begins.Statement.{statement}
-use Rattle.grams.proofs.begins.Tie as tie
+use Rattle.ordinations.proofs.grams.begins.Statement.{statement}
+use Rattle.ordinations.proofs.grams.begins.Tie as tie
 
 abbrev Inv-loop : tie.InvT-loop
 Inv-loop x y i₀ i-end i = Unit

@@ -1,10 +1,10 @@
--- `jacobi_run::show_number` meets its contract. What is written as a number is no NaN.
+-- `ordinations::shown::show_number` meets its contract. What is written as a number is no NaN.
 -- Assumes nothing.
 use Prim.Native.Nat.{_-_}
 use borrow.Author.Needs.{needs}
 use Rattle.float.proofs.Nan.{same-no-nan}
-use Rattle.jacobi_run.proofs.show_number.Statement.{statement}
-use Rattle.jacobi_run.proofs.show_number.Tie as tie
+use Rattle.ordinations.proofs.shown.show_number.Statement.{statement}
+use Rattle.ordinations.proofs.shown.show_number.Tie as tie
 
 slice-aggregate-write-all : tie.Need-slice-aggregate-write-all
 slice-aggregate-write-all c = search needs

@@ -1,27 +1,10 @@
-// Runs `gram_matrix` on document 01's case (j), on sets with repeats and on sets that are turned away, and writes a line for each.
+// Calls of `gram_matrix` on document 01's case (j), on sets with repeats and on sets that are turned away, a line for each.
+use crate::shown::all_are;
+use crate::shown::all_words;
 use gram::Answer;
 use gram::gram_matrix;
 use libc::STDOUT_FILENO;
 use outcome::number_of;
-
-// Whether every element of x is v.
-fn all_are(x: &[f64], v: f64) -> bool {
-    for i in 0..x.len() {
-        if x[i] != v {
-            return false;
-        }
-    }
-    true
-}
-
-fn all_words(x: &[u64], v: u64) -> bool {
-    for i in 0..x.len() {
-        if x[i] != v {
-            return false;
-        }
-    }
-    true
-}
 
 // Whether x begins with y.
 fn begins(x: &[f64], y: &[f64]) -> bool {
@@ -184,7 +167,7 @@ fn too_many() -> bool {
     all_words(&words, 7)
 }
 
-fn main() {
+pub fn run() {
     let two = [5u64, 5];
     let other = [5u64, 6];
     tell(case_j());

@@ -1,4 +1,6 @@
 // Calls of `jacobi_eigen`: for each its answer, and then the output and both work slices, a line each. Every slice holds 7 at first.
+use crate::shown::show;
+use crate::shown::show_number;
 use jacobi::Answer;
 use libc::STDOUT_FILENO;
 
@@ -13,23 +15,6 @@ fn show_answer(r: Answer) {
             io::write_all(STDOUT_FILENO, b"refused ");
             io::print_decimal(STDOUT_FILENO, outcome::number_of(e) as u64);
         }
-    }
-    io::write_all(STDOUT_FILENO, b"\n");
-}
-
-// The bits of x, or `nan`.
-fn show_number(x: f64) {
-    io::write_all(STDOUT_FILENO, b" ");
-    if x != x {
-        io::write_all(STDOUT_FILENO, b"nan");
-        return;
-    }
-    io::print_hex(STDOUT_FILENO, f64::to_bits(x), 16);
-}
-
-fn show(s: &[f64]) {
-    for i in 0..s.len() {
-        show_number(s[i]);
     }
     io::write_all(STDOUT_FILENO, b"\n");
 }
@@ -135,7 +120,7 @@ fn many() {
     call_many(&a, &mut out, &mut m, &mut v);
 }
 
-fn main() {
+pub fn run() {
     cases();
     small();
     larger();

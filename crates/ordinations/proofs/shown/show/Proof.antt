@@ -1,10 +1,10 @@
--- `ordinations::show` meets its contract. The loop counts up to the length.
+-- `ordinations::shown::show` meets its contract. The loop counts up to the length.
 -- Assumes nothing.
 use Prim.Native.Nat.{_-_, _≤_}
 use borrow.Author.Needs.{needs}
 use lib.ListN.{length}
-use Rattle.ordinations.proofs.show.Statement.{statement}
-use Rattle.ordinations.proofs.show.Tie as tie
+use Rattle.ordinations.proofs.shown.show.Statement.{statement}
+use Rattle.ordinations.proofs.shown.show.Tie as tie
 
 abbrev Inv-loop : tie.InvT-loop
 Inv-loop s i₀ t3 i-end i = i ≤ length s
