@@ -15,7 +15,9 @@ slice-aggregate-centre-in : tie.Need-slice-aggregate-centre-in
 slice-aggregate-centre-in c = sym (length-take-le (c .before .before .before .before .args .n) _ (omega arith))
 
 centre-in-requires : tie.Need-centre-in-requires
-centre-in-requires c κs = (c .before .before .before .before .pre .0, length-take-le (c .before .before .before .before .args .n) _ (omega arith), c .before .before .before .before .pre .1, c .before .before .before .before .pre .2)
+centre-in-requires c κs =
+    let at-start = c .before .before .before .before in
+    (at-start .pre .0, length-take-le (at-start .args .n) _ (omega arith), at-start .pre .1, at-start .pre .2)
 
 same-length : tie.Need-same-length
 same-length c = search needs

@@ -26,7 +26,13 @@ same-length-2 : tie.Need-same-length-2
 same-length-2 c = search needs
 
 returns : tie.Need-returns
-returns c = centred-by (c .before .before .before .before .before .before .before .before .before .before .before .before .before .before .before .before .before .before .before .args .n) (c .before .before .before .before .before .before .before .before .before .before .before .before .before .before .before .before .before .before .before .args .d .now) (c .before .before .before .before .before .before .before .before .before .before .before .before .before .before .fill-squares .ensures) (c .before .before .before .before .before .before .before .before .before .fill-means .ensures) (c .before .before .before .before .before .mean .ensures) (c .before .before .centre-rows .ensures)
+returns c =
+    let at-centre-rows = c .before .before in
+    let at-mean = at-centre-rows .before .before .before in
+    let at-fill-means = at-mean .before .before .before .before in
+    let at-fill-squares = at-fill-means .before .before .before .before .before in
+    let at-start = at-fill-squares .before .before .before .before .before in
+    centred-by (at-start .args .n) (at-start .args .d .now) (at-fill-squares .fill-squares .ensures) (at-fill-means .fill-means .ensures) (at-mean .mean .ensures) (at-centre-rows .centre-rows .ensures)
 
 pub centre-in-spec : {M : Type 1} → statement M
 centre-in-spec =

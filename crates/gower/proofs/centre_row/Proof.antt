@@ -47,7 +47,11 @@ loop-less c = omega (arith, c .before .before .before .loop .inv .long)
 
 loop-again : tie.Need-loop-again Inv-loop μ-loop
 unfolding centring
-loop-again c = writing-next _ _ (c .before .before .before .loop .inv) (c .before .before .loop-test .taken) (ap (λ (x : Float). -0·5 ⊗ (x ⊖ c .before .before .before .before .args .a ⊖ getD (c .before .before .before .before .args .m .now) (c .before .before .before .loop .j) nan ⊕ c .before .before .before .before .args .all)) (writing-here _ _ nan (c .before .before .before .loop .inv)))
+loop-again c =
+    let at-loop-test = c .before .before in
+    let at-loop = at-loop-test .before in
+    let at-start = at-loop .before in
+    writing-next _ _ (at-loop .loop .inv) (at-loop-test .loop-test .taken) (ap (λ (x : Float). -0·5 ⊗ (x ⊖ at-start .args .a ⊖ getD (at-start .args .m .now) (at-loop .loop .j) nan ⊕ at-start .args .all)) (writing-here _ _ nan (at-loop .loop .inv)))
 
 same-length : tie.Need-same-length Inv-loop μ-loop
 same-length c = c .before .loop .inv .long

@@ -18,52 +18,107 @@ abbrev μ-loop : tie.MeasureT-loop
 μ-loop b₀ m all n i₀ b i = n - i
 
 loop-holds : tie.Need-loop-holds Inv-loop μ-loop
-loop-holds c = grid-none (c .before .before .args .n) (c .before .before .args .n) (centredAt (c .before .before .args .n) (c .before .before .args .b .now) (c .before .before .args .m .now) (c .before .before .args .all)) (c .before .before .args .b .now) (c .before .before .pre .0)
+loop-holds c =
+    let at-start = c .before .before in
+    let a = at-start .args in
+    grid-none (a .n) (a .n) (centredAt (a .n) (a .b .now) (a .m .now) (a .all)) (a .b .now) (at-start .pre .0)
 
 mul-centre-row : tie.Need-mul-centre-row Inv-loop μ-loop
-mul-centre-row c = omega (arith, row-end (c .before .before .before .before .args .n) (c .before .loop .i) (c .before .before .before .before .args .n) (c .loop-test .taken), c .before .loop .inv .long)
+mul-centre-row c =
+    let at-loop = c .before in
+    let at-start = at-loop .before .before .before in
+    omega (arith, row-end (at-start .args .n) (at-loop .loop .i) (at-start .args .n) (c .loop-test .taken), at-loop .loop .inv .long)
 
 mul-centre-row-2 : tie.Need-mul-centre-row-2 Inv-loop μ-loop
-mul-centre-row-2 c = omega (arith, row-end (c .before .before .before .before .args .n) (c .before .loop .i) (c .before .before .before .before .args .n) (c .loop-test .taken), c .before .loop .inv .long)
+mul-centre-row-2 c =
+    let at-loop = c .before in
+    let at-start = at-loop .before .before .before in
+    omega (arith, row-end (at-start .args .n) (at-loop .loop .i) (at-start .args .n) (c .loop-test .taken), at-loop .loop .inv .long)
 
 add-centre-row : tie.Need-add-centre-row Inv-loop μ-loop
-add-centre-row c = omega (arith, row-end (c .before .before .before .before .args .n) (c .before .loop .i) (c .before .before .before .before .args .n) (c .loop-test .taken), c .before .loop .inv .long)
+add-centre-row c =
+    let at-loop = c .before in
+    let at-start = at-loop .before .before .before in
+    omega (arith, row-end (at-start .args .n) (at-loop .loop .i) (at-start .args .n) (c .loop-test .taken), at-loop .loop .inv .long)
 
 mul-centre-row-3 : tie.Need-mul-centre-row-3 Inv-loop μ-loop
-mul-centre-row-3 c = omega (arith, row-end (c .before .before .before .before .args .n) (c .before .loop .i) (c .before .before .before .before .args .n) (c .loop-test .taken), c .before .loop .inv .long)
+mul-centre-row-3 c =
+    let at-loop = c .before in
+    let at-start = at-loop .before .before .before in
+    omega (arith, row-end (at-start .args .n) (at-loop .loop .i) (at-start .args .n) (c .loop-test .taken), at-loop .loop .inv .long)
 
 sub-centre-row : tie.Need-sub-centre-row Inv-loop μ-loop
-sub-centre-row c = omega (arith, row-end (c .before .before .before .before .args .n) (c .before .loop .i) (c .before .before .before .before .args .n) (c .loop-test .taken), c .before .loop .inv .long)
+sub-centre-row c =
+    let at-loop = c .before in
+    let at-start = at-loop .before .before .before in
+    omega (arith, row-end (at-start .args .n) (at-loop .loop .i) (at-start .args .n) (c .loop-test .taken), at-loop .loop .inv .long)
 
 part-centre-row-start : tie.Need-part-centre-row-start Inv-loop μ-loop
-part-centre-row-start c = omega (arith, row-end (c .before .before .before .before .args .n) (c .before .loop .i) (c .before .before .before .before .args .n) (c .loop-test .taken), c .before .loop .inv .long)
+part-centre-row-start c =
+    let at-loop = c .before in
+    let at-start = at-loop .before .before .before in
+    omega (arith, row-end (at-start .args .n) (at-loop .loop .i) (at-start .args .n) (c .loop-test .taken), at-loop .loop .inv .long)
 
 part-centre-row-end : tie.Need-part-centre-row-end Inv-loop μ-loop
-part-centre-row-end c = omega (arith, row-end (c .before .before .before .before .args .n) (c .before .loop .i) (c .before .before .before .before .args .n) (c .loop-test .taken), c .before .loop .inv .long)
+part-centre-row-end c =
+    let at-loop = c .before in
+    let at-start = at-loop .before .before .before in
+    omega (arith, row-end (at-start .args .n) (at-loop .loop .i) (at-start .args .n) (c .loop-test .taken), at-loop .loop .inv .long)
 
 mul-centre-row-4 : tie.Need-mul-centre-row-4 Inv-loop μ-loop
-mul-centre-row-4 c = omega (arith, row-end (c .before .before .before .before .before .args .n) (c .before .before .loop .i) (c .before .before .before .before .before .args .n) (c .before .loop-test .taken), c .before .before .loop .inv .long)
+mul-centre-row-4 c =
+    let at-loop-test = c .before in
+    let at-loop = at-loop-test .before in
+    let at-start = at-loop .before .before .before in
+    omega (arith, row-end (at-start .args .n) (at-loop .loop .i) (at-start .args .n) (at-loop-test .loop-test .taken), at-loop .loop .inv .long)
 
 shared-slice-read-centre-row : tie.Need-shared-slice-read-centre-row Inv-loop μ-loop
-shared-slice-read-centre-row c = omega (arith, row-end (c .before .before .before .before .before .before .args .n) (c .before .before .before .loop .i) (c .before .before .before .before .before .before .args .n) (c .before .before .loop-test .taken), c .before .before .before .loop .inv .long)
+shared-slice-read-centre-row c =
+    let at-loop-test = c .before .before in
+    let at-loop = at-loop-test .before in
+    let at-start = at-loop .before .before .before in
+    omega (arith, row-end (at-start .args .n) (at-loop .loop .i) (at-start .args .n) (at-loop-test .loop-test .taken), at-loop .loop .inv .long)
 
 centre-row-requires : tie.Need-centre-row-requires Inv-loop μ-loop
-centre-row-requires c κs = let long = length-part (c .before .before .before .before .before .before .args .n) (c .before .before .before .loop .i) (c .before .before .before .loop .b) (omega (arith, row-end (c .before .before .before .before .before .before .args .n) (c .before .before .before .loop .i) (c .before .before .before .before .before .before .args .n) (c .before .before .loop-test .taken), c .before .before .before .loop .inv .long)) in c .before .before .before .before .before .before .pre .1 ∙ sym long
+centre-row-requires c κs =
+    let at-loop-test = c .before .before in
+    let at-loop = at-loop-test .before in
+    let at-start = at-loop .before .before .before in
+    let a = at-start .args in
+    let long = length-part (a .n) (at-loop .loop .i) (at-loop .loop .b) (omega (arith, row-end (a .n) (at-loop .loop .i) (a .n) (at-loop-test .loop-test .taken), at-loop .loop .inv .long)) in at-start .pre .1 ∙ sym long
 
 add-i : tie.Need-add-i Inv-loop μ-loop
-add-i c = omega (arith, row-end (c .before .before .before .before .before .before .before .before .before .args .n) (c .before .before .before .before .before .before .loop .i) (c .before .before .before .before .before .before .before .before .before .args .n) (c .before .before .before .before .before .loop-test .taken), c .before .before .before .before .before .before .loop .inv .long)
+add-i c =
+    let at-loop-test = c .before .before .before .before .before in
+    let at-loop = at-loop-test .before in
+    let at-start = at-loop .before .before .before in
+    omega (arith, row-end (at-start .args .n) (at-loop .loop .i) (at-start .args .n) (at-loop-test .loop-test .taken), at-loop .loop .inv .long)
 
 loop-less : tie.Need-loop-less Inv-loop μ-loop
-loop-less c = omega (arith, row-end (c .before .before .before .before .before .before .before .before .before .args .n) (c .before .before .before .before .before .before .loop .i) (c .before .before .before .before .before .before .before .before .before .args .n) (c .before .before .before .before .before .loop-test .taken), c .before .before .before .before .before .before .loop .inv .long)
+loop-less c =
+    let at-loop-test = c .before .before .before .before .before in
+    let at-loop = at-loop-test .before in
+    let at-start = at-loop .before .before .before in
+    omega (arith, row-end (at-start .args .n) (at-loop .loop .i) (at-start .args .n) (at-loop-test .loop-test .taken), at-loop .loop .inv .long)
 
 loop-again : tie.Need-loop-again Inv-loop μ-loop
-loop-again c = let long = length-part (c .before .before .before .before .before .before .before .before .before .args .n) (c .before .before .before .before .before .before .loop .i) (c .before .before .before .before .before .before .loop .b) (omega (arith, row-end (c .before .before .before .before .before .before .before .before .before .args .n) (c .before .before .before .before .before .before .loop .i) (c .before .before .before .before .before .before .before .before .before .args .n) (c .before .before .before .before .before .loop-test .taken), c .before .before .before .before .before .before .loop .inv .long)) in grid-next (c .before .before .before .before .before .before .before .before .before .args .n) (c .before .before .before .before .before .before .before .before .before .args .n) (centredAt (c .before .before .before .before .before .before .before .before .before .args .n) (c .before .before .before .before .before .before .before .before .before .args .b .now) (c .before .before .before .before .before .before .before .before .before .args .m .now) (c .before .before .before .before .before .before .before .before .before .args .all)) (c .before .before .before .before .before .before .before .before .before .args .b .now) (c .before .before .before .before .before .before .before .before .before .pre .0) (c .before .before .before .before .before .before .loop .inv) (c .before .before .before .before .before .loop-test .taken) refl (centred-lent (c .before .before .before .before .before .before .before .before .before .args .n) (c .before .before .before .before .before .before .before .before .before .args .b .now) (c .before .before .before .before .before .before .before .before .before .args .m .now) (c .before .before .before .before .before .before .before .before .before .args .all) (c .before .before .before .before .before .before .loop .inv) long (c .before .before .centre-row .ensures))
+loop-again c =
+    let at-centre-row = c .before .before in
+    let at-loop-test = at-centre-row .before .before .before in
+    let at-loop = at-loop-test .before in
+    let at-start = at-loop .before .before .before in
+    let a = at-start .args in
+    let long = length-part (a .n) (at-loop .loop .i) (at-loop .loop .b) (omega (arith, row-end (a .n) (at-loop .loop .i) (a .n) (at-loop-test .loop-test .taken), at-loop .loop .inv .long)) in grid-next (a .n) (a .n) (centredAt (a .n) (a .b .now) (a .m .now) (a .all)) (a .b .now) (at-start .pre .0) (at-loop .loop .inv) (at-loop-test .loop-test .taken) refl (centred-lent (a .n) (a .b .now) (a .m .now) (a .all) (at-loop .loop .inv) long (at-centre-row .centre-row .ensures))
 
 same-length : tie.Need-same-length Inv-loop μ-loop
 same-length c = c .before .loop .inv .long
 
 returns : tie.Need-returns Inv-loop μ-loop
-returns c = grid-all (c .before .before .before .before .args .n) (c .before .before .before .before .args .n) (centredAt (c .before .before .before .before .args .n) (c .before .before .before .before .args .b .now) (c .before .before .before .before .args .m .now) (c .before .before .before .before .args .all)) (c .before .before .before .before .args .b .now) (c .before .before .before .before .pre .0) (c .before .loop .inv) (c .loop-test .left)
+returns c =
+    let at-loop = c .before in
+    let at-start = at-loop .before .before .before in
+    let a = at-start .args in
+    grid-all (a .n) (a .n) (centredAt (a .n) (a .b .now) (a .m .now) (a .all)) (a .b .now) (at-start .pre .0) (at-loop .loop .inv) (c .loop-test .left)
 
 pub centre-rows-spec : {M : Type 1} → statement M
 centre-rows-spec =

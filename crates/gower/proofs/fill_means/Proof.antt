@@ -20,43 +20,84 @@ loop-holds : tie.Need-loop-holds Inv-loop μ-loop
 loop-holds c = writing-none _ _
 
 mul-mean : tie.Need-mul-mean Inv-loop μ-loop
-mul-mean c = omega (arith, row-end (c .before .before .before .before .args .n) (c .before .loop .i) (c .before .before .before .before .args .n) (c .loop-test .taken), c .before .loop .inv .long)
+mul-mean c =
+    let at-loop = c .before in
+    let at-start = at-loop .before .before .before in
+    omega (arith, row-end (at-start .args .n) (at-loop .loop .i) (at-start .args .n) (c .loop-test .taken), at-loop .loop .inv .long)
 
 mul-mean-2 : tie.Need-mul-mean-2 Inv-loop μ-loop
-mul-mean-2 c = omega (arith, row-end (c .before .before .before .before .args .n) (c .before .loop .i) (c .before .before .before .before .args .n) (c .loop-test .taken), c .before .loop .inv .long)
+mul-mean-2 c =
+    let at-loop = c .before in
+    let at-start = at-loop .before .before .before in
+    omega (arith, row-end (at-start .args .n) (at-loop .loop .i) (at-start .args .n) (c .loop-test .taken), at-loop .loop .inv .long)
 
 add-mean : tie.Need-add-mean Inv-loop μ-loop
-add-mean c = omega (arith, row-end (c .before .before .before .before .args .n) (c .before .loop .i) (c .before .before .before .before .args .n) (c .loop-test .taken), c .before .loop .inv .long)
+add-mean c =
+    let at-loop = c .before in
+    let at-start = at-loop .before .before .before in
+    omega (arith, row-end (at-start .args .n) (at-loop .loop .i) (at-start .args .n) (c .loop-test .taken), at-loop .loop .inv .long)
 
 mul-mean-3 : tie.Need-mul-mean-3 Inv-loop μ-loop
-mul-mean-3 c = omega (arith, row-end (c .before .before .before .before .args .n) (c .before .loop .i) (c .before .before .before .before .args .n) (c .loop-test .taken), c .before .loop .inv .long)
+mul-mean-3 c =
+    let at-loop = c .before in
+    let at-start = at-loop .before .before .before in
+    omega (arith, row-end (at-start .args .n) (at-loop .loop .i) (at-start .args .n) (c .loop-test .taken), at-loop .loop .inv .long)
 
 sub-mean : tie.Need-sub-mean Inv-loop μ-loop
-sub-mean c = omega (arith, row-end (c .before .before .before .before .args .n) (c .before .loop .i) (c .before .before .before .before .args .n) (c .loop-test .taken), c .before .loop .inv .long)
+sub-mean c =
+    let at-loop = c .before in
+    let at-start = at-loop .before .before .before in
+    omega (arith, row-end (at-start .args .n) (at-loop .loop .i) (at-start .args .n) (c .loop-test .taken), at-loop .loop .inv .long)
 
 part-mean-start : tie.Need-part-mean-start Inv-loop μ-loop
-part-mean-start c = omega (arith, row-end (c .before .before .before .before .args .n) (c .before .loop .i) (c .before .before .before .before .args .n) (c .loop-test .taken), c .before .loop .inv .long)
+part-mean-start c =
+    let at-loop = c .before in
+    let at-start = at-loop .before .before .before in
+    omega (arith, row-end (at-start .args .n) (at-loop .loop .i) (at-start .args .n) (c .loop-test .taken), at-loop .loop .inv .long)
 
 part-mean-end : tie.Need-part-mean-end Inv-loop μ-loop
-part-mean-end c = omega (arith, row-end (c .before .before .before .before .args .n) (c .before .loop .i) (c .before .before .before .before .args .n) (c .loop-test .taken), c .before .loop .inv .long)
+part-mean-end c =
+    let at-loop = c .before in
+    let at-start = at-loop .before .before .before in
+    omega (arith, row-end (at-start .args .n) (at-loop .loop .i) (at-start .args .n) (c .loop-test .taken), at-loop .loop .inv .long)
 
 mean-requires : tie.Need-mean-requires Inv-loop μ-loop
 mean-requires c κs = c .before .before .before .before .before .pre .2
 
 mul-out : tie.Need-mul-out Inv-loop μ-loop
-mul-out c = omega (arith, row-end (c .before .before .before .before .before .before .args .n) (c .before .before .before .loop .i) (c .before .before .before .before .before .before .args .n) (c .before .before .loop-test .taken), c .before .before .before .loop .inv .long)
+mul-out c =
+    let at-loop-test = c .before .before in
+    let at-loop = at-loop-test .before in
+    let at-start = at-loop .before .before .before in
+    omega (arith, row-end (at-start .args .n) (at-loop .loop .i) (at-start .args .n) (at-loop-test .loop-test .taken), at-loop .loop .inv .long)
 
 slice-write-out : tie.Need-slice-write-out Inv-loop μ-loop
-slice-write-out c = omega (arith, row-end (c .before .before .before .before .before .before .args .n) (c .before .before .before .loop .i) (c .before .before .before .before .before .before .args .n) (c .before .before .loop-test .taken), c .before .before .before .loop .inv .long)
+slice-write-out c =
+    let at-loop-test = c .before .before in
+    let at-loop = at-loop-test .before in
+    let at-start = at-loop .before .before .before in
+    omega (arith, row-end (at-start .args .n) (at-loop .loop .i) (at-start .args .n) (at-loop-test .loop-test .taken), at-loop .loop .inv .long)
 
 add-i : tie.Need-add-i Inv-loop μ-loop
-add-i c = omega (arith, row-end (c .before .before .before .before .before .before .args .n) (c .before .before .before .loop .i) (c .before .before .before .before .before .before .args .n) (c .before .before .loop-test .taken), c .before .before .before .loop .inv .long)
+add-i c =
+    let at-loop-test = c .before .before in
+    let at-loop = at-loop-test .before in
+    let at-start = at-loop .before .before .before in
+    omega (arith, row-end (at-start .args .n) (at-loop .loop .i) (at-start .args .n) (at-loop-test .loop-test .taken), at-loop .loop .inv .long)
 
 loop-less : tie.Need-loop-less Inv-loop μ-loop
-loop-less c = omega (arith, row-end (c .before .before .before .before .before .before .args .n) (c .before .before .before .loop .i) (c .before .before .before .before .before .before .args .n) (c .before .before .loop-test .taken), c .before .before .before .loop .inv .long)
+loop-less c =
+    let at-loop-test = c .before .before in
+    let at-loop = at-loop-test .before in
+    let at-start = at-loop .before .before .before in
+    omega (arith, row-end (at-start .args .n) (at-loop .loop .i) (at-start .args .n) (at-loop-test .loop-test .taken), at-loop .loop .inv .long)
 
 loop-again : tie.Need-loop-again Inv-loop μ-loop
-loop-again c = writing-next _ _ (c .before .before .before .loop .inv) (omega arith) (c .mean .ensures ∙ ap (mean (c .before .before .before .before .before .before .args .n)) (part-row (c .before .before .before .before .before .before .args .n) (c .before .before .before .loop .i) (c .before .before .before .before .before .before .args .s .now)))
+loop-again c =
+    let at-loop = c .before .before .before in
+    let at-start = at-loop .before .before .before in
+    let a = at-start .args in
+    writing-next _ _ (at-loop .loop .inv) (omega arith) (c .mean .ensures ∙ ap (mean (a .n)) (part-row (a .n) (at-loop .loop .i) (a .s .now)))
 
 same-length : tie.Need-same-length Inv-loop μ-loop
 same-length c = c .before .loop .inv .long

@@ -47,7 +47,10 @@ same-length c = c .before .loop .inv .long
 
 returns : tie.Need-returns Inv-loop μ-loop
 unfolding squares
-returns c = writing-table _ _ (c .before .loop .inv) (c .before .before .pre) (c .loop-test .left) ∙ sym (map-table (λ (x : Float). x ⊗ x) (c .before .before .args .d .now) nan)
+returns c =
+    let at-loop = c .before in
+    let at-start = at-loop .before in
+    writing-table _ _ (at-loop .loop .inv) (at-start .pre) (c .loop-test .left) ∙ sym (map-table (λ (x : Float). x ⊗ x) (at-start .args .d .now) nan)
 
 pub fill-squares-spec : {M : Type 1} → statement M
 fill-squares-spec =

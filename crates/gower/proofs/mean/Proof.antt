@@ -35,7 +35,11 @@ loop-less : tie.Need-loop-less Inv-loop μ-loop
 loop-less c = omega arith
 
 loop-again : tie.Need-loop-again Inv-loop μ-loop
-loop-again c = (omega arith, floats-turn (c .before .before .loop .s) (c .before .before .before .args .l .now) (c .before .before .loop .i) nan (c .before .loop-test .taken) refl refl (c .before .before .loop .inv .1))
+loop-again c =
+    let at-loop-test = c .before in
+    let at-loop = at-loop-test .before in
+    let at-start = at-loop .before in
+    (omega arith, floats-turn (at-loop .loop .s) (at-start .args .l .now) (at-loop .loop .i) nan (at-loop-test .loop-test .taken) refl refl (at-loop .loop .inv .1))
 
 int-to-float-result : tie.Need-int-to-float-result Inv-loop μ-loop
 unfolding inFloat
@@ -43,7 +47,11 @@ int-to-float-result c = le→leb (c .before .before .before .args .n) (2 ^ 53) (
 
 returns : tie.Need-returns Inv-loop μ-loop
 unfolding mean
-returns c = ap (λ (x : Float). x ⊘ num (c .before .before .before .args .n)) (floats-end (c .before .before .loop .s) (c .before .before .before .args .l .now) (c .before .before .loop .i) (c .before .loop-test .left) (c .before .before .loop .inv .1))
+returns c =
+    let at-loop-test = c .before in
+    let at-loop = at-loop-test .before in
+    let at-start = at-loop .before in
+    ap (λ (x : Float). x ⊘ num (at-start .args .n)) (floats-end (at-loop .loop .s) (at-start .args .l .now) (at-loop .loop .i) (at-loop-test .loop-test .left) (at-loop .loop .inv .1))
 
 pub mean-spec : {M : Type 1} → statement M
 mean-spec =

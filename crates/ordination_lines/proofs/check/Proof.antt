@@ -15,34 +15,97 @@ is-square-requires : tie.Need-is-square-requires
 is-square-requires c κs = search needs
 
 returns : tie.Need-returns
-returns c = line-distances (c .before .before .before .args .components) (c .before .before .before .args .n) (c .before .before .before .args .d .now) (c .before .before .before .args .out) (c .before .before .before .args .b) (c .before .before .before .args .w) (c .before .before .before .args .m) (c .before .before .before .args .v) (sym (c .before .is-square .ensures) ∙ not-true _ (c .if1 .taken))
+returns c =
+    let at-is-square = c .before in
+    let at-start = at-is-square .before .before in
+    let a = at-start .args in
+    line-distances (a .components) (a .n) (a .d .now) (a .out) (a .b) (a .w) (a .m) (a .v) (sym (at-is-square .is-square .ensures) ∙ not-true _ (c .if1 .taken))
 
 too-short-requires : tie.Need-too-short-requires
-too-short-requires c κs = omega (arith, c .before .before .before .pre, min-le-right (c .before .before .before .args .components) (c .before .before .before .args .n))
+too-short-requires c κs =
+    let at-start = c .before .before .before in
+    omega (arith, at-start .pre, min-le-right (at-start .args .components) (at-start .args .n))
 
 returns-2 : tie.Need-returns-2
-returns-2 c = line-short (c .before .before .before .before .before .args .components) (c .before .before .before .before .before .args .n) (c .before .before .before .before .before .args .d .now) (c .before .before .before .before .before .args .out) (c .before .before .before .before .before .args .b) (c .before .before .before .before .before .args .w) (c .before .before .before .before .before .args .m) (c .before .before .before .before .before .args .v) (sym (c .before .before .before .is-square .ensures) ∙ not-false _ (c .before .before .if1 .left)) (ap (λ (k : ℕ). tooShort k (c .before .before .before .before .before .args .n) (c .before .before .before .before .before .args .out) (c .before .before .before .before .before .args .b) (c .before .before .before .before .before .args .w) (c .before .before .before .before .before .args .m) (c .before .before .before .before .before .args .v)) (sym (c .before .before .before .before .before .pre)) ∙ sym (c .before .too-short .ensures) ∙ c .if2 .taken)
+returns-2 c =
+    let at-too-short = c .before in
+    let at-if = at-too-short .before in
+    let at-is-square = at-if .before in
+    let at-start = at-is-square .before .before in
+    let a = at-start .args in
+    line-short (a .components) (a .n) (a .d .now) (a .out) (a .b) (a .w) (a .m) (a .v) (sym (at-is-square .is-square .ensures) ∙ not-false _ (at-if .if1 .left)) (ap (λ (k : ℕ). tooShort k (a .n) (a .out) (a .b) (a .w) (a .m) (a .v)) (sym (at-start .pre)) ∙ sym (at-too-short .too-short .ensures) ∙ c .if2 .taken)
 
 returns-3 : tie.Need-returns-3
-returns-3 c = line-samples (c .before .before .before .before .before .before .args .components) (c .before .before .before .before .before .before .args .n) (c .before .before .before .before .before .before .args .d .now) (c .before .before .before .before .before .before .args .out) (c .before .before .before .before .before .before .args .b) (c .before .before .before .before .before .before .args .w) (c .before .before .before .before .before .before .args .m) (c .before .before .before .before .before .before .args .v) (sym (c .before .before .before .before .is-square .ensures) ∙ not-false _ (c .before .before .before .if1 .left)) (ap (λ (k : ℕ). tooShort k (c .before .before .before .before .before .before .args .n) (c .before .before .before .before .before .before .args .out) (c .before .before .before .before .before .before .args .b) (c .before .before .before .before .before .before .args .w) (c .before .before .before .before .before .before .args .m) (c .before .before .before .before .before .before .args .v)) (sym (c .before .before .before .before .before .before .pre)) ∙ sym (c .before .before .too-short .ensures) ∙ c .before .if2 .left) (lt-ltb _ _ (c .if3 .taken))
+returns-3 c =
+    let at-if-2 = c .before in
+    let at-too-short = at-if-2 .before in
+    let at-if = at-too-short .before in
+    let at-is-square = at-if .before in
+    let at-start = at-is-square .before .before in
+    let a = at-start .args in
+    line-samples (a .components) (a .n) (a .d .now) (a .out) (a .b) (a .w) (a .m) (a .v) (sym (at-is-square .is-square .ensures) ∙ not-false _ (at-if .if1 .left)) (ap (λ (k : ℕ). tooShort k (a .n) (a .out) (a .b) (a .w) (a .m) (a .v)) (sym (at-start .pre)) ∙ sym (at-too-short .too-short .ensures) ∙ at-if-2 .if2 .left) (lt-ltb _ _ (c .if3 .taken))
 
 bad-components-requires : tie.Need-bad-components-requires
 bad-components-requires c κs = search needs
 
 returns-4 : tie.Need-returns-4
-returns-4 c = line-components (c .before .before .before .before .before .before .before .before .args .components) (c .before .before .before .before .before .before .before .before .args .n) (c .before .before .before .before .before .before .before .before .args .d .now) (c .before .before .before .before .before .before .before .before .args .out) (c .before .before .before .before .before .before .before .before .args .b) (c .before .before .before .before .before .before .before .before .args .w) (c .before .before .before .before .before .before .before .before .args .m) (c .before .before .before .before .before .before .before .before .args .v) (sym (c .before .before .before .before .before .before .is-square .ensures) ∙ not-false _ (c .before .before .before .before .before .if1 .left)) (ap (λ (k : ℕ). tooShort k (c .before .before .before .before .before .before .before .before .args .n) (c .before .before .before .before .before .before .before .before .args .out) (c .before .before .before .before .before .before .before .before .args .b) (c .before .before .before .before .before .before .before .before .args .w) (c .before .before .before .before .before .before .before .before .args .m) (c .before .before .before .before .before .before .before .before .args .v)) (sym (c .before .before .before .before .before .before .before .before .pre)) ∙ sym (c .before .before .before .before .too-short .ensures) ∙ c .before .before .before .if2 .left) (le-ltb _ _ (c .before .before .if3 .left)) (sym (c .before .bad-components .ensures) ∙ c .if4 .taken)
+returns-4 c =
+    let at-bad-components = c .before in
+    let at-if-3 = at-bad-components .before in
+    let at-if-2 = at-if-3 .before in
+    let at-too-short = at-if-2 .before in
+    let at-if = at-too-short .before in
+    let at-is-square = at-if .before in
+    let at-start = at-is-square .before .before in
+    let a = at-start .args in
+    line-components (a .components) (a .n) (a .d .now) (a .out) (a .b) (a .w) (a .m) (a .v) (sym (at-is-square .is-square .ensures) ∙ not-false _ (at-if .if1 .left)) (ap (λ (k : ℕ). tooShort k (a .n) (a .out) (a .b) (a .w) (a .m) (a .v)) (sym (at-start .pre)) ∙ sym (at-too-short .too-short .ensures) ∙ at-if-2 .if2 .left) (le-ltb _ _ (at-if-3 .if3 .left)) (sym (at-bad-components .bad-components .ensures) ∙ c .if4 .taken)
 
 any-outside-requires : tie.Need-any-outside-requires
 any-outside-requires c κs = search needs
 
 returns-5 : tie.Need-returns-5
-returns-5 c = line-value (c .before .before .before .before .before .before .before .before .before .before .args .components) (c .before .before .before .before .before .before .before .before .before .before .args .n) (c .before .before .before .before .before .before .before .before .before .before .args .d .now) (c .before .before .before .before .before .before .before .before .before .before .args .out) (c .before .before .before .before .before .before .before .before .before .before .args .b) (c .before .before .before .before .before .before .before .before .before .before .args .w) (c .before .before .before .before .before .before .before .before .before .before .args .m) (c .before .before .before .before .before .before .before .before .before .before .args .v) (sym (c .before .before .before .before .before .before .before .before .is-square .ensures) ∙ not-false _ (c .before .before .before .before .before .before .before .if1 .left)) (ap (λ (k : ℕ). tooShort k (c .before .before .before .before .before .before .before .before .before .before .args .n) (c .before .before .before .before .before .before .before .before .before .before .args .out) (c .before .before .before .before .before .before .before .before .before .before .args .b) (c .before .before .before .before .before .before .before .before .before .before .args .w) (c .before .before .before .before .before .before .before .before .before .before .args .m) (c .before .before .before .before .before .before .before .before .before .before .args .v)) (sym (c .before .before .before .before .before .before .before .before .before .before .pre)) ∙ sym (c .before .before .before .before .before .before .too-short .ensures) ∙ c .before .before .before .before .before .if2 .left) (le-ltb _ _ (c .before .before .before .before .if3 .left)) (sym (c .before .before .before .bad-components .ensures) ∙ c .before .before .if4 .left) (sym (c .before .any-outside .ensures) ∙ c .if5 .taken)
+returns-5 c =
+    let at-any-outside = c .before in
+    let at-if-4 = at-any-outside .before in
+    let at-bad-components = at-if-4 .before in
+    let at-if-3 = at-bad-components .before in
+    let at-if-2 = at-if-3 .before in
+    let at-too-short = at-if-2 .before in
+    let at-if = at-too-short .before in
+    let at-is-square = at-if .before in
+    let at-start = at-is-square .before .before in
+    let a = at-start .args in
+    line-value (a .components) (a .n) (a .d .now) (a .out) (a .b) (a .w) (a .m) (a .v) (sym (at-is-square .is-square .ensures) ∙ not-false _ (at-if .if1 .left)) (ap (λ (k : ℕ). tooShort k (a .n) (a .out) (a .b) (a .w) (a .m) (a .v)) (sym (at-start .pre)) ∙ sym (at-too-short .too-short .ensures) ∙ at-if-2 .if2 .left) (le-ltb _ _ (at-if-3 .if3 .left)) (sym (at-bad-components .bad-components .ensures) ∙ at-if-4 .if4 .left) (sym (at-any-outside .any-outside .ensures) ∙ c .if5 .taken)
 
 returns-6 : tie.Need-returns-6
-returns-6 c = line-three (c .before .before .before .before .before .before .before .before .before .before .before .args .components) (c .before .before .before .before .before .before .before .before .before .before .before .args .n) (c .before .before .before .before .before .before .before .before .before .before .before .args .d .now) (c .before .before .before .before .before .before .before .before .before .before .before .args .out) (c .before .before .before .before .before .before .before .before .before .before .before .args .b) (c .before .before .before .before .before .before .before .before .before .before .before .args .w) (c .before .before .before .before .before .before .before .before .before .before .before .args .m) (c .before .before .before .before .before .before .before .before .before .before .before .args .v) (sym (c .before .before .before .before .before .before .before .before .before .is-square .ensures) ∙ not-false _ (c .before .before .before .before .before .before .before .before .if1 .left)) (ap (λ (k : ℕ). tooShort k (c .before .before .before .before .before .before .before .before .before .before .before .args .n) (c .before .before .before .before .before .before .before .before .before .before .before .args .out) (c .before .before .before .before .before .before .before .before .before .before .before .args .b) (c .before .before .before .before .before .before .before .before .before .before .before .args .w) (c .before .before .before .before .before .before .before .before .before .before .before .args .m) (c .before .before .before .before .before .before .before .before .before .before .before .args .v)) (sym (c .before .before .before .before .before .before .before .before .before .before .before .pre)) ∙ sym (c .before .before .before .before .before .before .before .too-short .ensures) ∙ c .before .before .before .before .before .before .if2 .left) (le-ltb _ _ (c .before .before .before .before .before .if3 .left)) (sym (c .before .before .before .before .bad-components .ensures) ∙ c .before .before .before .if4 .left) (sym (c .before .before .any-outside .ensures) ∙ c .before .if5 .left) (lt-ltb _ _ (c .if6 .taken))
+returns-6 c =
+    let at-if-5 = c .before in
+    let at-any-outside = at-if-5 .before in
+    let at-if-4 = at-any-outside .before in
+    let at-bad-components = at-if-4 .before in
+    let at-if-3 = at-bad-components .before in
+    let at-if-2 = at-if-3 .before in
+    let at-too-short = at-if-2 .before in
+    let at-if = at-too-short .before in
+    let at-is-square = at-if .before in
+    let at-start = at-is-square .before .before in
+    let a = at-start .args in
+    line-three (a .components) (a .n) (a .d .now) (a .out) (a .b) (a .w) (a .m) (a .v) (sym (at-is-square .is-square .ensures) ∙ not-false _ (at-if .if1 .left)) (ap (λ (k : ℕ). tooShort k (a .n) (a .out) (a .b) (a .w) (a .m) (a .v)) (sym (at-start .pre)) ∙ sym (at-too-short .too-short .ensures) ∙ at-if-2 .if2 .left) (le-ltb _ _ (at-if-3 .if3 .left)) (sym (at-bad-components .bad-components .ensures) ∙ at-if-4 .if4 .left) (sym (at-any-outside .any-outside .ensures) ∙ at-if-5 .if5 .left) (lt-ltb _ _ (c .if6 .taken))
 
 returns-7 : tie.Need-returns-7
-returns-7 c = line-none (c .before .before .before .before .before .before .before .before .before .before .before .args .components) (c .before .before .before .before .before .before .before .before .before .before .before .args .n) (c .before .before .before .before .before .before .before .before .before .before .before .args .d .now) (c .before .before .before .before .before .before .before .before .before .before .before .args .out) (c .before .before .before .before .before .before .before .before .before .before .before .args .b) (c .before .before .before .before .before .before .before .before .before .before .before .args .w) (c .before .before .before .before .before .before .before .before .before .before .before .args .m) (c .before .before .before .before .before .before .before .before .before .before .before .args .v) (sym (c .before .before .before .before .before .before .before .before .before .is-square .ensures) ∙ not-false _ (c .before .before .before .before .before .before .before .before .if1 .left)) (ap (λ (k : ℕ). tooShort k (c .before .before .before .before .before .before .before .before .before .before .before .args .n) (c .before .before .before .before .before .before .before .before .before .before .before .args .out) (c .before .before .before .before .before .before .before .before .before .before .before .args .b) (c .before .before .before .before .before .before .before .before .before .before .before .args .w) (c .before .before .before .before .before .before .before .before .before .before .before .args .m) (c .before .before .before .before .before .before .before .before .before .before .before .args .v)) (sym (c .before .before .before .before .before .before .before .before .before .before .before .pre)) ∙ sym (c .before .before .before .before .before .before .before .too-short .ensures) ∙ c .before .before .before .before .before .before .if2 .left) (le-ltb _ _ (c .before .before .before .before .before .if3 .left)) (sym (c .before .before .before .before .bad-components .ensures) ∙ c .before .before .before .if4 .left) (sym (c .before .before .any-outside .ensures) ∙ c .before .if5 .left) (le-ltb _ _ (c .if6 .left))
+returns-7 c =
+    let at-if-5 = c .before in
+    let at-any-outside = at-if-5 .before in
+    let at-if-4 = at-any-outside .before in
+    let at-bad-components = at-if-4 .before in
+    let at-if-3 = at-bad-components .before in
+    let at-if-2 = at-if-3 .before in
+    let at-too-short = at-if-2 .before in
+    let at-if = at-too-short .before in
+    let at-is-square = at-if .before in
+    let at-start = at-is-square .before .before in
+    let a = at-start .args in
+    line-none (a .components) (a .n) (a .d .now) (a .out) (a .b) (a .w) (a .m) (a .v) (sym (at-is-square .is-square .ensures) ∙ not-false _ (at-if .if1 .left)) (ap (λ (k : ℕ). tooShort k (a .n) (a .out) (a .b) (a .w) (a .m) (a .v)) (sym (at-start .pre)) ∙ sym (at-too-short .too-short .ensures) ∙ at-if-2 .if2 .left) (le-ltb _ _ (at-if-3 .if3 .left)) (sym (at-bad-components .bad-components .ensures) ∙ at-if-4 .if4 .left) (sym (at-any-outside .any-outside .ensures) ∙ at-if-5 .if5 .left) (le-ltb _ _ (c .if6 .left))
 
 pub check-spec : {M : Type 1} → statement M
 check-spec =

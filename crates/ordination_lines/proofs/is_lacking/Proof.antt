@@ -11,10 +11,18 @@ too-short-requires : tie.Need-too-short-requires
 too-short-requires c κs = search needs
 
 returns : tie.Need-returns
-returns c = lacking-first (c .before .before .args .k) (c .before .before .args .n) (c .before .before .args .out) (c .before .before .args .b) (c .before .before .args .w) (c .before .before .args .m) (c .before .before .args .v) (c .before .before .args .words) (sym (c .before .too-short .ensures) ∙ c .if1 .taken)
+returns c =
+    let at-too-short = c .before in
+    let at-start = at-too-short .before in
+    let a = at-start .args in
+    lacking-first (a .k) (a .n) (a .out) (a .b) (a .w) (a .m) (a .v) (a .words) (sym (at-too-short .too-short .ensures) ∙ c .if1 .taken)
 
 returns-2 : tie.Need-returns-2
-returns-2 c = lacking-words (c .before .before .args .k) (c .before .before .args .n) (c .before .before .args .out) (c .before .before .args .b) (c .before .before .args .w) (c .before .before .args .m) (c .before .before .args .v) (c .before .before .args .words) (sym (c .before .too-short .ensures) ∙ c .if1 .left) (words-test (c .before .before .args .words) (c .before .before .args .n))
+returns-2 c =
+    let at-too-short = c .before in
+    let at-start = at-too-short .before in
+    let a = at-start .args in
+    lacking-words (a .k) (a .n) (a .out) (a .b) (a .w) (a .m) (a .v) (a .words) (sym (at-too-short .too-short .ensures) ∙ c .if1 .left) (words-test (a .words) (a .n))
 
 pub is-lacking-spec : {M : Type 1} → statement M
 is-lacking-spec = tie.close (tie.spec too-short-requires returns returns-2)

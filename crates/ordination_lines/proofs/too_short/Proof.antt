@@ -22,22 +22,49 @@ add-if2-2 : tie.Need-add-if2-2
 add-if2-2 c = let f = fitting (c .before .args .n) (c .before .args .k) (c .before .pre) (c .if1 .left) in omega (arith, f .part)
 
 returns-2 : tie.Need-returns-2
-returns-2 c = short-out (c .before .before .args .k) (c .before .before .args .n) (c .before .before .args .out) (c .before .before .args .b) (c .before .before .args .w) (c .before .before .args .m) (c .before .before .args .v) (c .if2 .taken)
+returns-2 c =
+    let at-start = c .before .before in
+    let a = at-start .args in
+    short-out (a .k) (a .n) (a .out) (a .b) (a .w) (a .m) (a .v) (c .if2 .taken)
 
 returns-3 : tie.Need-returns-3
-returns-3 c = short-b (c .before .before .before .args .k) (c .before .before .before .args .n) (c .before .before .before .args .out) (c .before .before .before .args .b) (c .before .before .before .args .w) (c .before .before .before .args .m) (c .before .before .before .args .v) (c .before .if2 .left) (c .if3 .taken)
+returns-3 c =
+    let at-if = c .before in
+    let at-start = at-if .before .before in
+    let a = at-start .args in
+    short-b (a .k) (a .n) (a .out) (a .b) (a .w) (a .m) (a .v) (at-if .if2 .left) (c .if3 .taken)
 
 add-if4 : tie.Need-add-if4
-add-if4 c = let f = fitting (c .before .before .before .args .n) (c .before .before .before .args .k) (c .before .before .before .pre) (c .before .before .if1 .left) in omega (arith, f .more)
+add-if4 c =
+    let at-if = c .before .before in
+    let at-start = at-if .before in
+    let f = fitting (at-start .args .n) (at-start .args .k) (at-start .pre) (at-if .if1 .left) in omega (arith, f .more)
 
 returns-4 : tie.Need-returns-4
-returns-4 c = short-w (c .before .before .before .before .args .k) (c .before .before .before .before .args .n) (c .before .before .before .before .args .out) (c .before .before .before .before .args .b) (c .before .before .before .before .args .w) (c .before .before .before .before .args .m) (c .before .before .before .before .args .v) (c .before .before .if2 .left) (c .before .if3 .left) (c .if4 .taken)
+returns-4 c =
+    let at-if-2 = c .before in
+    let at-if = at-if-2 .before in
+    let at-start = at-if .before .before in
+    let a = at-start .args in
+    short-w (a .k) (a .n) (a .out) (a .b) (a .w) (a .m) (a .v) (at-if .if2 .left) (at-if-2 .if3 .left) (c .if4 .taken)
 
 returns-5 : tie.Need-returns-5
-returns-5 c = short-m (c .before .before .before .before .before .args .k) (c .before .before .before .before .before .args .n) (c .before .before .before .before .before .args .out) (c .before .before .before .before .before .args .b) (c .before .before .before .before .before .args .w) (c .before .before .before .before .before .args .m) (c .before .before .before .before .before .args .v) (c .before .before .before .if2 .left) (c .before .before .if3 .left) (c .before .if4 .left) (c .if5 .taken)
+returns-5 c =
+    let at-if-3 = c .before in
+    let at-if-2 = at-if-3 .before in
+    let at-if = at-if-2 .before in
+    let at-start = at-if .before .before in
+    let a = at-start .args in
+    short-m (a .k) (a .n) (a .out) (a .b) (a .w) (a .m) (a .v) (at-if .if2 .left) (at-if-2 .if3 .left) (at-if-3 .if4 .left) (c .if5 .taken)
 
 returns-6 : tie.Need-returns-6
-returns-6 c = short-v (c .before .before .before .before .before .args .k) (c .before .before .before .before .before .args .n) (c .before .before .before .before .before .args .out) (c .before .before .before .before .before .args .b) (c .before .before .before .before .before .args .w) (c .before .before .before .before .before .args .m) (c .before .before .before .before .before .args .v) (c .before .before .before .if2 .left) (c .before .before .if3 .left) (c .before .if4 .left) (c .if5 .left)
+returns-6 c =
+    let at-if-3 = c .before in
+    let at-if-2 = at-if-3 .before in
+    let at-if = at-if-2 .before in
+    let at-start = at-if .before .before in
+    let a = at-start .args in
+    short-v (a .k) (a .n) (a .out) (a .b) (a .w) (a .m) (a .v) (at-if .if2 .left) (at-if-2 .if3 .left) (at-if-3 .if4 .left) (c .if5 .left)
 
 pub too-short-spec : {M : Type 1} → statement M
 too-short-spec =
