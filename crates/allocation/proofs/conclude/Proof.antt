@@ -35,13 +35,18 @@ part-fill-centroids-end : tie.Need-part-fill-centroids-end
 part-fill-centroids-end c = omega arith
 
 fill-centroids-requires : tie.Need-fill-centroids-requires
-fill-centroids-requires c κs = (c .before .before .before .before .before .before .before .before .pre .0 .2, length-part-scores (c .before .before .before .before .before .before .before .before .args .axes) (length (c .before .before .before .before .before .before .before .before .args .groups .now) * c .before .before .before .before .before .before .before .before .args .axes) (c .before .before .before .before .before .before .before .before .args .out .now) (c .before .before .before .before .before .before .before .before .pre .0 .0), c .before .before .before .before .before .before .before .before .pre .0 .3, c .before .before .before .before .before .before .before .before .pre .1 .1, c .before .before .before .before .before .before .before .before .pre .1 .2)
+fill-centroids-requires c κs =
+    let at-start = c .before .before .before .before .before .before .before .before in
+    let a = at-start .args in
+    (at-start .pre .0 .2, length-part-scores (a .axes) (length (a .groups .now) * a .axes) (a .out .now) (at-start .pre .0 .0), at-start .pre .0 .3, at-start .pre .1 .1, at-start .pre .1 .2)
 
 slice-relend-prefix-assign : tie.Need-slice-relend-prefix-assign
 slice-relend-prefix-assign c = omega arith
 
 slice-aggregate-assign : tie.Need-slice-aggregate-assign
-slice-aggregate-assign c = sym (length-take-le (length (c .before .before .before .before .before .before .before .before .before .before .before .before .args .groups .now)) (c .before .before .before .before .before .before .before .before .before .before .before .before .args .assigned .now) (c .before .before .before .before .before .before .before .before .before .before .before .before .pre .0 .1))
+slice-aggregate-assign c =
+    let at-start = c .before .before .before .before .before .before .before .before .before .before .before .before in
+    sym (length-take-le (length (at-start .args .groups .now)) (at-start .args .assigned .now) (at-start .pre .0 .1))
 
 mul-assign : tie.Need-mul-assign
 mul-assign c = omega arith
@@ -56,7 +61,11 @@ part-assign-end : tie.Need-part-assign-end
 part-assign-end c = omega arith
 
 assign-requires : tie.Need-assign-requires
-assign-requires c κs = (length-take-le (length (c .before .before .before .before .before .before .before .before .before .before .before .before .before .before .before .args .groups .now)) (c .before .before .before .before .before .before .before .before .before .before .before .before .before .before .before .args .assigned .now) (c .before .before .before .before .before .before .before .before .before .before .before .before .before .before .before .pre .0 .1), length-part-scores (c .before .before .before .before .before .before .before .before .before .before .before .before .before .before .before .args .axes) (length (c .before .before .before .before .before .before .before .before .before .before .before .before .before .before .before .args .groups .now) * c .before .before .before .before .before .before .before .before .before .before .before .before .before .before .before .args .axes) (c .before .before .before .before .before .before .before .before .before .before .before .before .before .before .before .args .out .now) (c .before .before .before .before .before .before .before .before .before .before .before .before .before .before .before .pre .0 .0), c .before .before .before .before .before .before .fill-centroids .kept .0 ∙ ap length (c .before .before .before .before .before .before .before .before .before .before .before .before .before .before .before .pre .0 .2) ∙ length-replicate (c .before .before .before .before .before .before .before .before .before .before .before .before .before .before .before .args .g * c .before .before .before .before .before .before .before .before .before .before .before .before .before .before .before .args .axes) zero⁺, omega arith, c .before .before .before .before .before .before .before .before .before .before .before .before .before .before .before .pre .1 .1, c .before .before .before .before .before .before .before .before .before .before .before .before .before .before .before .pre .1 .3)
+assign-requires c κs =
+    let at-fill-centroids = c .before .before .before .before .before .before in
+    let at-start = at-fill-centroids .before .before .before .before .before .before .before .before .before in
+    let a = at-start .args in
+    (length-take-le (length (a .groups .now)) (a .assigned .now) (at-start .pre .0 .1), length-part-scores (a .axes) (length (a .groups .now) * a .axes) (a .out .now) (at-start .pre .0 .0), at-fill-centroids .fill-centroids .kept .0 ∙ ap length (at-start .pre .0 .2) ∙ length-replicate (a .g * a .axes) zero⁺, omega arith, at-start .pre .1 .1, at-start .pre .1 .3)
 
 tell-requires : tie.Need-tell-requires
 tell-requires c κs =

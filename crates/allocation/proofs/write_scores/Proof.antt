@@ -19,10 +19,15 @@ slice-aggregate-copy : tie.Need-slice-aggregate-copy
 slice-aggregate-copy c = sym (length-take-le (c .before .before .before .before .before .before .before .args .axes) (c .before .before .before .before .before .before .before .args .out .now) (omega arith))
 
 slice-aggregate-copy-2 : tie.Need-slice-aggregate-copy-2
-slice-aggregate-copy-2 c = sym (length-take-le (c .before .before .before .before .before .before .before .before .args .axes) (c .before .before .before .before .before .before .before .before .args .ev .now) (c .before .before .before .before .before .before .before .before .pre .2))
+slice-aggregate-copy-2 c =
+    let at-start = c .before .before .before .before .before .before .before .before in
+    sym (length-take-le (at-start .args .axes) (at-start .args .ev .now) (at-start .pre .2))
 
 copy-requires : tie.Need-copy-requires
-copy-requires c κs = length-take-le (c .before .before .before .before .before .before .before .before .args .axes) (c .before .before .before .before .before .before .before .before .args .out .now) (omega arith) ∙ sym (length-take-le (c .before .before .before .before .before .before .before .before .args .axes) (c .before .before .before .before .before .before .before .before .args .ev .now) (c .before .before .before .before .before .before .before .before .pre .2))
+copy-requires c κs =
+    let at-start = c .before .before .before .before .before .before .before .before in
+    let a = at-start .args in
+    length-take-le (a .axes) (a .out .now) (omega arith) ∙ sym (length-take-le (a .axes) (a .ev .now) (at-start .pre .2))
 
 mul-fill-scores : tie.Need-mul-fill-scores
 mul-fill-scores c = search needs
@@ -43,14 +48,17 @@ part-fill-scores-end : tie.Need-part-fill-scores-end
 part-fill-scores-end c = search needs
 
 fill-scores-requires : tie.Need-fill-scores-requires
-fill-scores-requires c κs = (
-  length-part-scores (c .before .before .before .before .before .before .before .before .before .before .before .before .before .args .axes) (c .before .before .before .before .before .before .before .before .before .before .before .before .before .args .n * c .before .before .before .before .before .before .before .before .before .before .before .before .before .args .axes) (c .before .before .before .before .copy .last .0 ++ drop (c .before .before .before .before .before .before .before .before .before .before .before .before .before .args .axes) (c .before .before .before .before .before .before .before .before .before .before .before .before .before .args .out .now)) (omega (arith, length-front (c .before .before .before .before .before .before .before .before .before .before .before .before .before .args .out .now) (c .before .before .before .before .copy .last .0) (c .before .before .before .before .before .before .before .before .before .before .before .before .before .args .axes) (c .before .before .before .before .copy .kept .0))),
-  c .before .before .before .before .before .before .before .before .before .before .before .before .before .pre .1,
-  c .before .before .before .before .before .before .before .before .before .before .before .before .before .pre .5,
-  c .before .before .before .before .before .before .before .before .before .before .before .before .before .pre .6,
-  c .before .before .before .before .before .before .before .before .before .before .before .before .before .pre .4,
-  c .before .before .before .before .before .before .before .before .before .before .before .before .before .pre .3,
-)
+fill-scores-requires c κs =
+    let at-copy = c .before .before .before .before in
+    let at-start = at-copy .before .before .before .before .before .before .before .before .before in
+    let a = at-start .args in (
+      length-part-scores (a .axes) (a .n * a .axes) (at-copy .copy .last .0 ++ drop (a .axes) (a .out .now)) (omega (arith, length-front (a .out .now) (at-copy .copy .last .0) (a .axes) (at-copy .copy .kept .0))),
+      at-start .pre .1,
+      at-start .pre .5,
+      at-start .pre .6,
+      at-start .pre .4,
+      at-start .pre .3,
+    )
 
 same-length : tie.Need-same-length
 same-length c = search needs
@@ -60,8 +68,12 @@ same-length-2 c = search needs
 
 returns : tie.Need-returns
 returns c =
-    both-written (c .before .before .before .before .before .before .before .before .before .before .before .before .before .before .before .before .before .before .args .axes) (c .before .before .before .before .before .before .before .before .before .before .before .before .before .before .before .before .before .before .args .n * c .before .before .before .before .before .before .before .before .before .before .before .before .before .before .before .before .before .before .args .axes) (c .before .before .before .before .before .before .before .before .before .before .before .before .before .before .before .before .before .before .args .out .now) (take (c .before .before .before .before .before .before .before .before .before .before .before .before .before .before .before .before .before .before .args .axes) (c .before .before .before .before .before .before .before .before .before .before .before .before .before .before .before .before .before .before .args .ev .now)) _ (c .before .before .before .before .before .before .before .before .before .before .before .before .before .before .before .before .before .before .pre .0) (length-take-le (c .before .before .before .before .before .before .before .before .before .before .before .before .before .before .before .before .before .before .args .axes) (c .before .before .before .before .before .before .before .before .before .before .before .before .before .before .before .before .before .before .args .ev .now) (c .before .before .before .before .before .before .before .before .before .before .before .before .before .before .before .before .before .before .pre .2))
-    (length-scores (c .before .before .before .before .before .before .before .before .before .before .before .before .before .before .before .before .before .before .args .n) (c .before .before .before .before .before .before .before .before .before .before .before .before .before .before .before .before .before .before .args .columns) (c .before .before .before .before .before .before .before .before .before .before .before .before .before .before .before .before .before .before .args .p) (c .before .before .before .before .before .before .before .before .before .before .before .before .before .before .before .before .before .before .args .axes) (c .before .before .before .before .before .before .before .before .before .before .before .before .before .before .before .before .before .before .args .x .now) (c .before .before .before .before .before .before .before .before .before .before .before .before .before .before .before .before .before .before .args .mean .now) (c .before .before .before .before .before .before .before .before .before .before .before .before .before .before .before .before .before .before .args .vs .now)) (c .before .before .before .before .before .before .before .before .before .copy .ensures) (c .before .before .before .before .fill-scores .ensures)
+    let at-fill-scores = c .before .before .before .before in
+    let at-copy = at-fill-scores .before .before .before .before .before in
+    let at-start = at-copy .before .before .before .before .before .before .before .before .before in
+    let a = at-start .args in
+    both-written (a .axes) (a .n * a .axes) (a .out .now) (take (a .axes) (a .ev .now)) _ (at-start .pre .0) (length-take-le (a .axes) (a .ev .now) (at-start .pre .2))
+    (length-scores (a .n) (a .columns) (a .p) (a .axes) (a .x .now) (a .mean .now) (a .vs .now)) (at-copy .copy .ensures) (at-fill-scores .fill-scores .ensures)
 
 pub write-scores-spec : {M : Type 1} → statement M
 write-scores-spec =
