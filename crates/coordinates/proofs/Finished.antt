@@ -6,7 +6,8 @@ use lib.ListN.{length, take, drop}
 use lib.Seq.{length-take-le}
 use lib.Ieee.{Float}
 use Rattle.lists.proofs.Rows.{part-rest}
-use Rattle.coordinates.specs.Finish.{signs, scales, shares, coords, finish, laid}
+use Rattle.signs.specs.Signs.{signs}
+use Rattle.coordinates.specs.Finish.{scales, shares, coords, finish, laid}
 
 -- coordinates from the signs and scales of k eigenpairs
 pub placed : (n k : ℕ) (values vectors : List Float) {j : ℕ} {sg sc out : List Float} → j ≡ k → sg ≡ signs n j vectors → sc ≡ scales values → out ≡ coords n k sg sc vectors

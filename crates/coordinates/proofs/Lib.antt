@@ -1,4 +1,2 @@
--- The laws that the proofs of `coordinates` share.
-pub mod Chosen
-pub mod Grids
+-- The two parts of an output.
 pub mod Finished

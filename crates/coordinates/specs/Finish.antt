@@ -1,29 +1,15 @@
--- Section 4, `finish`: signs, shares of the total variance, and coordinates of k eigenpairs, whose vectors are rows of n. Definitions only.
+-- Section 4, `finish`: shares of the total variance, and coordinates of k eigenpairs, whose vectors are rows of n. Definitions only.
 use Prim.Native.Nat.{ℕ}
 use mathlib.Core.Bool.{cond}
 use mathlib.Core.List.{List, _++_, map}
 use lib.ListN.{length, getD}
 use lib.Ieee.{Float, nan, lt}
-use Rattle.float.specs.Floats.{_⊗_, _⊘_, zero⁺, 1·0, -1·0}
-use Rattle.float.specs.Order.{magnitude, larger}
+use Rattle.float.specs.Floats.{_⊗_, _⊘_, zero⁺}
+use Rattle.float.specs.Order.{larger}
 use Rattle.float.specs.Root.{root}
-use Rattle.lists.specs.Loops.{inTurn}
-use Rattle.lists.specs.Ranges.{table, grid}
-use Rattle.lists.specs.Rows.{entry, row}
-
--- the entry of largest magnitude, the first of equals
-unfoldable pub stronger : Float → Float → Float
-stronger m x = cond (lt (magnitude m) (magnitude x)) x m
-
-unfoldable pub largest : List Float → Float
-largest v = inTurn (λ i m. stronger m (getD v i nan)) (length v) zero⁺
-
--- the sign that makes it positive
-unfoldable pub orient : List Float → Float
-orient v = cond (lt (largest v) zero⁺) -1·0 1·0
-
-unfoldable pub signs : ℕ → ℕ → List Float → List Float
-signs n k vectors = table k (λ c. orient (row n c vectors))
+use Rattle.lists.specs.Ranges.{grid}
+use Rattle.lists.specs.Rows.{entry}
+use Rattle.signs.specs.Signs.{signs}
 
 -- the root of a value, of 0 where it is below 0
 unfoldable pub scaleOf : Float → Float

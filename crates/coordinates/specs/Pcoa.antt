@@ -3,12 +3,13 @@ use Prim.Native.Nat.{ℕ}
 use mathlib.Core.List.{List}
 use lib.Ieee.{Float}
 use Rattle.outcome.specs.Outcome.{Outcome, answered, andThen}
+use Rattle.square_matrix.specs.Trace.{trace}
+use Rattle.gower.specs.Centred.{centred}
 use Rattle.topeigs.specs.TopEigs.{topEigs}
 use Rattle.gram.specs.Gram.{gram}
 use Rattle.coordinates.specs.Finish.{Coordinates, finish}
-use Rattle.coordinates.specs.Centred.{centred, trace}
 
--- of an n by n matrix b, by its leading eigenpairs; components above n mean n, and a NaN among the values to be ordered is 11
+-- of an n by n matrix b, by its leading eigenpairs; the total variance is its trace, components above n mean n, and a NaN among the values to be ordered is 11
 unfoldable pub ordinate : ℕ → ℕ → List Float → Outcome Coordinates
 ordinate components n b = andThen (topEigs components n b) (λ p. answered (finish n (trace n b) (p .values) (p .vectors)))
 

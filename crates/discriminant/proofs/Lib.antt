@@ -1,3 +1,3 @@
--- What the outputs hold at each step.
+-- How many columns lead, and outputs whose front is cleared.
 pub mod Leading
 pub mod Outputs

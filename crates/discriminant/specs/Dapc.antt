@@ -9,7 +9,8 @@ use Rattle.lists.specs.Ranges.{table}
 use Rattle.outcome.specs.declared.Refusal.the-variants.{Pivot, Unordered}
 use Rattle.outcome.specs.Outcome.{Outcome, answered, refused, andThen}
 use Rattle.means.specs.Means.{grouped, meanOf, groupMeans}
-use Rattle.scatter.specs.Scatter.{scatterWithin, scatterBetween, ridged}
+use Rattle.ridge.specs.Ridge.{ridged}
+use Rattle.scatter.specs.Scatter.{scatterWithin, scatterBetween}
 use Rattle.triangular.specs.Triangular.{solveRows}
 use Rattle.whitening.specs.Whitened.{whitened}
 use Rattle.cholesky.specs.Cholesky.{factor, pivotFails}

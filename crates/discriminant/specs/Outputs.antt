@@ -41,6 +41,10 @@ called r out assigned = record { answer = outcomeOf r; out = out; assigned = ass
 abbrev pub refusal : Refusal → List Float → List ℕ → Called
 refusal r out assigned = record { answer = refused r; out = out; assigned = assigned }
 
+-- scores told, with outputs that hold these
+abbrev pub scored : ℕ → ℕ → ℕ → List Float → List ℕ → Called
+scored p axes right out assigned = record { answer = answered (record { columns = p; axes = axes; right = right }); out = out; assigned = assigned }
+
 -- ---- below the table: what `discriminate` asks of its arguments, with outputs of these lengths. p columns lead, and there are g groups.
 pub record Ready (columns p axes g : ℕ) (x : List Float) (groups : List ℕ) (out assigned : ℕ) : Type 0 where
   pub coordinates : length x ≡ length groups * columns

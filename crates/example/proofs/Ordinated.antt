@@ -17,7 +17,7 @@ use Rattle.diagonal.specs.Sweeps.{squaresBut, offDiagonal, sweepsFrom}
 use Rattle.diagonal.specs.Diagonal.{unit, identity, diagonal}
 use Rattle.jacobi.specs.Eigen.{eigenpairs, jacobi}
 use Rattle.topeigs.specs.TopEigs.{topEigs}
-use Rattle.coordinates.specs.Centred.{squares, mean, rowMeans, centring, centredAt, centred}
+use Rattle.gower.specs.Centred.{squares, mean, rowMeans, centring, centredAt, centred}
 use Rattle.coordinates.specs.Pcoa.{ordinate, pcoa}
 use Rattle.every_way.specs.Exhaustive.{coordinates}
 use Rattle.example.proofs.Reading.{distances, lot}

@@ -2,10 +2,7 @@
 use mathlib.Core.Path.{_≡_, refl, sym, ap, ap₂, _∙_}
 use mathlib.Core.Bool.{Bool, true, false, cond}
 use mathlib.Core.List.{List}
-use Prim.Native.Nat.{ℕ, _*_, _/_, _<_, _≤_, min}
-use native.Mathlib.Omega.{arith}
-use borrow.Author.Tests.{lt-ltb, le-ltb, ltb-true, ltb-false}
-use lib.Dec.{ltb}
+use Prim.Native.Nat.{ℕ, _*_, min}
 use lib.ListN.{length, take, replicate}
 use lib.Ieee.{Float}
 use Rattle.float.specs.Floats.{zero⁺}
@@ -29,17 +26,16 @@ use Rattle.gram.specs.Call.{features, outcomeOf, Checked}
 use Rattle.sets.proofs.Tables.{refusal-untouched, judged-passes, judged-refused}
 use Rattle.sets.proofs.Accepted.{Accepted, accepted}
 use Rattle.gram.proofs.Answers.{checked-gram}
-use Rattle.lists.proofs.Truths.{or-neither}
+use Rattle.ordination_lines.specs.Lengths.{lacking}
+use Rattle.ordination_lines.specs.Lines.{badComponents}
 use Rattle.coordinates.specs.Finish.{Coordinates}
 use Rattle.coordinates.specs.Pcoa.{ordinate, hashPca}
 use Rattle.pcoa.specs.Given.{written}
 use Rattle.pcoa.specs.Call as of-pcoa
-use Rattle.pcoa.specs.Call.{tooShort, badComponents}
 use Rattle.pcoa.proofs.Late.{Late, late-work}
 use Rattle.pcoa.proofs.Call.{late-ordinate, leaves-same}
-use Rattle.pcoa.proofs.Lines.{long-enough}
-use Rattle.hash_pca.specs.Matrix.{matrixCall, Lent}
-use Rattle.hash_pca.specs.Call.{lacking, Called, called, leaves, judgedCall, hashPcaCall}
+use Rattle.hash_pca.specs.Matrix.{matrixCall}
+use Rattle.hash_pca.specs.Call.{Called, called, leaves, judgedCall, hashPcaCall}
 
 -- ---- the matrix
 
@@ -170,29 +166,6 @@ pub said-passed : (f : ℕ) {c : Check} → c ≡ Passed → (o : Outcome Coordi
 unfolding andThen
 said-passed f e (answered x) h = refl
 said-passed f e (refused s) h = cc
-
--- ---- lengths
-
-pub lacking-first : (k n out b w m v words : ℕ) → tooShort k n out b w m v ≡ true → true ≡ lacking k n out b w m v words
-unfolding lacking
-lacking-first k n out b w m v words h = rw h
-
-pub lacking-words : (k n out b w m v words : ℕ) {t : Bool} → tooShort k n out b w m v ≡ false → t ≡ ltb words (n * 64) → t ≡ lacking k n out b w m v words
-unfolding lacking
-lacking-words k n out b w m v words h e = rw h e
-
-pub words-test : (words n : ℕ) → ltb (words / 64) n ≡ ltb words (n * 64)
-words-test words n = by (ltb (words / 64) n) refl
-  where
-    by : (t : Bool) → ltb (words / 64) n ≡ t → t ≡ ltb words (n * 64)
-    by true h = let few : words / 64 < n = ltb-true _ _ h in sym (lt-ltb words (n * 64) (omega arith))
-    by false h = let many : n ≤ words / 64 = ltb-false _ _ h in sym (le-ltb words (n * 64) (omega arith))
-
-pub lent : (k n out b w m v words : ℕ) → lacking k n out b w m v words ≡ false → Lent k n out b w m v words
-unfolding lacking
-lent k n out b w m v words e =
-    let s = or-neither (tooShort k n out b w m v) (ltb words (n * 64)) e in
-    record { room = long-enough k n out b w m v (s .0); sets = ltb-false _ _ (s .1) }
 
 -- ---- the whole call
 

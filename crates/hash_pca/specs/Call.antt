@@ -1,8 +1,7 @@
 -- Section 4: a whole call of `hash_pca`, its answer and what all that is lent holds afterwards (document 01, the table and below it). Definitions only.
-use Prim.Native.Nat.{ℕ, _*_, min}
-use mathlib.Core.Bool.{Bool, _||_}
+use Prim.Native.Nat.{ℕ, min}
+use mathlib.Core.Bool.{Bool}
 use mathlib.Core.List.{List}
-use lib.Dec.{ltb}
 use lib.ListN.{length}
 use lib.Ieee.{Float}
 use Rattle.float.specs.Floats.{zero⁺}
@@ -13,14 +12,11 @@ use Rattle.gram.specs.declared.Answer.{Answer}
 use Rattle.hashes.specs.Selected.{selected}
 use Rattle.sets.specs.Lines.{gramLines}
 use Rattle.gram.specs.Call.{outcomeOf}
+use Rattle.ordination_lines.specs.Lengths.{lacking}
+use Rattle.ordination_lines.specs.Lines.{badComponents}
 use Rattle.coordinates.specs.Finish.{Coordinates}
 use Rattle.coordinates.specs.Pcoa.{hashPca}
 use Rattle.pcoa.specs.Given.{written}
-use Rattle.pcoa.specs.Call.{tooShort, badComponents}
-
--- an output or work slice of this length is short; `words` must hold 64 words for each sample
-unfoldable pub lacking : ℕ → ℕ → ℕ → ℕ → ℕ → ℕ → ℕ → ℕ → Bool
-lacking k n out b w m v words = tooShort k n out b w m v || ltb words (n * 64)
 
 -- the answer, the number of selected hashes or a refusal, and the slices afterwards
 pub record Called : Type 0 where

@@ -6,8 +6,9 @@ ghost use mathlib.Core.Bool.{false};
 ghost use Prim.Native.Nat.{_+_, _*_, _≤_, min};
 ghost use lib.ListN.{length};
 ghost use Rattle.gram.specs.Call as gram;
-ghost use Rattle.hash_pca.specs.Matrix.{Lent, matrixCall};
-ghost use Rattle.hash_pca.specs.Call.{lacking, called, judgedCall, hashPcaCall};
+ghost use Rattle.ordination_lines.specs.Lengths.{Lent};
+ghost use Rattle.hash_pca.specs.Matrix.{matrixCall};
+ghost use Rattle.hash_pca.specs.Call.{called, judgedCall, hashPcaCall};
 
 // ---- the matrix
 
@@ -160,26 +161,6 @@ fn ordinate_sets(
     }
 }
 
-// Whether a slice of these lengths is short; n * n and n * 64 must not wrap.
-fn is_lacking(
-    n: usize,
-    k: usize,
-    out: usize,
-    b: usize,
-    w: usize,
-    m: usize,
-    v: usize,
-    words: usize,
-) -> bool
-    requires { ⌜ k ≤ n ⌝ }
-    ensures { λ r. ⌜ r ≡ lacking k n out b w m v words ⌝ }
-{
-    if pcoa::too_short(n, k, out, b, w, m, v) {
-        return true;
-    }
-    words / 64 < n
-}
-
 // The coordinates of n samples on the leading components, by their sets of hashes: the set i has the hashes from offsets[i] to offsets[i + 1]. `out` gets k
 // values, k variance shares and coordinates n by k, where k is `components`, or n if that is less. The other slices are work: `b`, `m` and `v` of n * n
 // entries, `w` of n + n * n, `words` of 64 * n. The answer is the number of selected hashes.
@@ -198,8 +179,8 @@ pub fn hash_pca(
     ensures { λ r. ⌜ called r (now (out .exit)) (now (b .exit)) (now (w .exit)) (now (m .exit)) (now (v .exit)) (now (words .exit))
         ≡ hashPcaCall components n (now (hashes .entry)) (now (offsets .entry)) (now (out .entry)) (now (b .entry)) (now (w .entry)) (now (m .entry)) (now (v .entry)) (now (words .entry)) ⌝ }
 {
-    let k = pcoa::leading(components, n);
-    let short = is_lacking(
+    let k = ordination_lines::leading(components, n);
+    let short = ordination_lines::is_lacking(
         n,
         k,
         out.len(),
@@ -209,6 +190,6 @@ pub fn hash_pca(
         v.len(),
         words.len(),
     );
-    let beyond = pcoa::bad_components(components);
+    let beyond = ordination_lines::bad_components(components);
     ordinate_sets(hashes, offsets, n, k, short, beyond, out, b, w, m, v, words)
 }

@@ -1,12 +1,12 @@
 -- What a call finds, and what it leaves in everything lent. Assumes nothing.
 use mathlib.Core.Path.{_≡_, refl, sym, ap, ap₂, _∙_}
-use mathlib.Core.Bool.{Bool, true, false, cond}
+use mathlib.Core.Bool.{Bool, true, false}
 use mathlib.Core.List.{List, _++_}
 use Prim.Native.Nat.{ℕ, _+_, _*_, _≤_}
 use native.Mathlib.Omega.{arith}
 use borrow.Author.Tests.{not-false, eqb-true, ltb-false}
 use lib.Dec.{ltb}
-use lib.ListN.{length, take, drop, replicate, length-map, length-append, length-replicate, take-append-drop}
+use lib.ListN.{length, take, drop, replicate, length-map, length-append, length-replicate}
 use lib.Seq.{take-at, drop-at}
 use lib.Ieee.{Float, isNan}
 use Rattle.float.specs.Floats.{zero⁺}
@@ -27,10 +27,10 @@ use Rattle.rotation.specs.Rotation.{turned}
 use Rattle.diagonal.specs.Sweeps.{Swept, swept, sweepsFrom}
 use Rattle.diagonal.specs.Diagonal.{identity, diagonal}
 use Rattle.descending.specs.Descending.{descending, valuesIn, vectorsIn}
+use Rattle.jacobi.proofs.Front.{output-front}
 use Rattle.jacobi.specs.Eigen.{Eigen, eigenpairs, jacobi}
 use Rattle.jacobi.specs.Call.{misfits, jacobiLines, sweepsOf, written, Called, leaves, jacobiCall, outcomeOf, called, eigenOf, Solved, solved, solution}
 use Rattle.matrix.specs.Finite.{notFinite}
-use Rattle.lists.proofs.Parts.{over-front}
 use Rattle.lists.proofs.Truths.{or-neither}
 use Rattle.outcome.proofs.Table.{first-passed, first-untouched}
 use Rattle.descending.proofs.Order.{length-descending, descending-below}
@@ -110,23 +110,14 @@ unfolding sweepsOf andThen
 sweeps-read n (Sweeps k) out = refl
 sweeps-read n (Refused r) out = refl
 
--- the first part written, and the rest
-written-front : (n : ℕ) (out : List Float) {part : List Float} (o : Outcome Eigen) → length part ≡ n + n * n → part ≡ written n o (take (n + n * n) out)
-    → part ++ drop (n + n * n) out ≡ written n o out
-unfolding written output over
-written-front n out {part} (answered e) many f =
-    let k = n + n * n in
-    let new = e .values ++ e .vectors in
-    let whole = ap length f ∙ length-append new (drop (length new) (take k out)) in
-    ap (λ (t : List Float). t ++ drop k out) f ∙ over-front new out k (omega arith)
-written-front n out {part} (refused r) many f = by (untouched r) f
+-- the eigenpairs are refused for a NaN alone
+pub only-unordered : (n : ℕ) (a : List Float) (r : Refusal) → refused r ≡ jacobi n a → r ≡ Unordered
+unfolding jacobi eigenpairs
+only-unordered n a r e = by (any isNan (diagonal n (sweepsFrom 100 n 0 (turned a (identity n)) .left .matrix))) _ e
   where
-    by : (t : Bool) → part ≡ cond t (take (n + n * n) out) (over (replicate (n + n * n) zero⁺) (take (n + n * n) out))
-        → part ++ drop (n + n * n) out ≡ cond t out (over (replicate (n + n * n) zero⁺) out)
-    by true f = ap (λ (t : List Float). t ++ drop (n + n * n) out) f ∙ take-append-drop (n + n * n) out
-    by false f =
-        let zeros = length-replicate (n + n * n) zero⁺ in
-        ap (λ (t : List Float). t ++ drop (n + n * n) out) f ∙ over-front (replicate (n + n * n) zero⁺) out (n + n * n) (omega arith)
+    by : (b : Bool) (found : Eigen) → _≡_ {A = Outcome Eigen} (refused r) (elim b as (λ b. Outcome Eigen) [ true ↦ refused Unordered | false ↦ answered found ]) → r ≡ Unordered
+    by true found e = cc
+    by false found e = cc
 
 -- 11 and an answer alike clear the work
 jacobi-work : (n : ℕ) (a l : List Float) → cleared zero⁺ l ≡ work zero⁺ (jacobi n a) l
@@ -140,11 +131,11 @@ jacobi-work n a l = by (sweepsFrom 100 n 0 (turned a (identity n))) _ refl
 module _ (n : ℕ) (a out m v : List Float) where
   pub solved-leaves : (r : Answer) {part m′ v′ : List Float} → solved n r part ≡ solution n a (take (n + n * n) out) → length part ≡ n + n * n
       → m′ ≡ cleared zero⁺ m → v′ ≡ cleared zero⁺ v → called r (part ++ drop (n + n * n) out) m′ v′ ≡ leaves n (jacobi n a) out m v
-  unfolding leaves
+  unfolding leaves written
   solved-leaves r {part} {m′} {v′} e many hm hv =
       let found = solved-found n a (take (n + n * n) out) r e in
       let answer : outcomeOf r ≡ sweepsOf (jacobi n a) = sweeps-read n r part ∙ ap sweepsOf found in
-      let first : part ++ drop (n + n * n) out ≡ written n (jacobi n a) out = written-front n out (jacobi n a) many (solved-out n a (take (n + n * n) out) r e) in
+      let first : part ++ drop (n + n * n) out ≡ written n (jacobi n a) out = output-front (λ e. e .values ++ e .vectors) (n + n * n) (jacobi n a) out many (solved-out n a (take (n + n * n) out) r e) in
       let m-is : m′ ≡ work zero⁺ (jacobi n a) m = hm ∙ jacobi-work n a m in
       let v-is : v′ ≡ work zero⁺ (jacobi n a) v = hv ∙ jacobi-work n a v in
       λ i. record { answer = answer i; out = first i; m = m-is i; v = v-is i }

@@ -1,3 +1,4 @@
 -- What the proofs of the functions share.
+pub mod Front
 pub mod Call
 pub mod Cases

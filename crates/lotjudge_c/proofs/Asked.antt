@@ -13,8 +13,7 @@ use Rattle.outcome.specs.Outcome.{Outcome, answered, refused}
 use Rattle.judgement.specs.declared.Judgement.{Judgement}
 use Rattle.sampled.specs.Call as test
 use Rattle.every_way.specs.Call as ways
-use Rattle.pcoa.specs.Call as pcoa
-use Rattle.hash_pca.specs.Call as hashes
+use Rattle.ordination_lines.specs.Lengths.{tooShort, lacking}
 use Rattle.dapc_lines.specs.DapcLines as dapc
 use Rattle.printing.specs.Hex.{hex}
 use Rattle.printing.specs.Printed.{testedLine, assignedLine, verdictLines, refusalLine, printed}
@@ -57,8 +56,8 @@ pub ways-asks : (n : ℕ) (s : ways.Slices) → ways.tooShort n s ≡ short (len
 unfolding ways.tooShort ways.lentOf ways.lengthsOf lent lengthsIn waysLengths
 ways-asks n s = refl
 
-pub pcoa-asks : (k n out b w m v : ℕ) → pcoa.tooShort k n out b w m v ≡ short (lent (out ∷ b ∷ w ∷ m ∷ v ∷ []) (pcoaLengths n k))
-unfolding pcoa.tooShort lent pcoaLengths
+pub pcoa-asks : (k n out b w m v : ℕ) → tooShort k n out b w m v ≡ short (lent (out ∷ b ∷ w ∷ m ∷ v ∷ []) (pcoaLengths n k))
+unfolding tooShort lent pcoaLengths
 pcoa-asks k n out b w m v = refl
 
 -- one slice more
@@ -76,8 +75,8 @@ one-more (y ∷ l) x = by (ltb (y .has) (y .asked)) (short l) (ltb (x .has) (x .
     by false b c d e = e
 
 pub hash-pca-asks : (k n out b w m v words : ℕ)
-    → hashes.lacking k n out b w m v words ≡ short (lent (out ∷ b ∷ w ∷ m ∷ v ∷ words ∷ []) (hashPcaLengths n k))
-unfolding hashes.lacking lent pcoaLengths hashPcaLengths
+    → lacking k n out b w m v words ≡ short (lent (out ∷ b ∷ w ∷ m ∷ v ∷ words ∷ []) (hashPcaLengths n k))
+unfolding lacking lent pcoaLengths hashPcaLengths
 hash-pca-asks k n out b w m v words =
     ap (λ (s : Bool). s || ltb words (n * 64)) (pcoa-asks k n out b w m v) ∙ one-more (lent (out ∷ b ∷ w ∷ m ∷ v ∷ []) (pcoaLengths n k)) (words of n * 64)
 

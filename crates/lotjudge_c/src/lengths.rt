@@ -4,7 +4,7 @@ ghost use mathlib.Core.Path.{_≡_};
 ghost use mathlib.Core.Bool.{_||_};
 ghost use Prim.Native.Nat.{_+_, _*_, _≤_, min};
 ghost use lib.Dec.{ltb};
-ghost use Rattle.pcoa.specs.Call.{badComponents};
+ghost use Rattle.ordination_lines.specs.Lines.{badComponents};
 ghost use Rattle.lotjudge_c.specs.Lengths.{testLengths, waysLengths, pcoaLengths, hashPcaLengths, dapcLengths, judgeLength, tell, told};
 
 #[no_mangle]
@@ -38,7 +38,7 @@ fn is_beyond(n: usize, components: usize) -> bool
     if 256 < n {
         return true;
     }
-    pcoa::bad_components(components)
+    ordination_lines::bad_components(components)
 }
 
 // k values, k shares and coordinates n by k.
@@ -56,7 +56,7 @@ pub extern "C" fn lotjudge_pcoa_lengths(n: usize, components: usize, lengths: &m
     if is_beyond(n, components) {
         return 2;
     }
-    let k = pcoa::leading(components, n);
+    let k = ordination_lines::leading(components, n);
     let out = ordination(n, k);
     let q = n * n;
     *lengths = [out, q, n + q, q, q];
@@ -74,7 +74,7 @@ pub extern "C" fn lotjudge_hash_pca_lengths(
     if is_beyond(n, components) {
         return 2;
     }
-    let k = pcoa::leading(components, n);
+    let k = ordination_lines::leading(components, n);
     let out = ordination(n, k);
     let q = n * n;
     *lengths = [out, q, n + q, q, q, n * 64];

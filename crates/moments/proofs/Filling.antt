@@ -6,7 +6,8 @@ use lib.ListN.{length}
 use lib.Ieee.{Float}
 use Rattle.lot.specs.Kept.{sizes}
 use Rattle.means.specs.Means.{meanOf, groupMeans}
-use Rattle.scatter.specs.Scatter.{scatterWithin, scatterBetween, ridged}
+use Rattle.ridge.specs.Ridge.{ridged}
+use Rattle.scatter.specs.Scatter.{scatterWithin, scatterBetween}
 use Rattle.moments.specs.Moments.{Filled}
 
 pub filled-is : (columns p g : ℕ) (x : List Float) (groups : List ℕ) {mean mu sw sb : List Float} {counts : List ℕ} → mean ≡ meanOf columns p x groups

@@ -6,7 +6,8 @@ use lib.ListN.{length}
 use lib.Ieee.{Float}
 use Rattle.lot.specs.Kept.{sizes}
 use Rattle.means.specs.Means.{meanOf, groupMeans}
-use Rattle.scatter.specs.Scatter.{scatterWithin, scatterBetween, ridged}
+use Rattle.ridge.specs.Ridge.{ridged}
+use Rattle.scatter.specs.Scatter.{scatterWithin, scatterBetween}
 
 -- what there is to know of the samples before the matrix is factored
 pub record Filled (columns p g : ℕ) (x : List Float) (groups : List ℕ) (mean : List Float) (counts : List ℕ) (sw sb : List Float) : Type 0 where

@@ -1,7 +1,15 @@
-// Calls of `pcoa` and `hash_pca`: for each its answer, the output, and whether work slices are all zero, all as they were (7), or neither.
+// Calls of section 4's operations: `jacobi_eigen` and `gram_matrix` in modules, and here `pcoa` and `hash_pca`: for each its answer, the output, and
+// whether work slices are all zero, all as they were (7), or neither.
+mod eigenpairs;
+mod grams;
+mod shown;
+
 use gram::Answer;
 use libc::STDOUT_FILENO;
 use outcome::Check;
+use shown::all_are;
+use shown::all_words;
+use shown::show;
 
 // The answer: what was passed or the number of the refusal.
 fn show_check(r: Check) {
@@ -29,42 +37,6 @@ fn show_answer(r: Answer) {
         }
     }
     io::write_all(STDOUT_FILENO, b"\n");
-}
-
-// The bits of x, or `nan`.
-fn show_number(x: f64) {
-    io::write_all(STDOUT_FILENO, b" ");
-    if x != x {
-        io::write_all(STDOUT_FILENO, b"nan");
-        return;
-    }
-    io::print_hex(STDOUT_FILENO, f64::to_bits(x), 16);
-}
-
-fn show(s: &[f64]) {
-    for i in 0..s.len() {
-        show_number(s[i]);
-    }
-    io::write_all(STDOUT_FILENO, b"\n");
-}
-
-// Whether every entry is x.
-fn all_are(s: &[f64], x: f64) -> bool {
-    for i in 0..s.len() {
-        if s[i] != x {
-            return false;
-        }
-    }
-    true
-}
-
-fn all_words(s: &[u64], x: u64) -> bool {
-    for i in 0..s.len() {
-        if s[i] != x {
-            return false;
-        }
-    }
-    true
 }
 
 // A work slice: zero, as it was, or neither.
@@ -210,6 +182,8 @@ fn sets() {
 }
 
 fn main() {
+    eigenpairs::run();
+    grams::run();
     answers();
     bounds();
     refusals();

@@ -17,14 +17,17 @@ use Rattle.outcome.specs.Refusals.{first}
 use Rattle.outcome.specs.Outcome.{Outcome, answered, refused, judged, andThen, checkOf}
 use Rattle.outcome.specs.Slices.{untouched, output, work}
 use Rattle.outcome.proofs.Table.{first-untouched}
+use Rattle.jacobi.proofs.Front.{output-front}
 use Rattle.topeigs.specs.TopEigs.{topEigs}
 use Rattle.topeigs.proofs.Whole.{top-min}
 use Rattle.coordinates.specs.Finish.{Coordinates, finish, laid}
-use Rattle.coordinates.specs.Centred.{trace, centred}
+use Rattle.square_matrix.specs.Trace.{trace}
+use Rattle.gower.specs.Centred.{centred}
 use Rattle.coordinates.specs.Pcoa.{ordinate, pcoa}
 use Rattle.pcoa.specs.Given.{written, coordinatesOf, Given, given, gives}
-use Rattle.pcoa.specs.Call.{pcoaLines, Called, called, leaves, pcoaCall}
-use Rattle.pcoa.proofs.Late.{Late, late-then, late-top, late-work, output-front}
+use Rattle.ordination_lines.specs.Lines.{pcoaLines}
+use Rattle.pcoa.specs.Call.{Called, called, leaves, pcoaCall}
+use Rattle.pcoa.proofs.Late.{Late, late-then, late-top, late-work}
 
 check-read : (k : ℕ) (r : Check) (out : List Float) → r ≡ checkOf (coordinatesOf k r out)
 check-read k Passed out = refl

@@ -18,8 +18,10 @@ use Rattle.outcome.specs.Slices.{output}
 use Rattle.ritz.specs.Ritz.{Pairs}
 use Rattle.ritz.specs.Given as pairs
 use Rattle.topeigs.specs.TopEigs.{topEigs}
-use Rattle.coordinates.specs.Finish.{signs, scales, shares, coords, Coordinates, finish, laid}
-use Rattle.coordinates.specs.Centred.{trace, centred}
+use Rattle.signs.specs.Signs.{signs}
+use Rattle.coordinates.specs.Finish.{scales, shares, coords, Coordinates, finish, laid}
+use Rattle.square_matrix.specs.Trace.{trace}
+use Rattle.gower.specs.Centred.{centred}
 use Rattle.coordinates.specs.Pcoa.{ordinate, pcoa}
 use Rattle.pcoa.specs.Given.{written, coordinatesOf, Given, given, gives}
 use Rattle.pcoa.proofs.Late.{Late, late-then, late-top, late-output}

@@ -1,11 +1,11 @@
 -- Past the table an operation is refused by 10 or 11 alone: outputs and work are zero then, and the work is zero either way. Assumes nothing.
 use mathlib.Core.Path.{_≡_, refl, sym, ap, _∙_}
 use mathlib.Core.Bool.{Bool, true, false, cond}
-use mathlib.Core.List.{List, _++_}
+use mathlib.Core.List.{List}
 use Prim.Native.Nat.{ℕ, _+_, min}
 use native.Mathlib.Omega.{arith}
 use lib.Dec.{leb}
-use lib.ListN.{length, take, drop, replicate, length-append, length-replicate, take-append-drop}
+use lib.ListN.{length, replicate, length-replicate}
 use lib.Ieee.{Float, isNan}
 use Rattle.float.specs.Floats.{zero⁺}
 use Rattle.lists.specs.Filters.{any}
@@ -18,7 +18,6 @@ use Rattle.diagonal.specs.Sweeps.{Swept, sweepsFrom}
 use Rattle.rotation.specs.Rotation.{turned}
 use Rattle.diagonal.specs.Diagonal.{identity, diagonal}
 use Rattle.jacobi.specs.Eigen.{eigenpairs, jacobi}
-use Rattle.lists.proofs.Parts.{over-front}
 use Rattle.ritz.specs.Ritz.{Pairs, rayleighRitz}
 use Rattle.leading.specs.Leading.{leading}
 use Rattle.subspace.specs.Subspace.{byBlock}
@@ -66,16 +65,3 @@ pub late-output : {A : Type 0} (part : A → List Float) (k : ℕ) (o : Outcome 
 unfolding output
 late-output part k (answered a) out e h many f = cc
 late-output part k (refused r) out e h many f = zeroed k out many f ∙ sym (ap (λ (b : Bool). cond b out (over (replicate k zero⁺) out)) h)
-
--- the first part of a longer output was lent, and comes back
-pub output-front : {A : Type 0} (part : A → List Float) (k : ℕ) (o : Outcome A) (out : List Float) {new : List Float} → length new ≡ k
-    → new ≡ output zero⁺ part k o (take k out) → new ++ drop k out ≡ output zero⁺ part k o out
-unfolding output over
-output-front part k (answered a) out many f =
-    let whole = ap length f ∙ length-append (part a) (drop (length (part a)) (take k out)) in
-    ap (λ (t : List Float). t ++ drop k out) f ∙ over-front (part a) out k (omega arith)
-output-front part k (refused r) out {new} many f = by (untouched r) f
-  where
-    by : (t : Bool) → new ≡ cond t (take k out) (over (replicate k zero⁺) (take k out)) → new ++ drop k out ≡ cond t out (over (replicate k zero⁺) out)
-    by true f = ap (λ (t : List Float). t ++ drop k out) f ∙ take-append-drop k out
-    by false f = let zeros = length-replicate k zero⁺ in ap (λ (t : List Float). t ++ drop k out) f ∙ over-front (replicate k zero⁺) out k (omega arith)

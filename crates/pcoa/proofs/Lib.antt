@@ -2,4 +2,3 @@
 pub mod Late
 pub mod Found
 pub mod Call
-pub mod Lines

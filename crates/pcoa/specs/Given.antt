@@ -1,5 +1,5 @@
--- How an inner function says which coordinates it found: by what it returns, and by an output of just k + k + n * k entries. Definitions and statements only.
-use Prim.Native.Nat.{ℕ, _+_, _*_, _≤_}
+-- How an inner function says which coordinates it found: by what it returns, and by an output of just k + k + n * k entries. Definitions only.
+use Prim.Native.Nat.{ℕ, _+_, _*_}
 use mathlib.Core.List.{List}
 use lib.ListN.{take, drop}
 use lib.Ieee.{Float}
@@ -30,11 +30,3 @@ given k r out = record { found = coordinatesOf k r out; out = out }
 -- the meaning of a call that finds o
 unfoldable pub gives : ℕ → ℕ → Outcome Coordinates → List Float → Given
 gives k n o out = record { found = o; out = written k n o out }
-
--- slices of these lengths are long enough for n samples on k components
-pub record Room (k n out b w m v : ℕ) : Type 0 where
-  pub out-fits : k + k + n * k ≤ out
-  pub b-fits : n * n ≤ b
-  pub w-fits : n + n * n ≤ w
-  pub m-fits : n * n ≤ m
-  pub v-fits : n * n ≤ v

@@ -1,15 +1,13 @@
 -- Which pairs are found, by what Jacobi answers. Assumes nothing.
 use mathlib.Core.Path.{_≡_, sym, ap, _∙_}
-use mathlib.Core.Bool.{Bool, true, false}
 use mathlib.Core.List.{List, _++_}
 use Prim.Native.Nat.{ℕ, _+_, _*_, _≤_}
 use native.Mathlib.Nat.{mul-le-mul}
 use native.Mathlib.Omega.{arith}
 use lib.ListN.{length, take, drop, replicate, length-append, length-replicate}
 use lib.Seq.{take-at, drop-at}
-use lib.Ieee.{Float, isNan}
+use lib.Ieee.{Float}
 use Rattle.float.specs.Floats.{zero⁺}
-use Rattle.lists.specs.Filters.{any}
 use Rattle.lists.specs.Writes.{over, cleared}
 use Rattle.lists.proofs.Writes.{over-all}
 use Rattle.outcome.specs.declared.Refusal.{Refusal}
@@ -17,28 +15,17 @@ use Rattle.outcome.specs.declared.Refusal.the-variants.{Unordered}
 use Rattle.outcome.specs.declared.Check.the-variants.{Passed, Refused}
 use Rattle.outcome.specs.Outcome.{Outcome, answered, refused, andThen}
 use Rattle.outcome.specs.Slices.{output}
-use Rattle.rotation.specs.Rotation.{turned}
-use Rattle.diagonal.specs.Sweeps.{sweepsFrom}
 use Rattle.jacobi.specs.declared.Answer.{Answer}
 use Rattle.jacobi.specs.declared.Answer.the-variants as jacobi-answers
-use Rattle.jacobi.specs.Eigen.{Eigen, eigenpairs, jacobi}
-use Rattle.diagonal.specs.Diagonal.{identity, diagonal}
+use Rattle.jacobi.specs.Eigen.{Eigen, jacobi}
 use Rattle.jacobi.specs.Call.{eigenOf}
+use Rattle.jacobi.proofs.Call.{only-unordered}
 use Rattle.ritz.specs.Ritz.{Pairs}
 use Rattle.ritz.specs.Given.{written, given, gives}
 
 -- a block has at most 24 columns
 pub small-square : {b : ℕ} → b ≤ 24 → b * b ≤ 576
 small-square h = mul-le-mul h h
-
--- the eigenpairs are refused for a NaN alone
-pub only-unordered : (n : ℕ) (a : List Float) (r : Refusal) → refused r ≡ jacobi n a → r ≡ Unordered
-unfolding jacobi eigenpairs
-only-unordered n a r e = by (any isNan (diagonal n (sweepsFrom 100 n 0 (turned a (identity n)) .left .matrix))) _ e
-  where
-    by : (b : Bool) (found : Eigen) → _≡_ {A = Outcome Eigen} (refused r) (elim b as (λ b. Outcome Eigen) [ true ↦ refused Unordered | false ↦ answered found ]) → r ≡ Unordered
-    by true found e = cc
-    by false found e = cc
 
 -- An output of just the length, by what is found: zeros on 11, else the values and the vectors.
 module _ (k n : ℕ) (out : List Float) (len : length out ≡ k + k * n) {out′ : List Float} where

@@ -6,7 +6,8 @@ use lib.ListN.{take}
 use lib.Ieee.{Float}
 use Rattle.outcome.specs.Outcome.{Outcome, answered, andThen}
 use Rattle.jacobi.specs.Eigen.{jacobi}
-use Rattle.small.specs.Small.{smallMatrix, symmetrised}
+use Rattle.square_matrix.specs.Symmetric.{symmetrised}
+use Rattle.small.specs.Small.{smallMatrix}
 use Rattle.combined.specs.Combined.{combined}
 
 -- k values, and k vectors as rows of n

@@ -6,7 +6,8 @@ ghost use Prim.Native.Nat.{_+_, _*_, _≤_};
 ghost use lib.ListN.{length};
 ghost use Rattle.jacobi.specs.Eigen.{jacobi};
 ghost use Rattle.jacobi.specs.Call.{eigenOf};
-ghost use Rattle.small.specs.Small.{smallMatrix, symmetrised};
+ghost use Rattle.square_matrix.specs.Symmetric.{symmetrised};
+ghost use Rattle.small.specs.Small.{smallMatrix};
 ghost use Rattle.ritz.specs.Ritz.{rayleighRitz};
 ghost use Rattle.ritz.specs.Given.{given, gives};
 
@@ -30,7 +31,7 @@ fn decompose(
     ensures { λ r. ⌜ eigenOf b r (now (pairs .exit)) ≡ jacobi b (symmetrised b (smallMatrix n b (now (q .entry)) (now (aq .entry)))) ⌝ }
 {
     small::fill_small(t, q, aq, n, b);
-    small::symmetrise(t, b);
+    square_matrix::symmetrise(t, b);
     jacobi::eigen(t, b, pairs, m, v, row, order)
 }
 

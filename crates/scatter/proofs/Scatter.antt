@@ -1,26 +1,24 @@
 -- A sample more in the scatter within groups, a group more in that between them. Assumes nothing.
 -- `d` has how far the sample, or the group, is from the mean; `&x[i * columns..i * columns + p]` is lent as `take .. (drop ..)`.
 use mathlib.Core.Path.{_≡_, refl, sym, ap, ap₂, subst, _∙_}
-use mathlib.Core.Bool.{Bool, true, cond}
+use mathlib.Core.Bool.{Bool, true}
 use mathlib.Core.List.{List, [], _∷_, map}
 use Prim.Native.Nat.{ℕ, _+_, _*_, _<_, _≤_}
 use native.Mathlib.Omega.{arith}
-use lib.Dec.{eqb}
 use lib.ListN.{length, getD, replicate}
 use lib.Ieee.{Float, nan}
-use Rattle.float.specs.Floats.{_⊕_, _⊖_, _⊗_, _⊘_, num, zero⁺, 1e-8, 1e-12}
-use Rattle.float.specs.Order.{larger}
+use Rattle.float.specs.Floats.{_⊕_, _⊖_, _⊗_, num, zero⁺}
 use Rattle.lists.specs.Ranges.{range, table, grid}
 use Rattle.lists.specs.Filters.{keep}
 use Rattle.lists.specs.Numbers.{members}
-use Rattle.lists.specs.Sums.{sumFrom, sum⁻}
+use Rattle.lists.specs.Sums.{sumFrom}
 use Rattle.lists.specs.Rows.{entry}
 use Rattle.lists.proofs.Ranges.{getD-table, table-ext}
 use Rattle.lists.proofs.Sums.{sum-table}
 use Rattle.lot.specs.Lot.{none}
 use Rattle.lot.specs.Kept.{sizes}
 use Rattle.means.specs.Means.{grouped}
-use Rattle.scatter.specs.Scatter.{off, groupOff, scatterWithin, scatterBetween, ridge, ridged}
+use Rattle.scatter.specs.Scatter.{off, groupOff, scatterWithin, scatterBetween}
 use Rattle.lists.proofs.Grids.{part-entry, grid-ext, entry-replicate}
 use Rattle.means.proofs.Adding.{Adding, adding-grid, adding-pass, adding-all, cellSum}
 use Rattle.means.proofs.Counting.{length-sizes, getD-sizes}
@@ -134,12 +132,3 @@ between-is p g groups mu mean {m₀} {m} {counts} blank e is =
     (ap (λ (n : ℕ). table n (λ j. term (getD counts j 0) a b j)) (ap length e ∙ length-sizes groups (length groups) g)
     ∙ table-ext (λ j. term (getD counts j 0) a b j) (λ j. term (length (members groups (length groups) j)) a b j) g
     (λ j y. ap (λ (n : ℕ). term n a b j) (ap (λ (l : List ℕ). getD l j 0) e ∙ getD-sizes groups (length groups) g j y))))
-
--- ---- the ridge
-
-pub ridged-is : (p : ℕ) (sw : List Float) {m : List Float} {t l : Float} → t ≡ sum⁻ (table p (λ a. entry p sw a a)) → l ≡ larger t 1e-12
-    → m ≡ grid p p (λ a b. cond (eqb a b) (entry p sw a b ⊕ 1e-8 ⊗ l ⊘ num p) (entry p sw a b)) → m ≡ ridged p sw
-unfolding ridged ridge
-ridged-is p sw traced most is =
-    let f : Float → List Float = λ r. grid p p (λ a b. cond (eqb a b) (entry p sw a b ⊕ r) (entry p sw a b)) in
-    is ∙ ap (λ (l : Float). f (1e-8 ⊗ l ⊘ num p)) (most ∙ ap (λ (t : Float). larger t 1e-12) traced)

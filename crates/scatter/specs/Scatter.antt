@@ -1,16 +1,13 @@
--- Section 5: the scatter within and between groups, p by p, and the ridge (Jombart 2010). Definitions only.
+-- Section 5: the scatter within and between groups, p by p (Jombart 2010). Definitions only.
 -- x are the coordinates, rows of `columns`; groups has the group of each sample, or none; g is the number of groups; p leading columns are used.
 use Prim.Native.Nat.{ℕ}
-use mathlib.Core.Bool.{cond}
 use mathlib.Core.List.{List, map}
-use lib.Dec.{eqb}
 use lib.ListN.{length, getD}
 use lib.Ieee.{Float, nan}
-use Rattle.float.specs.Floats.{_⊕_, _⊖_, _⊗_, _⊘_, num, 1e-8, 1e-12}
-use Rattle.float.specs.Order.{larger}
+use Rattle.float.specs.Floats.{_⊖_, _⊗_, num}
 use Rattle.lists.specs.Ranges.{table, grid}
 use Rattle.lists.specs.Numbers.{members}
-use Rattle.lists.specs.Sums.{sum⁺, sum⁻}
+use Rattle.lists.specs.Sums.{sum⁺}
 use Rattle.lists.specs.Rows.{entry}
 use Rattle.means.specs.Means.{grouped}
 
@@ -30,10 +27,3 @@ scatterWithin columns p x groups mu = grid p p (λ a b. sum⁺ (map (λ i. off c
 unfoldable pub scatterBetween : ℕ → ℕ → List ℕ → List Float → List Float → List Float
 scatterBetween p g groups mu mean =
     grid p p (λ a b. sum⁺ (table g (λ j. num (length (members groups (length groups) j)) ⊗ groupOff p mu mean j a ⊗ groupOff p mu mean j b)))
-
--- a tiny ridge on the diagonal
-unfoldable pub ridge : ℕ → List Float → Float
-ridge p sw = 1e-8 ⊗ larger (sum⁻ (table p (λ a. entry p sw a a))) 1e-12 ⊘ num p
-
-unfoldable pub ridged : ℕ → List Float → List Float
-ridged p sw = let r = ridge p sw in grid p p (λ a b. cond (eqb a b) (entry p sw a b ⊕ r) (entry p sw a b))

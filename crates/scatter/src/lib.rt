@@ -1,19 +1,18 @@
-// Section 5: the scatter within and between groups, and the ridge.
+// Section 5: the scatter within and between groups.
 use means::NONE;
 ghost use mathlib.Core.Path.{_≡_};
-ghost use mathlib.Core.Bool.{cond};
 ghost use mathlib.Core.List.{map};
 ghost use Prim.Native.Nat.{_+_, _*_, _≤_};
-ghost use lib.Dec.{eqb};
 ghost use lib.ListN.{length, getD, replicate};
 ghost use lib.Ieee.{nan};
 ghost use Rattle.float.specs.Floats.{_⊕_, _⊗_, num, zero⁺};
 ghost use Rattle.lists.specs.Ranges.{table, grid};
-ghost use Rattle.lists.specs.Sums.{sumFrom, sum⁻};
+ghost use Rattle.lists.specs.Sums.{sumFrom};
 ghost use Rattle.lists.specs.Rows.{entry};
 ghost use Rattle.lot.specs.Kept.{sizes};
 ghost use Rattle.means.specs.Means.{Numbered, grouped};
-ghost use Rattle.scatter.specs.Scatter.{off, groupOff, scatterWithin, scatterBetween, ridged};
+ghost use Rattle.ridge.specs.Ridge.{ridged};
+ghost use Rattle.scatter.specs.Scatter.{off, groupOff, scatterWithin, scatterBetween};
 
 // ---- scatter
 
@@ -72,39 +71,6 @@ fn add_between(
     }
 }
 
-// ---- the ridge
-
-// The trace of sw.
-fn trace(sw: &[f64], p: usize) -> f64
-    requires { ⌜ length (now sw) ≡ p * p ⌝ }
-    ensures { λ r. ⌜ r ≡ sum⁻ (table p (λ a. entry p (now (sw .entry)) a a)) ⌝ }
-{
-    let mut s = -0.0;
-    for a in 0..p {
-        s = s + sw[a * p + a];
-    }
-    s
-}
-
-// sw with r added on its diagonal.
-fn raise(sw: &mut [f64], p: usize, r: f64)
-    requires { ⌜ length (now sw) ≡ p * p ⌝ }
-    ensures { λ _. ⌜ now (sw .exit) ≡ grid p p (λ a b. cond (eqb a b) (entry p (now (sw .entry)) a b ⊕ r) (entry p (now (sw .entry)) a b)) ⌝ }
-{
-    for a in 0..p {
-        let k = a * p + a;
-        sw[k] = sw[k] + r;
-    }
-}
-
-fn add_ridge(sw: &mut [f64], p: usize)
-    requires { ⌜ (length (now sw) ≡ p * p) × (p ≤ 16) ⌝ }
-    ensures { λ _. ⌜ now (sw .exit) ≡ ridged p (now (sw .entry)) ⌝ }
-{
-    let r = 1e-8 * float::max(trace(sw, p), 1e-12) / (p as f64);
-    raise(sw, p, r);
-}
-
 // ---- the whole
 
 // The scatter within groups, with its ridge, and that between groups. `d` and `s` are room for a row.
@@ -128,6 +94,6 @@ pub fn fill_scatter(
     ensures { λ _. ⌜ (now (sw .exit) ≡ ridged p (scatterWithin columns p (now (x .entry)) (now (groups .entry)) (now (mu .entry)))) × (now (sb .exit) ≡ scatterBetween p g (now (groups .entry)) (now (mu .entry)) (now (mean .entry))) ⌝ }
 {
     add_within(sw, d, p, g, x, groups, columns, mu);
-    add_ridge(sw, p);
+    ridge::add_ridge(sw, p);
     add_between(sb, d, s, p, counts, mu, mean);
 }

@@ -5,10 +5,9 @@ use mathlib.Core.List.{List}
 use Prim.Native.Nat.{ℕ, _+_, _*_, _≤_}
 use native.Mathlib.Omega.{arith}
 use lib.ListN.{length, take, drop, replicate}
-use lib.Ieee.{Float, isNan}
+use lib.Ieee.{Float}
 use Rattle.float.specs.Floats.{zero⁺}
 use Rattle.lists.specs.Ranges.{range}
-use Rattle.lists.specs.Filters.{any}
 use Rattle.lists.specs.Numbers.{inGroup}
 use Rattle.lists.specs.Writes.{over}
 use Rattle.lists.proofs.Ranges.{length-range}
@@ -19,28 +18,18 @@ use Rattle.outcome.specs.declared.Refusal.the-variants.{Pivot, Unordered}
 use Rattle.outcome.specs.Outcome.{Outcome, answered, refused, andThen}
 use Rattle.outcome.specs.Slices.{output}
 use Rattle.means.specs.Means.{grouped, meanOf, groupMeans}
-use Rattle.scatter.specs.Scatter.{scatterWithin, scatterBetween, ridged}
+use Rattle.ridge.specs.Ridge.{ridged}
+use Rattle.scatter.specs.Scatter.{scatterWithin, scatterBetween}
 use Rattle.moments.specs.Moments.{Filled}
 use Rattle.whitening.specs.Whitened.{whitened}
 use Rattle.cholesky.specs.Cholesky.{factor, pivotFails}
-use Rattle.rotation.specs.Rotation.{turned}
-use Rattle.diagonal.specs.Sweeps.{sweepsFrom}
 use Rattle.jacobi.specs.declared.Answer as jacobi-answer
 use Rattle.jacobi.specs.declared.Answer.the-variants as jacobi-answers
-use Rattle.jacobi.specs.Eigen.{Eigen, eigenpairs, jacobi}
-use Rattle.diagonal.specs.Diagonal.{identity, diagonal}
+use Rattle.jacobi.specs.Eigen.{Eigen, jacobi}
 use Rattle.jacobi.specs.Call.{eigenOf}
+use Rattle.jacobi.proofs.Call.{only-unordered}
 use Rattle.discriminant.specs.Dapc.{Scores, assign, separated, discriminate}
 use Rattle.discriminant.specs.Outputs.{Called, refusal, leaves}
-
--- the eigenpairs are refused for a NaN alone
-only-unordered : (p : ℕ) (a : List Float) (k : Refusal) → refused k ≡ jacobi p a → k ≡ Unordered
-unfolding jacobi eigenpairs
-only-unordered p a k e = by (any isNan (diagonal p (sweepsFrom 100 p 0 (turned a (identity p)) .left .matrix))) _ e
-  where
-    by : (b : Bool) (found : Eigen) → _≡_ {A = Outcome Eigen} (refused k) (elim b as (λ b. Outcome Eigen) [ true ↦ refused Unordered | false ↦ answered found ]) → k ≡ Unordered
-    by true found e = cc
-    by false found e = cc
 
 module _ (n columns p axes g : ℕ) (x : List Float) (groups : List ℕ) (mean a sb : List Float) (out : List Float) (assigned : List ℕ) {l : List Float} {fails : Bool}
     (factored : l ≡ factor p a) (told : fails ≡ pivotFails p a (factor p a)) where

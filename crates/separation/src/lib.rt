@@ -90,7 +90,7 @@ fn decide(
     let jacobi::Answer::Sweeps(_) = r else {
         return discriminant::refuse(out, assigned, groups.len(), axes, Refusal::Unordered);
     };
-    discriminant::place(
+    allocation::place(
         out,
         assigned,
         ev,

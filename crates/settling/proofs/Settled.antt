@@ -21,7 +21,7 @@ use Rattle.outcome.specs.Outcome.{Outcome, answered, refused, andThen}
 use Rattle.outcome.specs.Slices.{untouched, output, work}
 use Rattle.lot.specs.Kept.{sizes}
 use Rattle.coordinates.specs.Finish.{Coordinates}
-use Rattle.coordinates.specs.Centred.{centred}
+use Rattle.gower.specs.Centred.{centred}
 use Rattle.coordinates.specs.Pcoa.{ordinate, pcoa}
 use Rattle.pcoa.specs.Given.{Given, given, gives, coordinatesOf}
 use Rattle.pcoa.proofs.Late.{Late}

@@ -191,7 +191,7 @@ pub fn settle(
         (slicesOf (now (names .entry)) (now (counts .entry)) (now (means .entry)) (now (terms .entry)) (now (pulls .entry)) (now (coords .entry)) (now (room .entry)) (now (vectors .entry)) (now (rows .entry))) ⌝ }
     ensures { λ _. ⌜ Sized n (coordsOf (pcoa 8 n (now (d .entry)))) ⌝ }
 {
-    let k = pcoa::leading(8, n);
+    let k = ordination_lines::leading(8, n);
     let r = ordinate(coords, terms, pulls, room, vectors, d, n, k);
     match r {
         Check::Refused(why) => clearing::refuse(

@@ -4,7 +4,7 @@ ghost use mathlib.Core.Path.{_≡_};
 ghost use Prim.Native.Nat.{_+_, _*_, _<_};
 ghost use lib.ListN.{length};
 ghost use Rattle.lists.specs.Ranges.{table};
-ghost use Rattle.small.specs.Small.{smallAt, smallMatrix, evened, evenedRow, symmetrised};
+ghost use Rattle.small.specs.Small.{smallAt, smallMatrix};
 
 // Row i: column i of the block with each column of its product.
 fn small_row(row: &mut [f64], q: &[f64], aq: &[f64], n: usize, b: usize, i: usize)
@@ -22,33 +22,5 @@ pub fn fill_small(t: &mut [f64], q: &[f64], aq: &[f64], n: usize, b: usize)
 {
     for i in 0..b {
         small_row(&mut t[i * b..i * b + b], q, aq, n, b, i);
-    }
-}
-
-// Entries i, j and j, i become their mean.
-fn even(t: &mut [f64], b: usize, i: usize, j: usize)
-    requires { ⌜ (i * b + j < length (now t)) × (j * b + i < length (now t)) ⌝ }
-    ensures { λ _. ⌜ now (t .exit) ≡ evened b i j (now (t .entry)) ⌝ }
-{
-    let x = (t[i * b + j] + t[j * b + i]) / 2.0;
-    t[i * b + j] = x;
-    t[j * b + i] = x;
-}
-
-fn even_row(t: &mut [f64], b: usize, i: usize)
-    requires { ⌜ (length (now t) ≡ b * b) × (i < b) ⌝ }
-    ensures { λ _. ⌜ now (t .exit) ≡ evenedRow b i (now (t .entry)) ⌝ }
-{
-    for j in i + 1..b {
-        even(t, b, i, j);
-    }
-}
-
-pub fn symmetrise(t: &mut [f64], b: usize)
-    requires { ⌜ length (now t) ≡ b * b ⌝ }
-    ensures { λ _. ⌜ now (t .exit) ≡ symmetrised b (now (t .entry)) ⌝ }
-{
-    for i in 0..b {
-        even_row(t, b, i);
     }
 }

@@ -21,8 +21,9 @@ use Rattle.descending.specs.Descending.{insertAt, insertDown, descending, value
 use Rattle.jacobi.specs.Eigen.{eigenpairs, jacobi}
 use Rattle.ritz.specs.Given.{written}
 use Rattle.leading.specs.Leading.{leading}
+use Rattle.topeigs_lines.specs.TopLines.{misfits, beyond, topLines}
 use Rattle.topeigs.specs.TopEigs.{topEigs}
-use Rattle.topeigs.specs.Call.{misfits, beyond, topLines, called, leaves, topCall}
+use Rattle.topeigs.specs.Call.{called, leaves, topCall}
 
 -- diagonal 1, 3 and one component: the value 3 and its vector. What lies behind them stays, and the work is zero.
 pub diagonal-1-3 : topCall 1 2 (1·0 ∷ zero⁺ ∷ zero⁺ ∷ 3·0 ∷ []) (replicate 4 2·0) (replicate 6 2·0) (replicate 4 2·0) (replicate 5 2·0)

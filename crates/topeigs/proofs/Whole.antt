@@ -15,10 +15,11 @@ use Rattle.outcome.specs.Outcome.{Outcome, answered, refused, andThen}
 use Rattle.outcome.specs.Slices.{work}
 use Rattle.jacobi.specs.Eigen.{Eigen, jacobi}
 use Rattle.products.specs.Products.{timesBlock}
-use Rattle.small.specs.Small.{symmetrised, smallMatrix}
+use Rattle.square_matrix.specs.Symmetric.{symmetrised}
+use Rattle.small.specs.Small.{smallMatrix}
 use Rattle.combined.specs.Combined.{combined}
 use Rattle.ritz.specs.Ritz.{Pairs, rayleighRitz}
-use Rattle.ritz.proofs.Found.{only-unordered}
+use Rattle.jacobi.proofs.Call.{only-unordered}
 use Rattle.leading.specs.Leading.{leading}
 use Rattle.subspace.specs.Subspace.{lastBlock, byBlock}
 use Rattle.topeigs.specs.TopEigs.{topEigs}

@@ -1,14 +1,11 @@
 // Section 4 of document 01: the eigenpairs of the largest values of a symmetric matrix.
 use outcome::Check;
-use outcome::Refusal;
 ghost use mathlib.Core.Path.{_≡_};
-ghost use Prim.Native.Nat.{_+_, _*_, _≤_, min};
+ghost use Prim.Native.Nat.{_+_, _*_, _≤_};
 ghost use lib.ListN.{length};
-ghost use Rattle.outcome.specs.Refusals.{first};
 ghost use Rattle.ritz.specs.Given.{given, gives};
 ghost use Rattle.topeigs.specs.TopEigs.{topEigs};
-ghost use Rattle.topeigs.specs.Call as Call;
-ghost use Rattle.topeigs.specs.Call.{topLines, leaves, topCall, called};
+ghost use Rattle.topeigs.specs.Call.{leaves, topCall, called};
 
 // ---- the pairs, for any n by n entries
 
@@ -66,79 +63,6 @@ fn solve(
     r
 }
 
-// The lesser of two.
-fn lesser(x: usize, y: usize) -> usize
-    ensures { λ r. ⌜ r ≡ min x y ⌝ }
-{
-    if x < y {
-        return x;
-    }
-    y
-}
-
-// Line 1, for slices of these lengths; n * n must not wrap.
-fn misfits(k: usize, n: usize, a: usize, out: usize, w: usize, m: usize, v: usize) -> bool
-    requires { ⌜ k ≤ n ⌝ }
-    ensures { λ r. ⌜ r ≡ Call.misfits k n a out w m v ⌝ }
-{
-    if 0xffff_ffff < n {
-        return true;
-    }
-    let s = n * n;
-    if a != s {
-        return true;
-    }
-    if out < k + k * n {
-        return true;
-    }
-    if w < n + s {
-        return true;
-    }
-    if m < s {
-        return true;
-    }
-    v < s
-}
-
-// Line 2.
-fn beyond(n: usize, components: usize) -> bool
-    ensures { λ r. ⌜ r ≡ Call.beyond n components ⌝ }
-{
-    if 256 < n {
-        return true;
-    }
-    if components == 0 {
-        return true;
-    }
-    16 < components
-}
-
-// Lines 1 to 3 of the table, for slices of these lengths.
-fn check(
-    a: &[f64],
-    n: usize,
-    components: usize,
-    k: usize,
-    out: usize,
-    w: usize,
-    m: usize,
-    v: usize,
-) -> Check
-    requires { ⌜ k ≡ min components n ⌝ }
-    ensures { λ r. ⌜ r ≡ first (topLines components n (now (a .entry)) out w m v) ⌝ }
-{
-    if misfits(k, n, a.len(), out, w, m, v) {
-        return Check::Refused(Refusal::Length);
-    }
-    if beyond(n, components) {
-        return Check::Refused(Refusal::Limit);
-    }
-    if matrix::has_not_finite(a) {
-        return Check::Refused(Refusal::Value);
-    }
-    Check::Passed
-}
-
 // The eigenpairs of the k largest values of the n by n matrix a, k being the components or n: k values in descending order, then k rows of n.
 // `w`, of n + n * n entries, and `m` and `v`, of n * n each, are work.
 pub fn top_eigs(
@@ -153,8 +77,8 @@ pub fn top_eigs(
     ensures { λ r. ⌜ called r (now (out .exit)) (now (w .exit)) (now (m .exit)) (now (v .exit))
         ≡ topCall components n (now (a .entry)) (now (out .entry)) (now (w .entry)) (now (m .entry)) (now (v .entry)) ⌝ }
 {
-    let k = lesser(components, n);
-    let c = check(a, n, components, k, out.len(), w.len(), m.len(), v.len());
+    let k = topeigs_lines::lesser(components, n);
+    let c = topeigs_lines::check(a, n, components, k, out.len(), w.len(), m.len(), v.len());
     match c {
         Check::Refused(e) => Check::Refused(e),
         Check::Passed => solve(out, w, m, v, a, n, k),

@@ -110,7 +110,7 @@ fn count_kept(
     ensures { λ r. ⌜ r ≡ countedBy (now (t .entry)) (now (p .entry)) (now (w .entry)) (now (x .entry)) (now (ks .entry)) (now (gs .entry)) (now (ss .entry)) n m g
         (columnsOf n) (leading (columnsOf n) m g) (barredBy (now (x .entry)) (leading (columnsOf n) m g)) o ⌝ }
 {
-    let columns = pcoa::leading(8, n);
+    let columns = ordination_lines::leading(8, n);
     let lead = discriminant::leading_of(columns, m, g);
     let barred = judging::is_barred(x, lead);
     count(

@@ -1,26 +1,10 @@
 -- Section 5: the inverse of l on both sides of a p by p matrix. Definitions only.
-use Prim.Native.Nat.{ℕ, _+_, _*_, min, max}
-use mathlib.Core.Bool.{cond}
+use Prim.Native.Nat.{ℕ}
 use mathlib.Core.List.{List}
-use lib.Dec.{eqb}
-use lib.ListN.{set}
 use lib.Ieee.{Float}
-use Rattle.float.specs.Floats.{_⊕_, _⊘_, 2·0}
-use Rattle.lists.specs.Ranges.{grid}
-use Rattle.lists.specs.Loops.{fromTo}
-use Rattle.lists.specs.Rows.{entry}
+use Rattle.square_matrix.specs.Symmetric.{symmetrised}
 use Rattle.triangular.specs.Triangular.{solveColumns}
 
--- the entries (i, j) and (j, i) become their mean; those of row i, right of the diagonal
-unfoldable pub evened : ℕ → ℕ → ℕ → List Float → List Float
-evened p i j m = let v = (entry p m i j ⊕ entry p m j i) ⊘ 2·0 in set (set m (i * p + j) v) (j * p + i) v
-
-unfoldable pub evenedRow : ℕ → ℕ → List Float → List Float
-evenedRow p i m = fromTo (evened p i) (i + 1) p m
-
--- all so: (t + its transpose)/2 off the diagonal
-unfoldable pub symmetrised : ℕ → List Float → List Float
-symmetrised n t = grid n n (λ i j. cond (eqb i j) (entry n t i j) ((entry n t (min i j) (max i j) ⊕ entry n t (max i j) (min i j)) ⊘ 2·0))
-
+-- both sides, made symmetric
 unfoldable pub whitened : ℕ → List Float → List Float → List Float
 whitened p l sb = symmetrised p (solveColumns p l (solveColumns p l sb))

@@ -21,40 +21,99 @@ loop-holds : tie.Need-loop-holds Inv-loop μ-loop
 loop-holds c = writing-none _ _
 
 mul-row : tie.Need-mul-row Inv-loop μ-loop
-mul-row c = omega (arith, cell-below (c .before .before .args .n) (length (c .before .before .args .row .now)) (c .before .loop .c) (c .before .before .args .i) (c .loop-test .taken) (c .before .before .pre .3), c .before .loop .inv .long)
+mul-row c =
+    let at-loop = c .before in
+    let at-start = at-loop .before in
+    let a = at-start .args in
+    omega (arith, cell-below (a .n) (length (a .row .now)) (at-loop .loop .c) (a .i) (c .loop-test .taken) (at-start .pre .3), at-loop .loop .inv .long)
 
 shared-slice-read-row : tie.Need-shared-slice-read-row Inv-loop μ-loop
-shared-slice-read-row c = omega (arith, cell-below (c .before .before .before .args .n) (length (c .before .before .before .args .row .now)) (c .before .before .loop .c) (c .before .before .before .args .i) (c .before .loop-test .taken) (c .before .before .before .pre .3), c .before .before .loop .inv .long)
+shared-slice-read-row c =
+    let at-loop-test = c .before in
+    let at-loop = at-loop-test .before in
+    let at-start = at-loop .before in
+    let a = at-start .args in
+    omega (arith, cell-below (a .n) (length (a .row .now)) (at-loop .loop .c) (a .i) (at-loop-test .loop-test .taken) (at-start .pre .3), at-loop .loop .inv .long)
 
 mul-row-2 : tie.Need-mul-row-2 Inv-loop μ-loop
-mul-row-2 c = omega (arith, cell-below (c .before .before .before .args .n) (length (c .before .before .before .args .row .now)) (c .before .before .loop .c) (c .before .before .before .args .i) (c .before .loop-test .taken) (c .before .before .before .pre .3), c .before .before .loop .inv .long)
+mul-row-2 c =
+    let at-loop-test = c .before in
+    let at-loop = at-loop-test .before in
+    let at-start = at-loop .before in
+    let a = at-start .args in
+    omega (arith, cell-below (a .n) (length (a .row .now)) (at-loop .loop .c) (a .i) (at-loop-test .loop-test .taken) (at-start .pre .3), at-loop .loop .inv .long)
 
 add-row : tie.Need-add-row Inv-loop μ-loop
-add-row c = omega (arith, cell-below (c .before .before .before .args .n) (length (c .before .before .before .args .row .now)) (c .before .before .loop .c) (c .before .before .before .args .i) (c .before .loop-test .taken) (c .before .before .before .pre .3), c .before .before .loop .inv .long)
+add-row c =
+    let at-loop-test = c .before in
+    let at-loop = at-loop-test .before in
+    let at-start = at-loop .before in
+    let a = at-start .args in
+    omega (arith, cell-below (a .n) (length (a .row .now)) (at-loop .loop .c) (a .i) (at-loop-test .loop-test .taken) (at-start .pre .3), at-loop .loop .inv .long)
 
 mul-row-3 : tie.Need-mul-row-3 Inv-loop μ-loop
-mul-row-3 c = omega (arith, cell-below (c .before .before .before .args .n) (length (c .before .before .before .args .row .now)) (c .before .before .loop .c) (c .before .before .before .args .i) (c .before .loop-test .taken) (c .before .before .before .pre .3), c .before .before .loop .inv .long)
+mul-row-3 c =
+    let at-loop-test = c .before in
+    let at-loop = at-loop-test .before in
+    let at-start = at-loop .before in
+    let a = at-start .args in
+    omega (arith, cell-below (a .n) (length (a .row .now)) (at-loop .loop .c) (a .i) (at-loop-test .loop-test .taken) (at-start .pre .3), at-loop .loop .inv .long)
 
 shared-slice-read-row-2 : tie.Need-shared-slice-read-row-2 Inv-loop μ-loop
-shared-slice-read-row-2 c = omega (arith, cell-below (c .before .before .before .before .args .n) (length (c .before .before .before .before .args .row .now)) (c .before .before .before .loop .c) (c .before .before .before .before .args .i) (c .before .before .loop-test .taken) (c .before .before .before .before .pre .3), c .before .before .before .loop .inv .long)
+shared-slice-read-row-2 c =
+    let at-loop-test = c .before .before in
+    let at-loop = at-loop-test .before in
+    let at-start = at-loop .before in
+    let a = at-start .args in
+    omega (arith, cell-below (a .n) (length (a .row .now)) (at-loop .loop .c) (a .i) (at-loop-test .loop-test .taken) (at-start .pre .3), at-loop .loop .inv .long)
 
 mul-row-4 : tie.Need-mul-row-4 Inv-loop μ-loop
-mul-row-4 c = omega (arith, cell-below (c .before .before .before .before .args .n) (length (c .before .before .before .before .args .row .now)) (c .before .before .before .loop .c) (c .before .before .before .before .args .i) (c .before .before .loop-test .taken) (c .before .before .before .before .pre .3), c .before .before .before .loop .inv .long)
+mul-row-4 c =
+    let at-loop-test = c .before .before in
+    let at-loop = at-loop-test .before in
+    let at-start = at-loop .before in
+    let a = at-start .args in
+    omega (arith, cell-below (a .n) (length (a .row .now)) (at-loop .loop .c) (a .i) (at-loop-test .loop-test .taken) (at-start .pre .3), at-loop .loop .inv .long)
 
 shared-slice-read-row-3 : tie.Need-shared-slice-read-row-3 Inv-loop μ-loop
-shared-slice-read-row-3 c = omega (arith, cell-below (c .before .before .before .before .before .args .n) (length (c .before .before .before .before .before .args .row .now)) (c .before .before .before .before .loop .c) (c .before .before .before .before .before .args .i) (c .before .before .before .loop-test .taken) (c .before .before .before .before .before .pre .3), c .before .before .before .before .loop .inv .long)
+shared-slice-read-row-3 c =
+    let at-loop-test = c .before .before .before in
+    let at-loop = at-loop-test .before in
+    let at-start = at-loop .before in
+    let a = at-start .args in
+    omega (arith, cell-below (a .n) (length (a .row .now)) (at-loop .loop .c) (a .i) (at-loop-test .loop-test .taken) (at-start .pre .3), at-loop .loop .inv .long)
 
 mul-row-5 : tie.Need-mul-row-5 Inv-loop μ-loop
-mul-row-5 c = omega (arith, cell-below (c .before .before .before .before .before .args .n) (length (c .before .before .before .before .before .args .row .now)) (c .before .before .before .before .loop .c) (c .before .before .before .before .before .args .i) (c .before .before .before .loop-test .taken) (c .before .before .before .before .before .pre .3), c .before .before .before .before .loop .inv .long)
+mul-row-5 c =
+    let at-loop-test = c .before .before .before in
+    let at-loop = at-loop-test .before in
+    let at-start = at-loop .before in
+    let a = at-start .args in
+    omega (arith, cell-below (a .n) (length (a .row .now)) (at-loop .loop .c) (a .i) (at-loop-test .loop-test .taken) (at-start .pre .3), at-loop .loop .inv .long)
 
 slice-write-row : tie.Need-slice-write-row Inv-loop μ-loop
-slice-write-row c = omega (arith, cell-below (c .before .before .before .before .before .args .n) (length (c .before .before .before .before .before .args .row .now)) (c .before .before .before .before .loop .c) (c .before .before .before .before .before .args .i) (c .before .before .before .loop-test .taken) (c .before .before .before .before .before .pre .3), c .before .before .before .before .loop .inv .long)
+slice-write-row c =
+    let at-loop-test = c .before .before .before in
+    let at-loop = at-loop-test .before in
+    let at-start = at-loop .before in
+    let a = at-start .args in
+    omega (arith, cell-below (a .n) (length (a .row .now)) (at-loop .loop .c) (a .i) (at-loop-test .loop-test .taken) (at-start .pre .3), at-loop .loop .inv .long)
 
 add-c : tie.Need-add-c Inv-loop μ-loop
-add-c c = omega (arith, cell-below (c .before .before .before .before .before .args .n) (length (c .before .before .before .before .before .args .row .now)) (c .before .before .before .before .loop .c) (c .before .before .before .before .before .args .i) (c .before .before .before .loop-test .taken) (c .before .before .before .before .before .pre .3), c .before .before .before .before .loop .inv .long)
+add-c c =
+    let at-loop-test = c .before .before .before in
+    let at-loop = at-loop-test .before in
+    let at-start = at-loop .before in
+    let a = at-start .args in
+    omega (arith, cell-below (a .n) (length (a .row .now)) (at-loop .loop .c) (a .i) (at-loop-test .loop-test .taken) (at-start .pre .3), at-loop .loop .inv .long)
 
 loop-less : tie.Need-loop-less Inv-loop μ-loop
-loop-less c = omega (arith, cell-below (c .before .before .before .before .before .args .n) (length (c .before .before .before .before .before .args .row .now)) (c .before .before .before .before .loop .c) (c .before .before .before .before .before .args .i) (c .before .before .before .loop-test .taken) (c .before .before .before .before .before .pre .3), c .before .before .before .before .loop .inv .long)
+loop-less c =
+    let at-loop-test = c .before .before .before in
+    let at-loop = at-loop-test .before in
+    let at-start = at-loop .before in
+    let a = at-start .args in
+    omega (arith, cell-below (a .n) (length (a .row .now)) (at-loop .loop .c) (a .i) (at-loop-test .loop-test .taken) (at-start .pre .3), at-loop .loop .inv .long)
 
 loop-again : tie.Need-loop-again Inv-loop μ-loop
 unfolding coordAt entry

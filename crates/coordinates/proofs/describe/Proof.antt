@@ -34,19 +34,24 @@ part-fill-shares-end c = search needs
 
 fill-shares-requires : tie.Need-fill-shares-requires
 fill-shares-requires c κs =
-    let k = length (c .before .before .before .before .before .before .before .args .values .now) in
-    let out = c .before .before .before .before .before .before .before .args .out .now in
-    length-second k out (c .before .before .before .copy .last .0) (omega arith) (c .before .before .before .copy .kept .0 ∙ length-take-le k out (omega arith)) ∙ omega arith
+    let at-copy = c .before .before .before in
+    let at-start = at-copy .before .before .before .before in
+    let k = length (at-start .args .values .now) in
+    let out = at-start .args .out .now in
+    length-second k out (at-copy .copy .last .0) (omega arith) (at-copy .copy .kept .0 ∙ length-take-le k out (omega arith)) ∙ omega arith
 
 same-length : tie.Need-same-length
 same-length c = search needs
 
 returns : tie.Need-returns
 returns c =
-    let k = length (c .before .before .before .before .before .before .before .before .before .before .args .values .now) in
-    let out = c .before .before .before .before .before .before .before .before .before .before .args .out .now in
-    put-second k out (c .before .before .before .before .before .before .copy .last .0) (omega arith) (c .before .before .before .before .before .before .copy .kept .0 ∙ length-take-le k out (omega arith)) (c .before .before .fill-shares .last .0)
-    ∙ ap₂ (λ (x y : List Float). x ++ y) (c .before .before .before .before .before .before .copy .ensures) (c .before .before .fill-shares .ensures)
+    let at-fill-shares = c .before .before in
+    let at-copy = at-fill-shares .before .before .before .before in
+    let at-start = at-copy .before .before .before .before in
+    let k = length (at-start .args .values .now) in
+    let out = at-start .args .out .now in
+    put-second k out (at-copy .copy .last .0) (omega arith) (at-copy .copy .kept .0 ∙ length-take-le k out (omega arith)) (at-fill-shares .fill-shares .last .0)
+    ∙ ap₂ (λ (x y : List Float). x ++ y) (at-copy .copy .ensures) (at-fill-shares .fill-shares .ensures)
 
 pub describe-spec : {M : Type 1} → statement M
 describe-spec =

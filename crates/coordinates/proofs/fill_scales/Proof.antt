@@ -50,7 +50,10 @@ same-length c = c .before .loop .inv .long
 
 returns : tie.Need-returns Inv-loop μ-loop
 unfolding scales
-returns c = writing-table _ _ (c .before .loop .inv) (c .before .before .before .before .pre) (c .loop-test .left) ∙ sym (map-table scaleOf (c .before .before .before .before .args .values .now) nan)
+returns c =
+    let at-loop = c .before in
+    let at-start = at-loop .before .before .before in
+    writing-table _ _ (at-loop .loop .inv) (at-start .pre) (c .loop-test .left) ∙ sym (map-table scaleOf (at-start .args .values .now) nan)
 
 pub fill-scales-spec : {M : Type 1} → statement M
 fill-scales-spec =

@@ -50,7 +50,10 @@ same-length c = c .before .loop .inv .long
 
 returns : tie.Need-returns Inv-loop μ-loop
 unfolding shares
-returns c = writing-table _ _ (c .before .loop .inv) (c .before .before .before .before .pre) (c .loop-test .left) ∙ sym (map-table (shareOf (c .before .before .before .before .args .total)) (c .before .before .before .before .args .values .now) nan)
+returns c =
+    let at-loop = c .before in
+    let at-start = at-loop .before .before .before in
+    writing-table _ _ (at-loop .loop .inv) (at-start .pre) (c .loop-test .left) ∙ sym (map-table (shareOf (at-start .args .total)) (at-start .args .values .now) nan)
 
 pub fill-shares-spec : {M : Type 1} → statement M
 fill-shares-spec =

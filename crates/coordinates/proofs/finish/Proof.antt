@@ -21,7 +21,9 @@ slice-aggregate-finish-in-2 : tie.Need-slice-aggregate-finish-in-2
 slice-aggregate-finish-in-2 c = sym (length-take-le (c .before .before .before .before .before .args .k) _ (omega arith))
 
 finish-in-requires : tie.Need-finish-in-requires
-finish-in-requires c κs = (c .before .before .before .before .before .pre .0, length-take-le (c .before .before .before .before .before .args .k) _ (omega arith), length-take-le (c .before .before .before .before .before .args .k) _ (omega arith), c .before .before .before .before .before .pre .1)
+finish-in-requires c κs =
+    let at-start = c .before .before .before .before .before in
+    (at-start .pre .0, length-take-le (at-start .args .k) _ (omega arith), length-take-le (at-start .args .k) _ (omega arith), at-start .pre .1)
 
 same-length : tie.Need-same-length
 same-length c = search needs

@@ -20,13 +20,19 @@ slice-relend-prefix-describe : tie.Need-slice-relend-prefix-describe
 slice-relend-prefix-describe c = search needs
 
 slice-aggregate-describe : tie.Need-slice-aggregate-describe
-slice-aggregate-describe c = sym (length-take-le (c .before .before .before .before .before .args .k + c .before .before .before .before .before .args .k) (c .before .before .before .before .before .args .out .now) (omega arith))
+slice-aggregate-describe c =
+    let at-start = c .before .before .before .before .before in
+    let a = at-start .args in
+    sym (length-take-le (a .k + a .k) (a .out .now) (omega arith))
 
 slice-aggregate-describe-2 : tie.Need-slice-aggregate-describe-2
 slice-aggregate-describe-2 c = sym (length-take-le (c .before .before .before .before .before .before .args .k) (c .before .before .before .before .before .before .args .pairs .now) (omega arith))
 
 describe-requires : tie.Need-describe-requires
-describe-requires c κs = let many = length-take-le (c .before .before .before .before .before .before .args .k) (c .before .before .before .before .before .before .args .pairs .now) (omega arith) in length-take-le (c .before .before .before .before .before .before .args .k + c .before .before .before .before .before .before .args .k) (c .before .before .before .before .before .before .args .out .now) (omega arith) ∙ omega arith
+describe-requires c κs =
+    let at-start = c .before .before .before .before .before .before in
+    let a = at-start .args in
+    let many = length-take-le (a .k) (a .pairs .now) (omega arith) in length-take-le (a .k + a .k) (a .out .now) (omega arith) ∙ omega arith
 
 add-place : tie.Need-add-place
 add-place c = search needs
@@ -60,13 +66,16 @@ part-place-end-2 c = search needs
 
 place-requires : tie.Need-place-requires
 place-requires c κs =
-    let k = c .before .before .before .before .before .before .before .before .before .before .before .before .before .before .args .k in
-    let out = c .before .before .before .before .before .before .before .before .before .before .before .before .before .before .args .out .now in
-    let pairs = c .before .before .before .before .before .before .before .before .before .before .before .before .before .before .args .pairs .now in (
-      length-second (k + k) out (c .before .before .before .before .before .before .before .describe .last .0) (omega arith) (c .before .before .before .before .before .before .before .describe .kept .0 ∙ length-take-le (c .before .before .before .before .before .before .before .before .before .before .before .before .before .before .args .k + c .before .before .before .before .before .before .before .before .before .before .before .before .before .before .args .k) (c .before .before .before .before .before .before .before .before .before .before .before .before .before .before .args .out .now) (omega arith)) ∙ omega arith,
-      c .before .before .before .before .before .before .before .before .before .before .before .before .before .before .pre .1,
-      c .before .before .before .before .before .before .before .before .before .before .before .before .before .before .pre .2,
-      length-take-le (c .before .before .before .before .before .before .before .before .before .before .before .before .before .before .args .k) (c .before .before .before .before .before .before .before .before .before .before .before .before .before .before .args .pairs .now) (omega arith),
+    let at-describe = c .before .before .before .before .before .before .before in
+    let at-start = at-describe .before .before .before .before .before .before .before in
+    let a = at-start .args in
+    let k = a .k in
+    let out = a .out .now in
+    let pairs = a .pairs .now in (
+      length-second (k + k) out (at-describe .describe .last .0) (omega arith) (at-describe .describe .kept .0 ∙ length-take-le (a .k + a .k) (a .out .now) (omega arith)) ∙ omega arith,
+      at-start .pre .1,
+      at-start .pre .2,
+      length-take-le (a .k) (a .pairs .now) (omega arith),
       ap length (part-rest pairs k) ∙ length-drop k pairs ∙ omega arith,
     )
 
@@ -82,13 +91,17 @@ same-length-3 c = search needs
 returns : tie.Need-returns
 unfolding finish laid
 returns c =
-    let k = c .before .before .before .before .before .before .before .before .before .before .before .before .before .before .before .before .before .before .before .before .before .args .k in
-    let n = c .before .before .before .before .before .before .before .before .before .before .before .before .before .before .before .before .before .before .before .before .before .args .n in
-    let out = c .before .before .before .before .before .before .before .before .before .before .before .before .before .before .before .before .before .before .before .before .before .args .out .now in
-    let pairs = c .before .before .before .before .before .before .before .before .before .before .before .before .before .before .before .before .before .before .before .before .before .args .pairs .now in
-    let total = c .before .before .before .before .before .before .before .before .before .before .before .before .before .before .before .before .before .before .before .before .before .args .total in
-    put-second (k + k) out (c .before .before .before .before .before .before .before .before .before .before .before .before .before .before .describe .last .0) (omega arith) (c .before .before .before .before .before .before .before .before .before .before .before .before .before .before .describe .kept .0 ∙ length-take-le (c .before .before .before .before .before .before .before .before .before .before .before .before .before .before .before .before .before .before .before .before .before .args .k + c .before .before .before .before .before .before .before .before .before .before .before .before .before .before .before .before .before .before .before .before .before .args .k) (c .before .before .before .before .before .before .before .before .before .before .before .before .before .before .before .before .before .before .before .before .before .args .out .now) (omega arith)) (c .before .before .before .before .before .before .place .last .0)
-    ∙ finished n k total pairs (omega arith) (c .before .before .before .before .before .before .before .before .before .before .before .before .before .before .describe .ensures) (c .before .before .before .before .before .before .place .ensures)
+    let at-place = c .before .before .before .before .before .before in
+    let at-describe = at-place .before .before .before .before .before .before .before .before in
+    let at-start = at-describe .before .before .before .before .before .before .before in
+    let a = at-start .args in
+    let k = a .k in
+    let n = a .n in
+    let out = a .out .now in
+    let pairs = a .pairs .now in
+    let total = a .total in
+    put-second (k + k) out (at-describe .describe .last .0) (omega arith) (at-describe .describe .kept .0 ∙ length-take-le (a .k + a .k) (a .out .now) (omega arith)) (at-place .place .last .0)
+    ∙ finished n k total pairs (omega arith) (at-describe .describe .ensures) (at-place .place .ensures)
 
 pub finish-in-spec : {M : Type 1} → statement M
 finish-in-spec =

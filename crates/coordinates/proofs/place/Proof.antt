@@ -8,7 +8,9 @@ use Rattle.coordinates.proofs.place.Statement.{statement}
 use Rattle.coordinates.proofs.place.Tie as tie
 
 fill-signs-requires : tie.Need-fill-signs-requires
-fill-signs-requires c κs = c .before .before .before .before .before .before .pre .4 ∙ ap (λ (j : ℕ). j * c .before .before .before .before .before .before .args .n) (sym (c .before .before .before .before .before .before .pre .1))
+fill-signs-requires c κs =
+    let at-start = c .before .before .before .before .before .before in
+    at-start .pre .4 ∙ ap (λ (j : ℕ). j * at-start .args .n) (sym (at-start .pre .1))
 
 fill-scales-requires : tie.Need-fill-scales-requires
 fill-scales-requires c κs = search needs
@@ -26,7 +28,13 @@ same-length-3 : tie.Need-same-length-3
 same-length-3 c = search needs
 
 returns : tie.Need-returns
-returns c = placed (c .before .before .before .before .before .before .before .before .before .before .before .before .before .before .before .before .before .before .before .args .n) (c .before .before .before .before .before .before .before .before .before .before .before .before .before .before .before .before .before .before .before .args .k) (c .before .before .before .before .before .before .before .before .before .before .before .before .before .before .before .before .before .before .before .args .values .now) (c .before .before .before .before .before .before .before .before .before .before .before .before .before .before .before .before .before .before .before .args .vectors .now) (c .before .before .before .before .before .before .before .before .before .before .before .before .before .before .before .before .before .before .before .pre .1) (c .before .before .before .before .before .before .before .before .before .before .before .before .fill-signs .ensures) (c .before .before .before .before .before .before .before .before .fill-scales .ensures) (c .before .before .fill-coords .ensures)
+returns c =
+    let at-fill-coords = c .before .before in
+    let at-fill-scales = at-fill-coords .before .before .before .before .before .before in
+    let at-fill-signs = at-fill-scales .before .before .before .before in
+    let at-start = at-fill-signs .before .before .before .before .before .before .before in
+    let a = at-start .args in
+    placed (a .n) (a .k) (a .values .now) (a .vectors .now) (at-start .pre .1) (at-fill-signs .fill-signs .ensures) (at-fill-scales .fill-scales .ensures) (at-fill-coords .fill-coords .ensures)
 
 pub place-spec : {M : Type 1} → statement M
 place-spec =

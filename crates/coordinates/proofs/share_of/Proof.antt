@@ -7,7 +7,7 @@ use lib.Ieee.{Float}
 use Rattle.float.specs.Floats.{_⊘_, zero⁺}
 use Rattle.float.specs.Order.{larger}
 use Rattle.coordinates.specs.Finish.{shareOf}
-use Rattle.coordinates.proofs.Chosen.{by-yes, by-no}
+use Rattle.signs.proofs.Chosen.{by-yes, by-no}
 use Rattle.coordinates.proofs.share_of.Statement.{statement}
 use Rattle.coordinates.proofs.share_of.Tie as tie
 
@@ -16,7 +16,11 @@ max-requires c κs = search needs
 
 returns : tie.Need-returns
 unfolding shareOf
-returns c = by-yes (larger (c .before .before .args .v) zero⁺ ⊘ c .before .before .args .total) zero⁺ refl (c .before .if1 .taken) (ap (λ (x : Float). x ⊘ c .before .before .args .total) (c .max .ensures))
+returns c =
+    let at-if = c .before in
+    let at-start = at-if .before in
+    let a = at-start .args in
+    by-yes (larger (a .v) zero⁺ ⊘ a .total) zero⁺ refl (at-if .if1 .taken) (ap (λ (x : Float). x ⊘ a .total) (c .max .ensures))
 
 returns-2 : tie.Need-returns-2
 unfolding shareOf

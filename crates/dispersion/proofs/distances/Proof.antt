@@ -43,14 +43,21 @@ loop-less c = omega arith
 
 loop-again : tie.Need-loop-again Inv-loop μ-loop
 loop-again c =
-    writing-next (λ k. distanceOf (getD (c .before .before .before .before .before .args .z .now) k nan)) _ (c .before .before .before .loop .inv) (omega arith)
-    (c .distance-of .ensures ∙ ap distanceOf (writing-here (λ k. distanceOf (getD (c .before .before .before .before .before .args .z .now) k nan)) (c .before .before .before .before .before .args .z .now) nan (c .before .before .before .loop .inv)))
+    let at-loop = c .before .before .before in
+    let at-start = at-loop .before .before in
+    let a = at-start .args in
+    writing-next (λ k. distanceOf (getD (a .z .now) k nan)) _ (at-loop .loop .inv) (omega arith)
+    (c .distance-of .ensures ∙ ap distanceOf (writing-here (λ k. distanceOf (getD (a .z .now) k nan)) (a .z .now) nan (at-loop .loop .inv)))
 
 same-length : tie.Need-same-length Inv-loop μ-loop
 same-length c = c .before .loop .inv .long
 
 returns : tie.Need-returns Inv-loop μ-loop
-returns c = writing-all (λ k. distanceOf (getD (c .before .before .before .args .z .now) k nan)) (c .before .before .before .args .z .now) (c .before .loop .inv) (omega arith) ∙ sym (map-table distanceOf (c .before .before .before .args .z .now) nan)
+returns c =
+    let at-loop = c .before in
+    let at-start = at-loop .before .before in
+    let a = at-start .args in
+    writing-all (λ k. distanceOf (getD (a .z .now) k nan)) (a .z .now) (at-loop .loop .inv) (omega arith) ∙ sym (map-table distanceOf (a .z .now) nan)
 
 pub distances-spec : {M : Type 1} → statement M
 distances-spec =

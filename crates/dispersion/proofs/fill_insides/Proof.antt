@@ -18,13 +18,24 @@ abbrev μ-loop : tie.MeasureT-loop
 μ-loop t m g next mem out₀ k₀ out k = g - k
 
 loop-holds : tie.Need-loop-holds Inv-loop μ-loop
-loop-holds c = (omega arith, writing-none (λ k. inside (c .before .before .before .before .args .t .now) (c .before .before .before .before .args .m) (part (c .before .before .before .before .args .next .now) (c .before .before .before .before .args .mem .now) k)) (c .before .before .before .before .args .out .now))
+loop-holds c =
+    let at-start = c .before .before .before .before in
+    let a = at-start .args in
+    (omega arith, writing-none (λ k. inside (a .t .now) (a .m) (part (a .next .now) (a .mem .now) k)) (a .out .now))
 
 part-of-requires : tie.Need-part-of-requires Inv-loop μ-loop
-part-of-requires c κs = part-there (c .before .before .before .before .before .before .args .m) (c .before .before .before .before .before .before .args .g) (c .before .loop .k) (c .before .before .before .before .before .before .args .next .now) (c .before .before .before .before .before .before .args .mem .now) (c .before .before .before .before .before .before .pre .1) (omega arith)
+part-of-requires c κs =
+    let at-loop = c .before in
+    let at-start = at-loop .before .before .before .before .before in
+    let a = at-start .args in
+    part-there (a .m) (a .g) (at-loop .loop .k) (a .next .now) (a .mem .now) (at-start .pre .1) (omega arith)
 
 inside-requires : tie.Need-inside-requires Inv-loop μ-loop
-inside-requires c κs = (c .before .before .before .before .before .before .before .pre .0, part-below (c .before .before .before .before .before .before .before .args .m) (c .before .before .before .before .before .before .before .args .g) (c .before .before .loop .k) (c .before .before .before .before .before .before .before .args .next .now) (c .before .before .before .before .before .before .before .args .mem .now) _ (c .before .before .before .before .before .before .before .pre .1) (omega arith) (c .part-of .ensures))
+inside-requires c κs =
+    let at-loop = c .before .before in
+    let at-start = at-loop .before .before .before .before .before in
+    let a = at-start .args in
+    (at-start .pre .0, part-below (a .m) (a .g) (at-loop .loop .k) (a .next .now) (a .mem .now) _ (at-start .pre .1) (omega arith) (c .part-of .ensures))
 
 mul-out : tie.Need-mul-out Inv-loop μ-loop
 mul-out c = omega (arith, c .before .before .before .loop .inv .1 .long)
@@ -39,13 +50,22 @@ loop-less : tie.Need-loop-less Inv-loop μ-loop
 loop-less c = omega arith
 
 loop-again : tie.Need-loop-again Inv-loop μ-loop
-loop-again c = (omega arith, writing-next (λ k. inside (c .before .before .before .before .before .before .before .before .args .t .now) (c .before .before .before .before .before .before .before .before .args .m) (part (c .before .before .before .before .before .before .before .before .args .next .now) (c .before .before .before .before .before .before .before .before .args .mem .now) k)) (c .before .before .before .before .before .before .before .before .args .out .now) (c .before .before .before .loop .inv .1) (omega arith) (c .inside .ensures ∙ ap (inside (c .before .before .before .before .before .before .before .before .args .t .now) (c .before .before .before .before .before .before .before .before .args .m)) (c .before .part-of .ensures)))
+loop-again c =
+    let at-part-of = c .before in
+    let at-loop = at-part-of .before .before in
+    let at-start = at-loop .before .before .before .before .before in
+    let a = at-start .args in
+    (omega arith, writing-next (λ k. inside (a .t .now) (a .m) (part (a .next .now) (a .mem .now) k)) (a .out .now) (at-loop .loop .inv .1) (omega arith) (c .inside .ensures ∙ ap (inside (a .t .now) (a .m)) (at-part-of .part-of .ensures)))
 
 same-length : tie.Need-same-length Inv-loop μ-loop
 same-length c = c .before .loop .inv .1 .long
 
 returns : tie.Need-returns Inv-loop μ-loop
-returns c = writing-front (λ k. inside (c .before .before .before .before .before .before .args .t .now) (c .before .before .before .before .before .before .args .m) (part (c .before .before .before .before .before .before .args .next .now) (c .before .before .before .before .before .before .args .mem .now) k)) (c .before .before .before .before .before .before .args .out .now) (c .before .loop .inv .1) (omega arith)
+returns c =
+    let at-loop = c .before in
+    let at-start = at-loop .before .before .before .before .before in
+    let a = at-start .args in
+    writing-front (λ k. inside (a .t .now) (a .m) (part (a .next .now) (a .mem .now) k)) (a .out .now) (at-loop .loop .inv .1) (omega arith)
 
 pub fill-insides-spec : {M : Type 1} → statement M
 fill-insides-spec =

@@ -15,10 +15,15 @@ abbrev μ-loop : tie.MeasureT-loop
 μ-loop pulls lab m g next mem gw gi z₀ a₀ z a = m - a
 
 loop-holds : tie.Need-loop-holds Inv-loop μ-loop
-loop-holds c = writing-none (valueBy (c .before .before .before .before .before .before .before .args .pulls .now) (c .before .before .before .before .before .before .before .args .lab .now) (c .before .before .before .before .before .before .before .args .m) (c .before .before .before .before .before .before .before .args .next .now) (c .before .before .before .before .before .before .before .args .mem .now) (c .before .before .before .before .before .before .before .args .gw .now) (c .before .before .before .before .before .before .before .args .gi .now)) (c .before .before .before .before .before .before .before .args .z .now)
+loop-holds c =
+    let at-start = c .before .before .before .before .before .before .before in
+    let a = at-start .args in
+    writing-none (valueBy (a .pulls .now) (a .lab .now) (a .m) (a .next .now) (a .mem .now) (a .gw .now) (a .gi .now)) (a .z .now)
 
 value-at-requires : tie.Need-value-at-requires Inv-loop μ-loop
-value-at-requires c κs = (c .before .before .before .before .before .before .before .before .before .pre .0, c .before .before .before .before .before .before .before .before .before .pre .1, c .before .before .before .before .before .before .before .before .before .pre .2, c .before .before .before .before .before .before .before .before .before .pre .3, c .before .before .before .before .before .before .before .before .before .pre .4, c .before .before .before .before .before .before .before .before .before .pre .5, omega arith)
+value-at-requires c κs =
+    let at-start = c .before .before .before .before .before .before .before .before .before in
+    (at-start .pre .0, at-start .pre .1, at-start .pre .2, at-start .pre .3, at-start .pre .4, at-start .pre .5, omega arith)
 
 mul-z : tie.Need-mul-z Inv-loop μ-loop
 mul-z c = omega (arith, c .before .before .loop .inv .long)
@@ -33,13 +38,21 @@ loop-less : tie.Need-loop-less Inv-loop μ-loop
 loop-less c = omega arith
 
 loop-again : tie.Need-loop-again Inv-loop μ-loop
-loop-again c = writing-next (valueBy (c .before .before .before .before .before .before .before .before .before .before .args .pulls .now) (c .before .before .before .before .before .before .before .before .before .before .args .lab .now) (c .before .before .before .before .before .before .before .before .before .before .args .m) (c .before .before .before .before .before .before .before .before .before .before .args .next .now) (c .before .before .before .before .before .before .before .before .before .before .args .mem .now) (c .before .before .before .before .before .before .before .before .before .before .args .gw .now) (c .before .before .before .before .before .before .before .before .before .before .args .gi .now)) (c .before .before .before .before .before .before .before .before .before .before .args .z .now) (c .before .before .loop .inv) (omega arith) (c .value-at .ensures)
+loop-again c =
+    let at-loop = c .before .before in
+    let at-start = at-loop .before .before .before .before .before .before .before .before in
+    let a = at-start .args in
+    writing-next (valueBy (a .pulls .now) (a .lab .now) (a .m) (a .next .now) (a .mem .now) (a .gw .now) (a .gi .now)) (a .z .now) (at-loop .loop .inv) (omega arith) (c .value-at .ensures)
 
 same-length : tie.Need-same-length Inv-loop μ-loop
 same-length c = c .before .loop .inv .long
 
 returns : tie.Need-returns Inv-loop μ-loop
-returns c = writing-table (valueBy (c .before .before .before .before .before .before .before .before .before .args .pulls .now) (c .before .before .before .before .before .before .before .before .before .args .lab .now) (c .before .before .before .before .before .before .before .before .before .args .m) (c .before .before .before .before .before .before .before .before .before .args .next .now) (c .before .before .before .before .before .before .before .before .before .args .mem .now) (c .before .before .before .before .before .before .before .before .before .args .gw .now) (c .before .before .before .before .before .before .before .before .before .args .gi .now)) (c .before .before .before .before .before .before .before .before .before .args .z .now) (c .before .loop .inv) (c .before .before .before .before .before .before .before .before .before .pre .6) (omega arith)
+returns c =
+    let at-loop = c .before in
+    let at-start = at-loop .before .before .before .before .before .before .before .before in
+    let a = at-start .args in
+    writing-table (valueBy (a .pulls .now) (a .lab .now) (a .m) (a .next .now) (a .mem .now) (a .gw .now) (a .gi .now)) (a .z .now) (at-loop .loop .inv) (at-start .pre .6) (omega arith)
 
 pub fill-values-spec : {M : Type 1} → statement M
 fill-values-spec =

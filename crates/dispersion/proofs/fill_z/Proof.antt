@@ -30,7 +30,11 @@ same-length-3 c = search needs
 
 returns : tie.Need-returns
 unfolding zOf someNegative
-returns c = (c .before .before .before .before .some-negative .ensures ∙ ap (any negative) (c .before .before .before .before .before .before .before .before .before .before .before .before .values .ensures), c .before .before .distances .ensures ∙ ap (map distanceOf) (c .before .before .before .before .before .before .before .before .before .before .before .before .values .ensures))
+returns c =
+    let at-distances = c .before .before in
+    let at-some-negative = at-distances .before .before in
+    let at-values = at-some-negative .before .before .before .before .before .before .before .before in
+    (at-some-negative .some-negative .ensures ∙ ap (any negative) (at-values .values .ensures), at-distances .distances .ensures ∙ ap (map distanceOf) (at-values .values .ensures))
 
 pub fill-z-spec : {M : Type 1} → statement M
 fill-z-spec =

@@ -27,7 +27,10 @@ entry-requires : tie.Need-entry-requires Inv-loop μ-loop
 entry-requires c κs = omega arith
 
 sum-entries-requires : tie.Need-sum-entries-requires Inv-loop μ-loop
-sum-entries-requires c κs = (c .before .before .before .before .before .pre .0, c .before .before .before .before .before .pre .1, omega (arith, c .entry .ensures, c .before .before .before .before .before .pre .1 (c .before .before .loop .x) (omega arith)))
+sum-entries-requires c κs =
+    let at-loop = c .before .before in
+    let at-start = at-loop .before .before .before in
+    (at-start .pre .0, at-start .pre .1, omega (arith, c .entry .ensures, at-start .pre .1 (at-loop .loop .x) (omega arith)))
 
 add-x : tie.Need-add-x Inv-loop μ-loop
 add-x c = omega arith
@@ -36,10 +39,18 @@ loop-less : tie.Need-loop-less Inv-loop μ-loop
 loop-less c = omega arith
 
 loop-again : tie.Need-loop-again Inv-loop μ-loop
-loop-again c = ordered-turn (entry (c .before .before .before .before .before .before .args .m) (c .before .before .before .before .before .before .args .t .now)) _ (c .before .before .before .before .before .before .args .mem .now) (c .before .before .before .before .before .before .args .mem .now) (c .before .before .before .loop .x) 0 (omega arith) (c .sum-entries .ensures ∙ ap (λ (a : ℕ). sumFrom (c .before .before .before .loop .s) (map (entry (c .before .before .before .before .before .before .args .m) (c .before .before .before .before .before .before .args .t .now) a) (c .before .before .before .before .before .before .args .mem .now))) (c .before .entry .ensures)) (c .before .before .before .loop .inv)
+loop-again c =
+    let at-entry = c .before in
+    let at-loop = at-entry .before .before in
+    let at-start = at-loop .before .before .before in
+    ordered-turn (entry (at-start .args .m) (at-start .args .t .now)) _ (at-start .args .mem .now) (at-start .args .mem .now) (at-loop .loop .x) 0 (omega arith) (c .sum-entries .ensures ∙ ap (λ (a : ℕ). sumFrom (at-loop .loop .s) (map (entry (at-start .args .m) (at-start .args .t .now) a) (at-start .args .mem .now))) (at-entry .entry .ensures)) (at-loop .loop .inv)
 
 returns : tie.Need-returns Inv-loop μ-loop
-returns c = ordered-end (entry (c .before .before .before .before .args .m) (c .before .before .before .before .args .t .now)) _ (c .before .before .before .before .args .mem .now) (c .before .before .before .before .args .mem .now) (c .before .loop .x) (omega arith) (c .before .loop .inv)
+returns c =
+    let at-loop = c .before in
+    let at-start = at-loop .before .before .before in
+    let a = at-start .args in
+    ordered-end (entry (a .m) (a .t .now)) _ (a .mem .now) (a .mem .now) (at-loop .loop .x) (omega arith) (at-loop .loop .inv)
 
 pub inside-spec : {M : Type 1} → statement M
 inside-spec =

@@ -27,7 +27,10 @@ shared-slice-read-if1 : tie.Need-shared-slice-read-if1 Inv-loop μ-loop
 shared-slice-read-if1 c = omega arith
 
 returns : tie.Need-returns Inv-loop μ-loop
-returns c = sym (any-here negative (c .before .before .before .before .args .v .now) (c .before .before .before .loop .i) nan (omega arith) (c .if1 .taken)) ∙ c .before .before .before .loop .inv
+returns c =
+    let at-loop = c .before .before .before in
+    let at-start = at-loop .before in
+    sym (any-here negative (at-start .args .v .now) (at-loop .loop .i) nan (omega arith) (c .if1 .taken)) ∙ at-loop .loop .inv
 
 add-i : tie.Need-add-i Inv-loop μ-loop
 add-i c = omega arith
@@ -36,7 +39,10 @@ loop-less : tie.Need-loop-less Inv-loop μ-loop
 loop-less c = omega arith
 
 loop-again : tie.Need-loop-again Inv-loop μ-loop
-loop-again c = sym (any-later negative (c .before .before .before .before .args .v .now) (c .before .before .before .loop .i) nan (omega arith) (c .if1 .left)) ∙ c .before .before .before .loop .inv
+loop-again c =
+    let at-loop = c .before .before .before in
+    let at-start = at-loop .before in
+    sym (any-later negative (at-start .args .v .now) (at-loop .loop .i) nan (omega arith) (c .if1 .left)) ∙ at-loop .loop .inv
 
 returns-2 : tie.Need-returns-2 Inv-loop μ-loop
 returns-2 c = sym (any-none negative (c .before .before .args .v .now) (c .before .loop .i) (omega arith)) ∙ c .before .loop .inv

@@ -14,22 +14,39 @@ entry-requires : tie.Need-entry-requires
 entry-requires c κs = search needs
 
 part-of-requires : tie.Need-part-of-requires
-part-of-requires c κs = part-there (c .before .before .before .before .before .before .before .args .m) (c .before .before .before .before .before .before .before .args .g) (c .entry .result) (c .before .before .before .before .before .before .before .args .next .now) (c .before .before .before .before .before .before .before .args .mem .now) (c .before .before .before .before .before .before .before .pre .3) (omega (arith, c .entry .ensures, c .before .before .before .before .before .before .before .pre .2 (c .before .before .before .before .before .before .before .args .a) (omega arith)))
+part-of-requires c κs =
+    let at-start = c .before .before .before .before .before .before .before in
+    part-there (at-start .args .m) (at-start .args .g) (c .entry .result) (at-start .args .next .now) (at-start .args .mem .now) (at-start .pre .3) (omega (arith, c .entry .ensures, at-start .pre .2 (at-start .args .a) (omega arith)))
 
 pull-sum-requires : tie.Need-pull-sum-requires
-pull-sum-requires c κs = (c .before .before .before .before .before .before .before .before .pre .0, part-below (c .before .before .before .before .before .before .before .before .args .m) (c .before .before .before .before .before .before .before .before .args .g) (c .before .entry .result) (c .before .before .before .before .before .before .before .before .args .next .now) (c .before .before .before .before .before .before .before .before .args .mem .now) _ (c .before .before .before .before .before .before .before .before .pre .3) (omega (arith, c .before .entry .ensures, c .before .before .before .before .before .before .before .before .pre .2 (c .before .before .before .before .before .before .before .before .args .a) (omega arith))) (c .part-of .ensures), c .before .before .before .before .before .before .before .before .pre .6)
+pull-sum-requires c κs =
+    let at-entry = c .before in
+    let at-start = at-entry .before .before .before .before .before .before .before in
+    (at-start .pre .0, part-below (at-start .args .m) (at-start .args .g) (at-entry .entry .result) (at-start .args .next .now) (at-start .args .mem .now) _ (at-start .pre .3) (omega (arith, at-entry .entry .ensures, at-start .pre .2 (at-start .args .a) (omega arith))) (c .part-of .ensures), at-start .pre .6)
 
 mul-value-of : tie.Need-mul-value-of
-mul-value-of c = omega (arith, c .before .before .entry .ensures, c .before .before .before .before .before .before .before .before .before .pre .2 (c .before .before .before .before .before .before .before .before .before .args .a) (omega arith))
+mul-value-of c =
+    let at-entry = c .before .before in
+    let at-start = at-entry .before .before .before .before .before .before .before in
+    omega (arith, at-entry .entry .ensures, at-start .pre .2 (at-start .args .a) (omega arith))
 
 shared-slice-read-value-of : tie.Need-shared-slice-read-value-of
-shared-slice-read-value-of c = omega (arith, c .before .before .before .entry .ensures, c .before .before .before .before .before .before .before .before .before .before .pre .2 (c .before .before .before .before .before .before .before .before .before .before .args .a) (omega arith))
+shared-slice-read-value-of c =
+    let at-entry = c .before .before .before in
+    let at-start = at-entry .before .before .before .before .before .before .before in
+    omega (arith, at-entry .entry .ensures, at-start .pre .2 (at-start .args .a) (omega arith))
 
 mul-value-of-2 : tie.Need-mul-value-of-2
-mul-value-of-2 c = omega (arith, c .before .before .before .entry .ensures, c .before .before .before .before .before .before .before .before .before .before .pre .2 (c .before .before .before .before .before .before .before .before .before .before .args .a) (omega arith))
+mul-value-of-2 c =
+    let at-entry = c .before .before .before in
+    let at-start = at-entry .before .before .before .before .before .before .before in
+    omega (arith, at-entry .entry .ensures, at-start .pre .2 (at-start .args .a) (omega arith))
 
 shared-slice-read-value-of-2 : tie.Need-shared-slice-read-value-of-2
-shared-slice-read-value-of-2 c = omega (arith, c .before .before .before .before .entry .ensures, c .before .before .before .before .before .before .before .before .before .before .before .pre .2 (c .before .before .before .before .before .before .before .before .before .before .before .args .a) (omega arith))
+shared-slice-read-value-of-2 c =
+    let at-entry = c .before .before .before .before in
+    let at-start = at-entry .before .before .before .before .before .before .before in
+    omega (arith, at-entry .entry .ensures, at-start .pre .2 (at-start .args .a) (omega arith))
 
 value-of-requires : tie.Need-value-of-requires
 value-of-requires c κs = search needs

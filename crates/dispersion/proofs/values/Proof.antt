@@ -16,7 +16,11 @@ fill-insides-requires : tie.Need-fill-insides-requires
 fill-insides-requires c κs = search needs
 
 fill-values-requires : tie.Need-fill-values-requires
-fill-values-requires c κs = (c .before .before .before .before .before .before .before .before .before .before .before .before .before .before .before .before .before .before .before .before .pre .0 .0, c .before .before .before .before .before .before .before .before .before .before .before .before .before .before .before .before .before .before .before .before .pre .0 .3, c .before .before .before .before .before .before .before .before .before .before .before .before .before .before .before .before .before .before .before .before .pre .0 .4, c .before .before .before .before .before .before .before .before .before .before .before .before .before .before .before .before .before .before .before .before .pre .1 .0 .parts, omega (arith, c .before .before .before .before .before .before .before .before .before .fill-weights .kept .1 .1 .1 .1 .1 .0), omega (arith, c .before .before .before .before .before .fill-insides .kept .1 .1 .1 .1 .1 .0), c .before .before .before .before .before .before .before .before .before .before .before .before .before .before .before .before .before .before .before .before .pre .1 .3)
+fill-values-requires c κs =
+    let at-fill-insides = c .before .before .before .before .before in
+    let at-fill-weights = at-fill-insides .before .before .before .before in
+    let at-start = at-fill-weights .before .before .before .before .before .before .before .before .before .before .before in
+    (at-start .pre .0 .0, at-start .pre .0 .3, at-start .pre .0 .4, at-start .pre .1 .0 .parts, omega (arith, at-fill-weights .fill-weights .kept .1 .1 .1 .1 .1 .0), omega (arith, at-fill-insides .fill-insides .kept .1 .1 .1 .1 .1 .0), at-start .pre .1 .3)
 
 same-length : tie.Need-same-length
 same-length c = search needs
@@ -28,7 +32,13 @@ same-length-3 : tie.Need-same-length-3
 same-length-3 c = search needs
 
 returns : tie.Need-returns
-returns c = c .before .before .fill-values .ensures ∙ values-are _ _ _ _ _ (c .before .before .before .before .before .before .before .before .before .before .before .before .before .before .before .before .before .before .before .before .before .before .before .pre .1 .0) _ (c .before .before .before .before .before .before .before .before .before .before .before .before .before .before .before .before .before .before .before .before .before .before .before .args .t .now) (c .before .before .before .before .before .before .before .before .before .before .before .before .before .before .before .before .before .before .before .before .before .before .before .args .w .now) (c .before .before .before .before .before .before .before .before .before .before .before .before .before .before .before .before .before .before .before .before .before .before .before .args .gw .now) (c .before .before .before .before .before .before .before .before .before .before .before .before .before .before .before .before .before .before .before .before .before .before .before .args .gi .now) _ _ (c .before .before .before .before .before .before .before .before .before .before .before .before .before .before .before .before .before .before .before .before .before .before .before .pre .0 .3) (c .before .before .before .before .before .before .before .before .before .before .before .before .before .before .before .before .before .before .before .before .before .before .before .pre .0 .4) (c .before .before .before .before .before .before .before .before .before .before .before .before .fill-weights .ensures) (c .before .before .before .before .before .before .before .before .fill-insides .ensures)
+returns c =
+    let at-fill-values = c .before .before in
+    let at-fill-insides = at-fill-values .before .before .before .before .before .before in
+    let at-fill-weights = at-fill-insides .before .before .before .before in
+    let at-start = at-fill-weights .before .before .before .before .before .before .before .before .before .before .before in
+    let a = at-start .args in
+    at-fill-values .fill-values .ensures ∙ values-are _ _ _ _ _ (at-start .pre .1 .0) _ (a .t .now) (a .w .now) (a .gw .now) (a .gi .now) _ _ (at-start .pre .0 .3) (at-start .pre .0 .4) (at-fill-weights .fill-weights .ensures) (at-fill-insides .fill-insides .ensures)
 
 pub values-spec : {M : Type 1} → statement M
 values-spec =

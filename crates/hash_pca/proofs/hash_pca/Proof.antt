@@ -6,8 +6,9 @@ use native.Mathlib.Nat.{min-le-right}
 use native.Mathlib.Omega.{arith}
 use borrow.Author.Needs.{needs}
 use lib.ListN.{length}
-use Rattle.pcoa.proofs.Lines.{asked}
-use Rattle.hash_pca.proofs.Halves.{lent, call-is}
+use Rattle.ordination_lines.proofs.Lines.{asked}
+use Rattle.ordination_lines.proofs.Words.{lent}
+use Rattle.hash_pca.proofs.Halves.{call-is}
 use Rattle.hash_pca.proofs.hash_pca.Statement.{statement}
 use Rattle.hash_pca.proofs.hash_pca.Tie as tie
 
@@ -22,7 +23,12 @@ bad-components-requires c κs = search needs
 
 ordinate-sets-requires : tie.Need-ordinate-sets-requires
 ordinate-sets-requires c κs =
-    ((omega (arith, c .before .before .before .before .before .before .before .before .leading .ensures, min-le-right (c .before .before .before .before .before .before .before .before .before .before .before .before .before .before .before .before .before .args .components) (c .before .before .before .before .before .before .before .before .before .before .before .before .before .before .before .before .before .args .n)), λ e. asked (c .before .before .before .before .before .before .before .before .before .before .before .before .before .before .before .before .before .args .components) (c .before .before .before .before .before .before .before .before .before .before .before .before .before .before .before .before .before .args .n) (sym (c .before .before .before .before .before .before .bad-components .ensures) ∙ e) (c .before .before .before .before .before .before .before .before .leading .ensures) .most), λ e. lent (c .before .before .before .before .before .before .before .before .leading .result) (c .before .before .before .before .before .before .before .before .before .before .before .before .before .before .before .before .before .args .n) (length (c .before .before .before .before .before .before .before .before .before .before .before .before .before .before .before .before .before .args .out .now)) (length (c .before .before .before .before .before .before .before .before .before .before .before .before .before .before .before .before .before .args .b .now)) (length (c .before .before .before .before .before .before .before .before .before .before .before .before .before .before .before .before .before .args .w .now)) (length (c .before .before .before .before .before .before .before .before .before .before .before .before .before .before .before .before .before .args .m .now)) (length (c .before .before .before .before .before .before .before .before .before .before .before .before .before .before .before .before .before .args .v .now)) (length (c .before .before .before .before .before .before .before .before .before .before .before .before .before .before .before .before .before .args .words .now)) (sym (c .before .before .before .before .before .before .before .is-lacking .ensures) ∙ e))
+    let at-bad-components = c .before .before .before .before .before .before in
+    let at-is-lacking = at-bad-components .before in
+    let at-leading = at-is-lacking .before in
+    let at-start = at-leading .before .before .before .before .before .before .before .before .before in
+    let a = at-start .args in
+    ((omega (arith, at-leading .leading .ensures, min-le-right (a .components) (a .n)), λ e. asked (a .components) (a .n) (sym (at-bad-components .bad-components .ensures) ∙ e) (at-leading .leading .ensures) .most), λ e. lent (at-leading .leading .result) (a .n) (length (a .out .now)) (length (a .b .now)) (length (a .w .now)) (length (a .m .now)) (length (a .v .now)) (length (a .words .now)) (sym (at-is-lacking .is-lacking .ensures) ∙ e))
 
 same-length : tie.Need-same-length
 same-length c = c .before .before .before .before .before .before .before .before .before .before .before .before .ordinate-sets .kept .1 .1 .1 .1 .1 .1 .0
@@ -43,7 +49,14 @@ same-length-6 : tie.Need-same-length-6
 same-length-6 c = c .before .before .before .before .before .before .before .before .before .before .before .before .ordinate-sets .kept .1 .1 .1 .1 .1 .1 .1 .1 .1 .1 .1 .0
 
 returns : tie.Need-returns
-returns c = call-is (c .before .before .before .before .before .before .before .before .before .before .before .before .before .before .before .before .before .before .before .before .before .before .before .before .before .before .before .before .before .before .args .components) (c .before .before .before .before .before .before .before .before .before .before .before .before .before .before .before .before .before .before .before .before .before .before .before .before .before .before .before .before .before .before .args .n) (c .before .before .before .before .before .before .before .before .before .before .before .before .before .before .before .before .before .before .before .before .before .before .before .before .before .before .before .before .before .before .args .hashes .now) (c .before .before .before .before .before .before .before .before .before .before .before .before .before .before .before .before .before .before .before .before .before .before .before .before .before .before .before .before .before .before .args .offsets .now) (c .before .before .before .before .before .before .before .before .before .before .before .before .before .before .before .before .before .before .before .before .before .before .before .before .before .before .before .before .before .before .args .out .now) (c .before .before .before .before .before .before .before .before .before .before .before .before .before .before .before .before .before .before .before .before .before .before .before .before .before .before .before .before .before .before .args .b .now) (c .before .before .before .before .before .before .before .before .before .before .before .before .before .before .before .before .before .before .before .before .before .before .before .before .before .before .before .before .before .before .args .w .now) (c .before .before .before .before .before .before .before .before .before .before .before .before .before .before .before .before .before .before .before .before .before .before .before .before .before .before .before .before .before .before .args .m .now) (c .before .before .before .before .before .before .before .before .before .before .before .before .before .before .before .before .before .before .before .before .before .before .before .before .before .before .before .before .before .before .args .v .now) (c .before .before .before .before .before .before .before .before .before .before .before .before .before .before .before .before .before .before .before .before .before .before .before .before .before .before .before .before .before .before .args .words .now) (c .before .before .before .before .before .before .before .before .before .before .before .before .before .before .before .before .before .before .before .before .before .leading .ensures) (c .before .before .before .before .before .before .before .before .before .before .before .before .before .before .before .before .before .before .before .before .is-lacking .ensures) (c .before .before .before .before .before .before .before .before .before .before .before .before .before .before .before .before .before .before .before .bad-components .ensures) (c .before .before .before .before .before .before .before .before .before .before .before .before .ordinate-sets .ensures)
+returns c =
+    let at-ordinate-sets = c .before .before .before .before .before .before .before .before .before .before .before .before in
+    let at-bad-components = at-ordinate-sets .before .before .before .before .before .before .before in
+    let at-is-lacking = at-bad-components .before in
+    let at-leading = at-is-lacking .before in
+    let at-start = at-leading .before .before .before .before .before .before .before .before .before in
+    let a = at-start .args in
+    call-is (a .components) (a .n) (a .hashes .now) (a .offsets .now) (a .out .now) (a .b .now) (a .w .now) (a .m .now) (a .v .now) (a .words .now) (at-leading .leading .ensures) (at-is-lacking .is-lacking .ensures) (at-bad-components .bad-components .ensures) (at-ordinate-sets .ordinate-sets .ensures)
 
 pub hash-pca-spec : {M : Type 1} → statement M
 hash-pca-spec =

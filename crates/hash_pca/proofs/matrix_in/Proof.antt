@@ -15,7 +15,9 @@ use Rattle.hash_pca.proofs.matrix_in.Statement.{statement}
 use Rattle.hash_pca.proofs.matrix_in.Tie as tie
 
 check-gram-requires : tie.Need-check-gram-requires
-check-gram-requires c κs = (c .before .before .before .before .before .before .before .before .before .before .before .pre .0 .0, c .before .before .before .before .before .before .before .before .before .before .before .pre .0 .1, c .before .before .before .before .before .before .before .before .before .before .before .pre .1 .0 .0)
+check-gram-requires c κs =
+    let at-start = c .before .before .before .before .before .before .before .before .before .before .before in
+    (at-start .pre .0 .0, at-start .pre .0 .1, at-start .pre .1 .0 .0)
 
 enum-known-a : tie.Need-enum-known-a
 enum-known-a c = search needs
@@ -33,27 +35,50 @@ same-length-3 : tie.Need-same-length-3
 same-length-3 c = c .before .before .before .before .before .before .before .before .check-gram .kept .1 .1 .0
 
 returns : tie.Need-returns
-returns c = matrix-refused (c .before .before .before .before .before .before .before .before .before .before .before .before .before .before .before .before .before .before .before .before .args .n) (c .before .before .before .before .before .before .before .before .before .before .before .before .before .before .before .before .before .before .before .before .args .hashes .now) (c .before .before .before .before .before .before .before .before .before .before .before .before .before .before .before .before .before .before .before .before .args .offsets .now) (c .before .before .before .before .before .before .before .before .before .before .before .before .before .before .before .before .before .before .before .before .args .short) (c .before .before .before .before .before .before .before .before .before .before .before .before .before .before .before .before .before .before .before .before .args .beyond) (c .before .before .before .before .before .before .before .before .before .before .before .before .before .before .before .before .before .before .before .before .args .b .now) (c .before .before .before .before .before .before .before .before .before .before .before .before .before .before .before .before .before .before .before .before .args .words .now) (c .enum-told .given .0 .0) (c .enum-told .given .1) (c .before .before .before .before .before .before .before .before .check-gram .ensures .told)
+returns c =
+    let at-check-gram = c .before .before .before .before .before .before .before .before in
+    let at-start = at-check-gram .before .before .before .before .before .before .before .before .before .before .before .before in
+    let a = at-start .args in
+    matrix-refused (a .n) (a .hashes .now) (a .offsets .now) (a .short) (a .beyond) (a .b .now) (a .words .now) (c .enum-told .given .0 .0) (c .enum-told .given .1) (at-check-gram .check-gram .ensures .told)
 
 slice-reshare-prefix-fill-gram : tie.Need-slice-reshare-prefix-fill-gram
-slice-reshare-prefix-fill-gram c = let t = checked-answer (c .before .before .before .before .before .before .before .before .before .before .before .before .before .before .before .before .before .before .before .before .before .before .before .before .args .n) (c .before .before .before .before .before .before .before .before .before .before .before .before .before .before .before .before .before .before .before .before .before .before .before .before .args .hashes .now) (c .before .before .before .before .before .before .before .before .before .before .before .before .before .before .before .before .before .before .before .before .before .before .before .before .args .offsets .now) (c .before .before .before .before .before .before .before .before .before .before .before .before .before .before .before .before .before .before .before .before .before .before .before .before .args .short) (c .before .before .before .before .before .before .before .before .before .before .before .before .before .before .before .before .before .before .before .before .before .before .before .before .args .beyond) (c .before .before .before .before .before .before .before .before .before .before .before .before .check-gram .ensures) (c .before .before .before .before .a .given .1) in let few = t .1 .bounded in let most = t .1 .most in (omega (arith, c .before .before .before .before .before .before .before .before .before .before .before .before .before .before .before .before .before .before .before .before .before .before .before .before .pre .0 .1, c .before .before .before .before .before .before .before .before .before .before .before .before .check-gram .kept .1 .0))
+slice-reshare-prefix-fill-gram c =
+    let at-a = c .before .before .before .before in
+    let at-check-gram = at-a .before .before .before .before .before .before .before .before in
+    let at-start = at-check-gram .before .before .before .before .before .before .before .before .before .before .before .before in
+    let t = checked-answer (at-start .args .n) (at-start .args .hashes .now) (at-start .args .offsets .now) (at-start .args .short) (at-start .args .beyond) (at-check-gram .check-gram .ensures) (at-a .a .given .1) in let few = t .1 .bounded in let most = t .1 .most in (omega (arith, at-start .pre .0 .1, at-check-gram .check-gram .kept .1 .0))
 
 slice-aggregate-fill-gram : tie.Need-slice-aggregate-fill-gram
-slice-aggregate-fill-gram c = let t = checked-answer (c .before .before .before .before .before .before .before .before .before .before .before .before .before .before .before .before .before .before .before .before .before .before .before .before .before .args .n) (c .before .before .before .before .before .before .before .before .before .before .before .before .before .before .before .before .before .before .before .before .before .before .before .before .before .args .hashes .now) (c .before .before .before .before .before .before .before .before .before .before .before .before .before .before .before .before .before .before .before .before .before .before .before .before .before .args .offsets .now) (c .before .before .before .before .before .before .before .before .before .before .before .before .before .before .before .before .before .before .before .before .before .before .before .before .before .args .short) (c .before .before .before .before .before .before .before .before .before .before .before .before .before .before .before .before .before .before .before .before .before .before .before .before .before .args .beyond) (c .before .before .before .before .before .before .before .before .before .before .before .before .before .check-gram .ensures) (c .before .before .before .before .before .a .given .1) in let few = t .1 .bounded in let most = t .1 .most in sym (length-take-le (length (c .before .before .before .before .before .before .before .before .before .before .before .before .before .before .before .before .before .before .before .before .before .before .before .before .before .args .hashes .now)) (c .before .before .before .before .before .before .before .before .before .before .before .before .before .check-gram .last .1 .0) (omega (arith, c .before .before .before .before .before .before .before .before .before .before .before .before .before .before .before .before .before .before .before .before .before .before .before .before .before .pre .0 .1, c .before .before .before .before .before .before .before .before .before .before .before .before .before .check-gram .kept .1 .0)))
+slice-aggregate-fill-gram c =
+    let at-a = c .before .before .before .before .before in
+    let at-check-gram = at-a .before .before .before .before .before .before .before .before in
+    let at-start = at-check-gram .before .before .before .before .before .before .before .before .before .before .before .before in
+    let t = checked-answer (at-start .args .n) (at-start .args .hashes .now) (at-start .args .offsets .now) (at-start .args .short) (at-start .args .beyond) (at-check-gram .check-gram .ensures) (at-a .a .given .1) in let few = t .1 .bounded in let most = t .1 .most in sym (length-take-le (length (at-start .args .hashes .now)) (at-check-gram .check-gram .last .1 .0) (omega (arith, at-start .pre .0 .1, at-check-gram .check-gram .kept .1 .0)))
 
 slice-reshare-prefix-fill-gram-2 : tie.Need-slice-reshare-prefix-fill-gram-2
-slice-reshare-prefix-fill-gram-2 c = let t = checked-answer (c .before .before .before .before .before .before .before .before .before .before .before .before .before .before .before .before .before .before .before .before .before .before .before .before .before .args .n) (c .before .before .before .before .before .before .before .before .before .before .before .before .before .before .before .before .before .before .before .before .before .before .before .before .before .args .hashes .now) (c .before .before .before .before .before .before .before .before .before .before .before .before .before .before .before .before .before .before .before .before .before .before .before .before .before .args .offsets .now) (c .before .before .before .before .before .before .before .before .before .before .before .before .before .before .before .before .before .before .before .before .before .before .before .before .before .args .short) (c .before .before .before .before .before .before .before .before .before .before .before .before .before .before .before .before .before .before .before .before .before .before .before .before .before .args .beyond) (c .before .before .before .before .before .before .before .before .before .before .before .before .before .check-gram .ensures) (c .before .before .before .before .before .a .given .1) in let few = t .1 .bounded in let most = t .1 .most in (omega (arith, t .0, c .before .before .before .before .before .before .before .before .before .before .before .before .before .before .before .before .before .before .before .before .before .before .before .before .before .pre .1 .0 .0, c .before .before .before .before .before .before .before .before .before .before .before .before .before .check-gram .kept .1 .1 .0))
+slice-reshare-prefix-fill-gram-2 c =
+    let at-a = c .before .before .before .before .before in
+    let at-check-gram = at-a .before .before .before .before .before .before .before .before in
+    let at-start = at-check-gram .before .before .before .before .before .before .before .before .before .before .before .before in
+    let t = checked-answer (at-start .args .n) (at-start .args .hashes .now) (at-start .args .offsets .now) (at-start .args .short) (at-start .args .beyond) (at-check-gram .check-gram .ensures) (at-a .a .given .1) in let few = t .1 .bounded in let most = t .1 .most in (omega (arith, t .0, at-start .pre .1 .0 .0, at-check-gram .check-gram .kept .1 .1 .0))
 
 slice-aggregate-fill-gram-2 : tie.Need-slice-aggregate-fill-gram-2
-slice-aggregate-fill-gram-2 c = let t = checked-answer (c .before .before .before .before .before .before .before .before .before .before .before .before .before .before .before .before .before .before .before .before .before .before .before .before .before .before .args .n) (c .before .before .before .before .before .before .before .before .before .before .before .before .before .before .before .before .before .before .before .before .before .before .before .before .before .before .args .hashes .now) (c .before .before .before .before .before .before .before .before .before .before .before .before .before .before .before .before .before .before .before .before .before .before .before .before .before .before .args .offsets .now) (c .before .before .before .before .before .before .before .before .before .before .before .before .before .before .before .before .before .before .before .before .before .before .before .before .before .before .args .short) (c .before .before .before .before .before .before .before .before .before .before .before .before .before .before .before .before .before .before .before .before .before .before .before .before .before .before .args .beyond) (c .before .before .before .before .before .before .before .before .before .before .before .before .before .before .check-gram .ensures) (c .before .before .before .before .before .before .a .given .1) in let few = t .1 .bounded in let most = t .1 .most in sym (length-take-le (c .before .before .before .before .before .before .a .given .0 .0) (c .before .before .before .before .before .before .before .before .before .before .before .before .before .before .check-gram .last .1 .1 .0) (omega (arith, t .0, c .before .before .before .before .before .before .before .before .before .before .before .before .before .before .before .before .before .before .before .before .before .before .before .before .before .before .pre .1 .0 .0, c .before .before .before .before .before .before .before .before .before .before .before .before .before .before .check-gram .kept .1 .1 .0)))
+slice-aggregate-fill-gram-2 c =
+    let at-a = c .before .before .before .before .before .before in
+    let at-check-gram = at-a .before .before .before .before .before .before .before .before in
+    let at-start = at-check-gram .before .before .before .before .before .before .before .before .before .before .before .before in
+    let t = checked-answer (at-start .args .n) (at-start .args .hashes .now) (at-start .args .offsets .now) (at-start .args .short) (at-start .args .beyond) (at-check-gram .check-gram .ensures) (at-a .a .given .1) in let few = t .1 .bounded in let most = t .1 .most in sym (length-take-le (at-a .a .given .0 .0) (at-check-gram .check-gram .last .1 .1 .0) (omega (arith, t .0, at-start .pre .1 .0 .0, at-check-gram .check-gram .kept .1 .1 .0)))
 
 fill-gram-requires : tie.Need-fill-gram-requires
 fill-gram-requires c κs =
-    let t = checked-answer (c .before .before .before .before .before .before .before .before .before .before .before .before .before .before .before .before .before .before .before .before .before .before .before .before .before .before .args .n) (c .before .before .before .before .before .before .before .before .before .before .before .before .before .before .before .before .before .before .before .before .before .before .before .before .before .before .args .hashes .now) (c .before .before .before .before .before .before .before .before .before .before .before .before .before .before .before .before .before .before .before .before .before .before .before .before .before .before .args .offsets .now) (c .before .before .before .before .before .before .before .before .before .before .before .before .before .before .before .before .before .before .before .before .before .before .before .before .before .before .args .short) (c .before .before .before .before .before .before .before .before .before .before .before .before .before .before .before .before .before .before .before .before .before .before .before .before .before .before .args .beyond) (c .before .before .before .before .before .before .before .before .before .before .before .before .before .before .check-gram .ensures) (c .before .before .before .before .before .before .a .given .1) in let few = t .1 .bounded in let most = t .1 .most in
-    let k = length-take-le (length (c .before .before .before .before .before .before .before .before .before .before .before .before .before .before .before .before .before .before .before .before .before .before .before .before .before .before .args .hashes .now)) (c .before .before .before .before .before .before .before .before .before .before .before .before .before .before .check-gram .last .1 .0) (omega (arith, c .before .before .before .before .before .before .before .before .before .before .before .before .before .before .before .before .before .before .before .before .before .before .before .before .before .before .pre .0 .1, c .before .before .before .before .before .before .before .before .before .before .before .before .before .before .check-gram .kept .1 .0)) in
-    let m = length-take-le (c .before .before .before .before .before .before .a .given .0 .0) (c .before .before .before .before .before .before .before .before .before .before .before .before .before .before .check-gram .last .1 .1 .0) (omega (arith, t .0, c .before .before .before .before .before .before .before .before .before .before .before .before .before .before .before .before .before .before .before .before .before .before .before .before .before .before .pre .1 .0 .0, c .before .before .before .before .before .before .before .before .before .before .before .before .before .before .check-gram .kept .1 .1 .0)) in
-    let room = c .before .before .before .before .before .before .before .before .before .before .before .before .before .before .before .before .before .before .before .before .before .before .before .before .before .before .pre .1 .1 (t .1 .enough) in
-    ((subst (Offsets (c .before .before .before .before .before .before .before .before .before .before .before .before .before .before .before .before .before .before .before .before .before .before .before .before .before .before .args .n) (c .before .before .before .before .before .before .before .before .before .before .before .before .before .before .before .before .before .before .before .before .before .before .before .before .before .before .args .offsets .now)) (sym k) (t .1 .sets), omega (arith, t .0)), (room .0, room .1, omega (arith, t .1 .few, c .before .before .before .before .before .before .before .before .before .before .before .before .before .before .before .before .before .before .before .before .before .before .before .before .before .before .pre .1 .0 .1)))
+    let at-a = c .before .before .before .before .before .before in
+    let at-check-gram = at-a .before .before .before .before .before .before .before .before in
+    let at-start = at-check-gram .before .before .before .before .before .before .before .before .before .before .before .before in
+    let t = checked-answer (at-start .args .n) (at-start .args .hashes .now) (at-start .args .offsets .now) (at-start .args .short) (at-start .args .beyond) (at-check-gram .check-gram .ensures) (at-a .a .given .1) in let few = t .1 .bounded in let most = t .1 .most in
+    let k = length-take-le (length (at-start .args .hashes .now)) (at-check-gram .check-gram .last .1 .0) (omega (arith, at-start .pre .0 .1, at-check-gram .check-gram .kept .1 .0)) in
+    let m = length-take-le (at-a .a .given .0 .0) (at-check-gram .check-gram .last .1 .1 .0) (omega (arith, t .0, at-start .pre .1 .0 .0, at-check-gram .check-gram .kept .1 .1 .0)) in
+    let room = at-start .pre .1 .1 (t .1 .enough) in
+    ((subst (Offsets (at-start .args .n) (at-start .args .offsets .now)) (sym k) (t .1 .sets), omega (arith, t .0)), (room .0, room .1, omega (arith, t .1 .few, at-start .pre .1 .0 .1)))
 
 same-length-4 : tie.Need-same-length-4
 same-length-4 c = c .before .before .before .before .before .before .fill-gram .kept .0
@@ -75,8 +100,12 @@ same-length-9 c = c .before .before .before .before .before .before .fill-gram .
 
 returns-2 : tie.Need-returns-2
 returns-2 c =
-    sym (ap (λ (r : Answer). of-gram.called r (c .before .before .before .before .before .before .fill-gram .last .0) (c .before .before .before .before .before .before .fill-gram .last .1 .0)) (c .before .before .before .before .before .before .before .before .before .before .before .before .before .a .given .1))
-    ∙ matrix-answered (c .before .before .before .before .before .before .before .before .before .before .before .before .before .before .before .before .before .before .before .before .before .before .before .before .before .before .before .before .before .before .before .before .before .args .n) (c .before .before .before .before .before .before .before .before .before .before .before .before .before .before .before .before .before .before .before .before .before .before .before .before .before .before .before .before .before .before .before .before .before .args .hashes .now) (c .before .before .before .before .before .before .before .before .before .before .before .before .before .before .before .before .before .before .before .before .before .before .before .before .before .before .before .before .before .before .before .before .before .args .offsets .now) (c .before .before .before .before .before .before .before .before .before .before .before .before .before .before .before .before .before .before .before .before .before .before .before .before .before .before .before .before .before .before .before .before .before .args .short) (c .before .before .before .before .before .before .before .before .before .before .before .before .before .before .before .before .before .before .before .before .before .before .before .before .before .before .before .before .before .before .before .before .before .args .beyond) (c .before .before .before .before .before .before .before .before .before .before .before .before .before .before .before .before .before .before .before .before .before .before .before .before .before .before .before .before .before .before .before .before .before .args .b .now) (c .before .before .before .before .before .before .before .before .before .before .before .before .before .before .before .before .before .before .before .before .before .before .before .before .before .before .before .before .before .before .before .before .before .args .words .now) (c .before .before .before .before .before .before .before .before .before .before .before .before .before .a .given .0 .0) (c .before .before .before .before .before .before .before .before .before .before .before .before .before .before .before .before .before .before .before .before .before .check-gram .ensures) (c .before .before .before .before .before .before .before .before .before .before .before .before .before .a .given .1) (c .before .before .before .before .before .before .fill-gram .ensures .0) (c .before .before .before .before .before .before .fill-gram .ensures .1)
+    let at-fill-gram = c .before .before .before .before .before .before in
+    let at-a = at-fill-gram .before .before .before .before .before .before .before in
+    let at-check-gram = at-a .before .before .before .before .before .before .before .before in
+    let at-start = at-check-gram .before .before .before .before .before .before .before .before .before .before .before .before in
+    sym (ap (λ (r : Answer). of-gram.called r (at-fill-gram .fill-gram .last .0) (at-fill-gram .fill-gram .last .1 .0)) (at-a .a .given .1))
+    ∙ matrix-answered (at-start .args .n) (at-start .args .hashes .now) (at-start .args .offsets .now) (at-start .args .short) (at-start .args .beyond) (at-start .args .b .now) (at-start .args .words .now) (at-a .a .given .0 .0) (at-check-gram .check-gram .ensures) (at-a .a .given .1) (at-fill-gram .fill-gram .ensures .0) (at-fill-gram .fill-gram .ensures .1)
 
 pub matrix-in-spec : {M : Type 1} → statement M
 matrix-in-spec =

@@ -19,7 +19,9 @@ slice-aggregate-matrix-in-4 : tie.Need-slice-aggregate-matrix-in-4
 slice-aggregate-matrix-in-4 c = search needs
 
 matrix-in-requires : tie.Need-matrix-in-requires
-matrix-in-requires c κs = ((omega (arith, c .before .before .before .before .before .before .before .before .before .before .pre .0), omega (arith, c .before .before .before .before .before .before .before .before .before .before .pre .0)), ((omega arith, omega arith), c .before .before .before .before .before .before .before .before .before .before .pre .1))
+matrix-in-requires c κs =
+    let at-start = c .before .before .before .before .before .before .before .before .before .before in
+    ((omega (arith, at-start .pre .0), omega (arith, at-start .pre .0)), ((omega arith, omega arith), at-start .pre .1))
 
 same-length : tie.Need-same-length
 same-length c = c .before .before .before .before .before .before .before .before .matrix-in .kept .0

@@ -25,14 +25,21 @@ same-length-2 : tie.Need-same-length-2
 same-length-2 c = c .before .before .before .before .before .before .matrix .kept .1 .0
 
 returns : tie.Need-returns
-returns c = sets-refused (c .before .before .before .before .before .before .before .before .before .before .before .before .before .before .before .before .before .args .k) (c .before .before .before .before .before .before .before .before .before .before .before .before .before .before .before .before .before .args .n) (c .before .before .before .before .before .before .before .before .before .before .before .before .before .before .before .before .before .args .hashes .now) (c .before .before .before .before .before .before .before .before .before .before .before .before .before .before .before .before .before .args .offsets .now) (c .before .before .before .before .before .before .before .before .before .before .before .before .before .before .before .before .before .args .short) (c .before .before .before .before .before .before .before .before .before .before .before .before .before .before .before .before .before .args .beyond) (c .before .before .before .before .before .before .before .before .before .before .before .before .before .before .before .before .before .args .out .now) (c .before .before .before .before .before .before .before .before .before .before .before .before .before .before .before .before .before .args .b .now) (c .before .before .before .before .before .before .before .before .before .before .before .before .before .before .before .before .before .args .w .now) (c .before .before .before .before .before .before .before .before .before .before .before .before .before .before .before .before .before .args .m .now) (c .before .before .before .before .before .before .before .before .before .before .before .before .before .before .before .before .before .args .v .now) (c .before .before .before .before .before .before .before .before .before .before .before .before .before .before .before .before .before .args .words .now) (c .before .before .before .before .before .before .matrix .result) (c .before .before .before .before .before .before .matrix .ensures) (c .enum-told .given .0 .0) (c .enum-told .given .1)
+returns c =
+    let at-matrix = c .before .before .before .before .before .before in
+    let at-start = at-matrix .before .before .before .before .before .before .before .before .before .before .before in
+    let a = at-start .args in
+    sets-refused (a .k) (a .n) (a .hashes .now) (a .offsets .now) (a .short) (a .beyond) (a .out .now) (a .b .now) (a .w .now) (a .m .now) (a .v .now) (a .words .now) (at-matrix .matrix .result) (at-matrix .matrix .ensures) (c .enum-told .given .0 .0) (c .enum-told .given .1)
 
 settle-requires : tie.Need-settle-requires
 settle-requires c κs =
-    let s = sets-accepted (c .before .before .before .before .before .before .before .before .before .before .before .before .before .before .before .before .before .before .before .before .before .before .before .args .k) (c .before .before .before .before .before .before .before .before .before .before .before .before .before .before .before .before .before .before .before .before .before .before .before .args .n) (c .before .before .before .before .before .before .before .before .before .before .before .before .before .before .before .before .before .before .before .before .before .before .before .args .hashes .now) (c .before .before .before .before .before .before .before .before .before .before .before .before .before .before .before .before .before .before .before .before .before .before .before .args .offsets .now) (c .before .before .before .before .before .before .before .before .before .before .before .before .before .before .before .before .before .before .before .before .before .before .before .args .short) (c .before .before .before .before .before .before .before .before .before .before .before .before .before .before .before .before .before .before .before .before .before .before .before .args .beyond) (c .before .before .before .before .before .before .before .before .before .before .before .before .before .before .before .before .before .before .before .before .before .before .before .args .out .now) (c .before .before .before .before .before .before .before .before .before .before .before .before .before .before .before .before .before .before .before .before .before .before .before .args .b .now) (c .before .before .before .before .before .before .before .before .before .before .before .before .before .before .before .before .before .before .before .before .before .before .before .args .w .now) (c .before .before .before .before .before .before .before .before .before .before .before .before .before .before .before .before .before .before .before .before .before .before .before .args .m .now) (c .before .before .before .before .before .before .before .before .before .before .before .before .before .before .before .before .before .before .before .before .before .before .before .args .v .now) (c .before .before .before .before .before .before .before .before .before .before .before .before .before .before .before .before .before .before .before .before .before .before .before .args .words .now) (c .before .before .before .before .before .before .before .before .before .before .before .before .matrix .result) (c .before .before .before .before .before .before .before .before .before .before .before .before .matrix .ensures) (c .before .before .before .before .before .before .a .given .0 .0) (c .before .before .before .before .before .before .a .given .1) in
-    let l = c .before .before .before .before .before .before .before .before .before .before .before .before .before .before .before .before .before .before .before .before .before .before .before .pre .1 (s .enough) in
+    let at-a = c .before .before .before .before .before .before in
+    let at-matrix = at-a .before .before .before .before .before .before in
+    let at-start = at-matrix .before .before .before .before .before .before .before .before .before .before .before in
+    let s = sets-accepted (at-start .args .k) (at-start .args .n) (at-start .args .hashes .now) (at-start .args .offsets .now) (at-start .args .short) (at-start .args .beyond) (at-start .args .out .now) (at-start .args .b .now) (at-start .args .w .now) (at-start .args .m .now) (at-start .args .v .now) (at-start .args .words .now) (at-matrix .matrix .result) (at-matrix .matrix .ensures) (at-a .a .given .0 .0) (at-a .a .given .1) in
+    let l = at-start .pre .1 (s .enough) in
     let r = l .room in
-    ((s .few, c .before .before .before .before .before .before .before .before .before .before .before .before .before .before .before .before .before .before .before .before .before .before .before .pre .0 .0, c .before .before .before .before .before .before .before .before .before .before .before .before .before .before .before .before .before .before .before .before .before .before .before .pre .0 .1 (s .limited)), (r .out-fits, omega (arith, r .b-fits, c .before .before .before .before .before .before .before .before .before .before .before .before .matrix .kept .0), r .w-fits, r .m-fits, r .v-fits))
+    ((s .few, at-start .pre .0 .0, at-start .pre .0 .1 (s .limited)), (r .out-fits, omega (arith, r .b-fits, at-matrix .matrix .kept .0), r .w-fits, r .m-fits, r .v-fits))
 
 enum-known-c : tie.Need-enum-known-c
 enum-known-c c = search needs
@@ -59,7 +66,13 @@ same-length-8 : tie.Need-same-length-8
 same-length-8 c = c .before .before .before .before .before .before .before .before .before .before .before .before .before .before .before .before .before .before .before .before .before .before .before .before .before .before .matrix .kept .1 .0
 
 returns-2 : tie.Need-returns-2
-returns-2 c = sets-settled (c .before .before .before .before .before .before .before .before .before .before .before .before .before .before .before .before .before .before .before .before .before .before .before .before .before .before .before .before .before .before .before .before .before .before .before .before .before .args .k) (c .before .before .before .before .before .before .before .before .before .before .before .before .before .before .before .before .before .before .before .before .before .before .before .before .before .before .before .before .before .before .before .before .before .before .before .before .before .args .n) (c .before .before .before .before .before .before .before .before .before .before .before .before .before .before .before .before .before .before .before .before .before .before .before .before .before .before .before .before .before .before .before .before .before .before .before .before .before .args .hashes .now) (c .before .before .before .before .before .before .before .before .before .before .before .before .before .before .before .before .before .before .before .before .before .before .before .before .before .before .before .before .before .before .before .before .before .before .before .before .before .args .offsets .now) (c .before .before .before .before .before .before .before .before .before .before .before .before .before .before .before .before .before .before .before .before .before .before .before .before .before .before .before .before .before .before .before .before .before .before .before .before .before .args .short) (c .before .before .before .before .before .before .before .before .before .before .before .before .before .before .before .before .before .before .before .before .before .before .before .before .before .before .before .before .before .before .before .before .before .before .before .before .before .args .beyond) (c .before .before .before .before .before .before .before .before .before .before .before .before .before .before .before .before .before .before .before .before .before .before .before .before .before .before .before .before .before .before .before .before .before .before .before .before .before .args .out .now) (c .before .before .before .before .before .before .before .before .before .before .before .before .before .before .before .before .before .before .before .before .before .before .before .before .before .before .before .before .before .before .before .before .before .before .before .before .before .args .b .now) (c .before .before .before .before .before .before .before .before .before .before .before .before .before .before .before .before .before .before .before .before .before .before .before .before .before .before .before .before .before .before .before .before .before .before .before .before .before .args .w .now) (c .before .before .before .before .before .before .before .before .before .before .before .before .before .before .before .before .before .before .before .before .before .before .before .before .before .before .before .before .before .before .before .before .before .before .before .before .before .args .m .now) (c .before .before .before .before .before .before .before .before .before .before .before .before .before .before .before .before .before .before .before .before .before .before .before .before .before .before .before .before .before .before .before .before .before .before .before .before .before .args .v .now) (c .before .before .before .before .before .before .before .before .before .before .before .before .before .before .before .before .before .before .before .before .before .before .before .before .before .before .before .before .before .before .before .before .before .before .before .before .before .args .words .now) (c .before .before .before .before .before .before .before .before .before .before .before .before .before .before .before .before .before .before .before .before .before .before .before .before .before .before .matrix .result) (c .before .before .before .before .before .before .before .before .before .before .before .before .before .before .before .before .before .before .before .before .before .before .before .before .before .before .matrix .ensures) (c .before .before .before .before .before .before .before .before .before .before .before .before .before .before .before .before .before .before .before .before .a .given .0 .0) (c .before .before .before .before .before .before .before .before .before .before .before .before .before .before .before .before .before .before .before .before .a .given .1) (answer.Refused (c .before .c .given .0 .0)) (c .before .before .before .before .before .before .before .before .before .before .before .before .before .before .before .before .before .before .before .before .before .before .before .before .before .before .matrix .kept .0) (c .before .before .before .before .before .before .before .before .before .before .before .before .before .settle .ensures) (said-refused (c .before .before .before .before .before .before .before .before .before .before .before .before .before .before .before .before .before .before .before .before .a .given .0 .0) (c .before .c .given .0 .0) (c .before .c .given .1))
+returns-2 c =
+    let at-c = c .before in
+    let at-settle = at-c .before .before .before .before .before .before .before .before .before .before .before .before in
+    let at-a = at-settle .before .before .before .before .before .before .before in
+    let at-matrix = at-a .before .before .before .before .before .before in
+    let at-start = at-matrix .before .before .before .before .before .before .before .before .before .before .before in
+    sets-settled (at-start .args .k) (at-start .args .n) (at-start .args .hashes .now) (at-start .args .offsets .now) (at-start .args .short) (at-start .args .beyond) (at-start .args .out .now) (at-start .args .b .now) (at-start .args .w .now) (at-start .args .m .now) (at-start .args .v .now) (at-start .args .words .now) (at-matrix .matrix .result) (at-matrix .matrix .ensures) (at-a .a .given .0 .0) (at-a .a .given .1) (answer.Refused (at-c .c .given .0 .0)) (at-matrix .matrix .kept .0) (at-settle .settle .ensures) (said-refused (at-a .a .given .0 .0) (at-c .c .given .0 .0) (at-c .c .given .1))
 
 same-length-9 : tie.Need-same-length-9
 same-length-9 c = c .before .before .before .before .before .before .before .before .before .before .before .before .settle .kept .1 .1 .0
@@ -80,7 +93,12 @@ same-length-14 : tie.Need-same-length-14
 same-length-14 c = c .before .before .before .before .before .before .before .before .before .before .before .before .before .before .before .before .before .before .before .before .before .before .before .before .before .matrix .kept .1 .0
 
 returns-3 : tie.Need-returns-3
-returns-3 c = sets-settled (c .before .before .before .before .before .before .before .before .before .before .before .before .before .before .before .before .before .before .before .before .before .before .before .before .before .before .before .before .before .before .before .before .before .before .before .before .args .k) (c .before .before .before .before .before .before .before .before .before .before .before .before .before .before .before .before .before .before .before .before .before .before .before .before .before .before .before .before .before .before .before .before .before .before .before .before .args .n) (c .before .before .before .before .before .before .before .before .before .before .before .before .before .before .before .before .before .before .before .before .before .before .before .before .before .before .before .before .before .before .before .before .before .before .before .before .args .hashes .now) (c .before .before .before .before .before .before .before .before .before .before .before .before .before .before .before .before .before .before .before .before .before .before .before .before .before .before .before .before .before .before .before .before .before .before .before .before .args .offsets .now) (c .before .before .before .before .before .before .before .before .before .before .before .before .before .before .before .before .before .before .before .before .before .before .before .before .before .before .before .before .before .before .before .before .before .before .before .before .args .short) (c .before .before .before .before .before .before .before .before .before .before .before .before .before .before .before .before .before .before .before .before .before .before .before .before .before .before .before .before .before .before .before .before .before .before .before .before .args .beyond) (c .before .before .before .before .before .before .before .before .before .before .before .before .before .before .before .before .before .before .before .before .before .before .before .before .before .before .before .before .before .before .before .before .before .before .before .before .args .out .now) (c .before .before .before .before .before .before .before .before .before .before .before .before .before .before .before .before .before .before .before .before .before .before .before .before .before .before .before .before .before .before .before .before .before .before .before .before .args .b .now) (c .before .before .before .before .before .before .before .before .before .before .before .before .before .before .before .before .before .before .before .before .before .before .before .before .before .before .before .before .before .before .before .before .before .before .before .before .args .w .now) (c .before .before .before .before .before .before .before .before .before .before .before .before .before .before .before .before .before .before .before .before .before .before .before .before .before .before .before .before .before .before .before .before .before .before .before .before .args .m .now) (c .before .before .before .before .before .before .before .before .before .before .before .before .before .before .before .before .before .before .before .before .before .before .before .before .before .before .before .before .before .before .before .before .before .before .before .before .args .v .now) (c .before .before .before .before .before .before .before .before .before .before .before .before .before .before .before .before .before .before .before .before .before .before .before .before .before .before .before .before .before .before .before .before .before .before .before .before .args .words .now) (c .before .before .before .before .before .before .before .before .before .before .before .before .before .before .before .before .before .before .before .before .before .before .before .before .before .matrix .result) (c .before .before .before .before .before .before .before .before .before .before .before .before .before .before .before .before .before .before .before .before .before .before .before .before .before .matrix .ensures) (c .before .before .before .before .before .before .before .before .before .before .before .before .before .before .before .before .before .before .before .a .given .0 .0) (c .before .before .before .before .before .before .before .before .before .before .before .before .before .before .before .before .before .before .before .a .given .1) (answer.Features (c .before .before .before .before .before .before .before .before .before .before .before .before .before .before .before .before .before .before .before .a .given .0 .0)) (c .before .before .before .before .before .before .before .before .before .before .before .before .before .before .before .before .before .before .before .before .before .before .before .before .before .matrix .kept .0) (c .before .before .before .before .before .before .before .before .before .before .before .before .settle .ensures) (said-passed (c .before .before .before .before .before .before .before .before .before .before .before .before .before .before .before .before .before .before .before .a .given .0 .0) (c .enum-told2 .given .1))
+returns-3 c =
+    let at-settle = c .before .before .before .before .before .before .before .before .before .before .before .before in
+    let at-a = at-settle .before .before .before .before .before .before .before in
+    let at-matrix = at-a .before .before .before .before .before .before in
+    let at-start = at-matrix .before .before .before .before .before .before .before .before .before .before .before in
+    sets-settled (at-start .args .k) (at-start .args .n) (at-start .args .hashes .now) (at-start .args .offsets .now) (at-start .args .short) (at-start .args .beyond) (at-start .args .out .now) (at-start .args .b .now) (at-start .args .w .now) (at-start .args .m .now) (at-start .args .v .now) (at-start .args .words .now) (at-matrix .matrix .result) (at-matrix .matrix .ensures) (at-a .a .given .0 .0) (at-a .a .given .1) (answer.Features (at-a .a .given .0 .0)) (at-matrix .matrix .kept .0) (at-settle .settle .ensures) (said-passed (at-a .a .given .0 .0) (c .enum-told2 .given .1))
 
 pub ordinate-sets-spec : {M : Type 1} → statement M
 ordinate-sets-spec =

@@ -7,10 +7,15 @@ use Rattle.pcoa.proofs.coordinates_of.Statement.{statement}
 use Rattle.pcoa.proofs.coordinates_of.Tie as tie
 
 centre-requires : tie.Need-centre-requires
-centre-requires c κs = (c .before .before .before .before .before .before .before .pre .1 .1, c .before .before .before .before .before .before .before .pre .0 .0, c .before .before .before .before .before .before .before .pre .0 .1)
+centre-requires c κs =
+    let at-start = c .before .before .before .before .before .before .before in
+    (at-start .pre .1 .1, at-start .pre .0 .0, at-start .pre .0 .1)
 
 ordinate-requires : tie.Need-ordinate-requires
-ordinate-requires c κs = ((c .before .before .before .before .before .before .before .centre .kept .0 ∙ c .before .before .before .before .before .before .before .before .before .before .before .before .before .before .before .pre .1 .1, c .before .before .before .before .before .before .before .before .before .before .before .before .before .before .before .pre .0 .1, c .before .before .before .before .before .before .before .before .before .before .before .before .before .before .before .pre .0 .2, c .before .before .before .before .before .before .before .before .before .before .before .before .before .before .before .pre .0 .3), (c .before .before .before .before .before .before .before .before .before .before .before .before .before .before .before .pre .1 .0, c .before .before .before .before .before .before .before .before .before .before .before .before .before .before .before .pre .1 .2, c .before .before .before .before .before .before .before .before .before .before .before .before .before .before .before .pre .1 .3, c .before .before .before .before .before .before .before .before .before .before .before .before .before .before .before .pre .1 .4))
+ordinate-requires c κs =
+    let at-centre = c .before .before .before .before .before .before .before in
+    let at-start = at-centre .before .before .before .before .before .before .before .before in
+    ((at-centre .centre .kept .0 ∙ at-start .pre .1 .1, at-start .pre .0 .1, at-start .pre .0 .2, at-start .pre .0 .3), (at-start .pre .1 .0, at-start .pre .1 .2, at-start .pre .1 .3, at-start .pre .1 .4))
 
 same-length : tie.Need-same-length
 same-length c = c .before .before .before .before .before .before .before .before .ordinate .kept .1 .1 .1 .0
@@ -28,7 +33,12 @@ same-length-5 : tie.Need-same-length-5
 same-length-5 c = c .before .before .before .before .before .before .before .before .ordinate .kept .1 .1 .1 .1 .1 .1 .0
 
 returns : tie.Need-returns
-returns c = centred-found (c .before .before .before .before .before .before .before .before .before .before .before .before .before .before .before .before .before .before .before .before .before .before .before .before .args .n) (c .before .before .before .before .before .before .before .before .before .before .before .before .before .before .before .before .before .before .before .before .before .before .before .before .args .k) (c .before .before .before .before .before .before .before .before .before .before .before .before .before .before .before .before .before .before .before .before .before .before .before .before .args .d .now) (c .before .before .before .before .before .before .before .before .before .before .before .before .before .before .before .before .before .before .before .before .before .before .before .before .args .out .now) (c .before .before .before .before .before .before .before .before .before .before .before .before .before .before .before .before .centre .ensures) (c .before .before .before .before .before .before .before .before .ordinate .ensures)
+returns c =
+    let at-ordinate = c .before .before .before .before .before .before .before .before in
+    let at-centre = at-ordinate .before .before .before .before .before .before .before .before in
+    let at-start = at-centre .before .before .before .before .before .before .before .before in
+    let a = at-start .args in
+    centred-found (a .n) (a .k) (a .d .now) (a .out .now) (at-centre .centre .ensures) (at-ordinate .ordinate .ensures)
 
 pub coordinates-of-spec : {M : Type 1} → statement M
 coordinates-of-spec =

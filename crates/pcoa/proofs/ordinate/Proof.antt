@@ -10,23 +10,30 @@ use Rattle.pcoa.proofs.ordinate.Tie as tie
 
 mul-pairs : tie.Need-mul-pairs
 mul-pairs c =
-    let most : c .before .before .before .before .before .before .args .k * c .before .before .before .before .before .before .args .n ≤ 16 * 256 = mul-le-mul (c .before .before .before .before .before .before .pre .0 .3) (c .before .before .before .before .before .before .pre .0 .1) in omega arith
+    let at-start = c .before .before .before .before .before .before in
+    let most : at-start .args .k * at-start .args .n ≤ 16 * 256 = mul-le-mul (at-start .pre .0 .3) (at-start .pre .0 .1) in omega arith
 
 add-pairs : tie.Need-add-pairs
 add-pairs c =
-    let most : c .before .before .before .before .before .before .args .k * c .before .before .before .before .before .before .args .n ≤ 16 * 256 = mul-le-mul (c .before .before .before .before .before .before .pre .0 .3) (c .before .before .before .before .before .before .pre .0 .1) in omega arith
+    let at-start = c .before .before .before .before .before .before in
+    let most : at-start .args .k * at-start .args .n ≤ 16 * 256 = mul-le-mul (at-start .pre .0 .3) (at-start .pre .0 .1) in omega arith
 
 array-borrow-prefix-pairs : tie.Need-array-borrow-prefix-pairs
 array-borrow-prefix-pairs c =
-    let most : c .before .before .before .before .before .before .args .k * c .before .before .before .before .before .before .args .n ≤ 16 * 256 = mul-le-mul (c .before .before .before .before .before .before .pre .0 .3) (c .before .before .before .before .before .before .pre .0 .1) in omega arith
+    let at-start = c .before .before .before .before .before .before in
+    let most : at-start .args .k * at-start .args .n ≤ 16 * 256 = mul-le-mul (at-start .pre .0 .3) (at-start .pre .0 .1) in omega arith
 
 slice-aggregate-ordinate-in : tie.Need-slice-aggregate-ordinate-in
 slice-aggregate-ordinate-in c =
-    let most : c .before .before .before .before .before .before .before .args .k * c .before .before .before .before .before .before .before .args .n ≤ 16 * 256 = mul-le-mul (c .before .before .before .before .before .before .before .pre .0 .3) (c .before .before .before .before .before .before .before .pre .0 .1) in sym (length-take-le (c .before .before .before .before .before .before .before .args .k + c .before .before .before .before .before .before .before .args .k * c .before .before .before .before .before .before .before .args .n) _ (omega arith))
+    let at-start = c .before .before .before .before .before .before .before in
+    let a = at-start .args in
+    let most : a .k * a .n ≤ 16 * 256 = mul-le-mul (at-start .pre .0 .3) (at-start .pre .0 .1) in sym (length-take-le (a .k + a .k * a .n) _ (omega arith))
 
 ordinate-in-requires : tie.Need-ordinate-in-requires
 ordinate-in-requires c κs =
-    let most : c .before .before .before .before .before .before .before .before .before .before .args .k * c .before .before .before .before .before .before .before .before .before .before .args .n ≤ 16 * 256 = mul-le-mul (c .before .before .before .before .before .before .before .before .before .before .pre .0 .3) (c .before .before .before .before .before .before .before .before .before .before .pre .0 .1) in (c .before .before .before .before .before .before .before .before .before .before .pre .0, (c .before .before .before .before .before .before .before .before .before .before .pre .1 .0, length-take-le (c .before .before .before .before .before .before .before .before .before .before .args .k + c .before .before .before .before .before .before .before .before .before .before .args .k * c .before .before .before .before .before .before .before .before .before .before .args .n) _ (omega arith), c .before .before .before .before .before .before .before .before .before .before .pre .1 .1, c .before .before .before .before .before .before .before .before .before .before .pre .1 .2, c .before .before .before .before .before .before .before .before .before .before .pre .1 .3))
+    let at-start = c .before .before .before .before .before .before .before .before .before .before in
+    let a = at-start .args in
+    let most : a .k * a .n ≤ 16 * 256 = mul-le-mul (at-start .pre .0 .3) (at-start .pre .0 .1) in (at-start .pre .0, (at-start .pre .1 .0, length-take-le (a .k + a .k * a .n) _ (omega arith), at-start .pre .1 .1, at-start .pre .1 .2, at-start .pre .1 .3))
 
 same-length : tie.Need-same-length
 same-length c = c .before .before .before .before .before .before .before .before .before .ordinate-in .kept .1 .1 .1 .0

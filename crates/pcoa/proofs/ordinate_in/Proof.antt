@@ -1,15 +1,15 @@
 -- `pcoa::ordinate_in` meets its contract. By whether the eigenpairs were found.
 -- Assumes nothing.
-use mathlib.Core.Path.{_∙_}
-use Prim.Native.Nat.{_-_}
+use mathlib.Core.Path.{refl, _∙_}
 use borrow.Author.Needs.{needs}
-use Rattle.pcoa.specs.Given.{given}
 use Rattle.pcoa.proofs.Found.{refused-by, answered-by}
 use Rattle.pcoa.proofs.ordinate_in.Statement.{statement}
 use Rattle.pcoa.proofs.ordinate_in.Tie as tie
 
 top-pairs-requires : tie.Need-top-pairs-requires
-top-pairs-requires c κs = ((c .before .before .before .before .before .before .before .before .before .before .pre .0 .0, c .before .before .before .before .before .before .before .before .before .before .pre .1 .1, c .before .before .before .before .before .before .before .before .before .before .pre .1 .2, c .before .before .before .before .before .before .before .before .before .before .pre .1 .3, c .before .before .before .before .before .before .before .before .before .before .pre .1 .4), (c .before .before .before .before .before .before .before .before .before .before .pre .0 .1, c .before .before .before .before .before .before .before .before .before .before .pre .0 .2, c .before .before .before .before .before .before .before .before .before .before .pre .0 .3))
+top-pairs-requires c κs =
+    let h = c .before .before .before .before .before .before .before .before .before .before .pre in
+    ((h .0 .0, h .1 .1, h .1 .2, h .1 .3, h .1 .4), (h .0 .1, h .0 .2, h .0 .3))
 
 enum-told : tie.Need-enum-told
 enum-told c = search needs
@@ -17,50 +17,66 @@ enum-told c = search needs
 enum-told-2 : tie.Need-enum-told-2
 enum-told-2 c = search needs
 
-clear-requires : tie.Need-clear-requires
-clear-requires c κs = search needs
+lay-requires : tie.Need-lay-requires
+lay-requires c κs =
+    let at-top-pairs = c .before .before .before .before .before .before .before .before .before .before .before .before in
+    let h = at-top-pairs .before .before .before .before .before .before .before .before .before .before .before .pre in
+    (h .1 .0, at-top-pairs .top-pairs .kept .1 .1 .1 .0 ∙ h .1 .1, h .0 .0, h .0 .3)
 
 same-length : tie.Need-same-length
-same-length c = search needs
+same-length c = c .before .before .lay .kept .0
 
 same-length-2 : tie.Need-same-length-2
-same-length-2 c = search needs
+same-length-2 c = c .before .before .before .before .before .before .before .before .before .before .before .before .before .before .before .top-pairs .kept .1 .1 .1 .0
 
 same-length-3 : tie.Need-same-length-3
-same-length-3 c = search needs
+same-length-3 c = c .before .before .before .before .before .before .before .before .before .before .before .before .before .before .before .top-pairs .kept .1 .1 .1 .1 .0
 
 same-length-4 : tie.Need-same-length-4
-same-length-4 c = search needs
+same-length-4 c = c .before .before .before .before .before .before .before .before .before .before .before .before .before .before .before .top-pairs .kept .1 .1 .1 .1 .1 .0
 
 same-length-5 : tie.Need-same-length-5
-same-length-5 c = search needs
+same-length-5 c = c .before .before .before .before .before .before .before .before .before .before .before .before .before .before .before .top-pairs .kept .1 .1 .1 .1 .1 .1 .0
 
 returns : tie.Need-returns
-returns c = refused-by (c .before .before .before .before .before .before .before .before .before .before .before .before .before .before .before .before .before .before .before .before .before .before .before .before .before .args .n) (c .before .before .before .before .before .before .before .before .before .before .before .before .before .before .before .before .before .before .before .before .before .before .before .before .before .args .k) (c .before .before .before .before .before .before .before .before .before .before .before .before .before .before .before .before .before .before .before .before .before .before .before .before .before .args .b .now) (c .before .before .before .before .before .before .before .before .before .before .before .before .before .before .before .before .before .before .before .before .before .before .before .before .before .args .out .now) (c .before .before .before .before .before .before .before .before .before .before .before .before .before .before .before .before .before .before .before .before .before .before .before .before .before .pre .1 .0) (c .before .before .before .before .before .before .before .before .before .before .before .before .before .before .before .before .before .before .before .before .before .before .before .before .before .args .pairs .now) _ (c .before .before .before .before .enum-told2 .given .0 .0) (c .before .before .before .before .enum-told2 .given .1) (c .before .before .before .before .before .before .before .before .before .before .before .before .before .before .top-pairs .ensures) (c .before .before .clear .ensures)
+returns c =
+    let at-told = c .before .before .before .before .before in
+    let at-top-pairs = at-told .before .before .before .before .before .before .before .before .before .before in
+    let at-start = at-top-pairs .before .before .before .before .before .before .before .before .before .before .before in
+    let a = at-start .args in
+    refused-by (a .n) (a .k) (a .b .now) (a .out .now) (at-start .pre .1 .0) (a .pairs .now) (at-top-pairs .top-pairs .result)
+    (at-told .enum-told2 .given .0 .0) (at-told .enum-told2 .given .1) (at-top-pairs .top-pairs .ensures) (c .before .before .lay .ensures)
 
-trace-requires : tie.Need-trace-requires
-trace-requires c κs = search needs
-
-finish-requires : tie.Need-finish-requires
-finish-requires c κs = (c .before .before .before .before .before .before .before .before .before .before .before .before .before .before .before .before .before .before .before .before .before .before .before .before .pre .1 .0, c .before .before .before .before .before .before .before .before .before .before .before .before .before .top-pairs .kept .1 .1 .1 .0 ∙ c .before .before .before .before .before .before .before .before .before .before .before .before .before .before .before .before .before .before .before .before .before .before .before .before .pre .1 .1, c .before .before .before .before .before .before .before .before .before .before .before .before .before .before .before .before .before .before .before .before .before .before .before .before .pre .0 .3)
+lay-requires-2 : tie.Need-lay-requires-2
+lay-requires-2 c κs =
+    let at-top-pairs = c .before .before .before .before .before .before .before .before .before .before .before .before in
+    let h = at-top-pairs .before .before .before .before .before .before .before .before .before .before .before .pre in
+    (h .1 .0, at-top-pairs .top-pairs .kept .1 .1 .1 .0 ∙ h .1 .1, h .0 .0, h .0 .3)
 
 same-length-6 : tie.Need-same-length-6
-same-length-6 c = c .before .before .finish .kept .0
+same-length-6 c = c .before .before .lay2 .kept .0
 
 same-length-7 : tie.Need-same-length-7
-same-length-7 c = c .before .before .before .before .before .before .before .before .before .before .before .before .before .before .before .before .top-pairs .kept .1 .1 .1 .0
+same-length-7 c = c .before .before .before .before .before .before .before .before .before .before .before .before .before .before .before .top-pairs .kept .1 .1 .1 .0
 
 same-length-8 : tie.Need-same-length-8
-same-length-8 c = c .before .before .before .before .before .before .before .before .before .before .before .before .before .before .before .before .top-pairs .kept .1 .1 .1 .1 .0
+same-length-8 c = c .before .before .before .before .before .before .before .before .before .before .before .before .before .before .before .top-pairs .kept .1 .1 .1 .1 .0
 
 same-length-9 : tie.Need-same-length-9
-same-length-9 c = c .before .before .before .before .before .before .before .before .before .before .before .before .before .before .before .before .top-pairs .kept .1 .1 .1 .1 .1 .0
+same-length-9 c = c .before .before .before .before .before .before .before .before .before .before .before .before .before .before .before .top-pairs .kept .1 .1 .1 .1 .1 .0
 
 same-length-10 : tie.Need-same-length-10
-same-length-10 c = c .before .before .before .before .before .before .before .before .before .before .before .before .before .before .before .before .top-pairs .kept .1 .1 .1 .1 .1 .1 .0
+same-length-10 c = c .before .before .before .before .before .before .before .before .before .before .before .before .before .before .before .top-pairs .kept .1 .1 .1 .1 .1 .1 .0
 
 returns-2 : tie.Need-returns-2
-returns-2 c = answered-by (c .before .before .before .before .before .before .before .before .before .before .before .before .before .before .before .before .before .before .before .before .before .before .before .before .before .before .before .args .n) (c .before .before .before .before .before .before .before .before .before .before .before .before .before .before .before .before .before .before .before .before .before .before .before .before .before .before .before .args .k) (c .before .before .before .before .before .before .before .before .before .before .before .before .before .before .before .before .before .before .before .before .before .before .before .before .before .before .before .args .b .now) (c .before .before .before .before .before .before .before .before .before .before .before .before .before .before .before .before .before .before .before .before .before .before .before .before .before .before .before .args .out .now) (c .before .before .before .before .before .before .before .before .before .before .before .before .before .before .before .before .before .before .before .before .before .before .before .before .before .before .before .pre .1 .0) (c .before .before .before .before .before .before .before .before .before .before .before .before .before .before .before .before .before .before .before .before .before .before .before .before .before .before .before .args .pairs .now) _ (c .before .before .before .before .before .before .enum-told .given .1) (c .before .before .before .before .before .before .before .before .before .before .before .before .before .before .before .before .top-pairs .ensures) (c .before .before .before .before .before .before .before .before .before .before .before .before .before .before .before .before .top-pairs .kept .1 .1 .1 .0 ∙ c .before .before .before .before .before .before .before .before .before .before .before .before .before .before .before .before .before .before .before .before .before .before .before .before .before .before .before .pre .1 .1) (c .before .before .before .before .before .trace .ensures) (c .before .before .finish .ensures)
+returns-2 c =
+    let at-told = c .before .before .before .before .before in
+    let at-top-pairs = at-told .before .before .before .before .before .before .before .before .before .before in
+    let at-start = at-top-pairs .before .before .before .before .before .before .before .before .before .before .before in
+    let a = at-start .args in
+    let done = at-top-pairs .top-pairs in
+    answered-by (a .n) (a .k) (a .b .now) (a .out .now) (at-start .pre .1 .0) (a .pairs .now) (done .result)
+    (at-told .enum-told .given .1) (done .ensures) (done .kept .1 .1 .1 .0 ∙ at-start .pre .1 .1) refl (c .before .before .lay2 .ensures)
 
 pub ordinate-in-spec : {M : Type 1} → statement M
 ordinate-in-spec =
@@ -69,15 +85,14 @@ ordinate-in-spec =
     top-pairs-requires
     enum-told
     enum-told-2
-    clear-requires
+    lay-requires
     same-length
     same-length-2
     same-length-3
     same-length-4
     same-length-5
     returns
-    trace-requires
-    finish-requires
+    lay-requires-2
     same-length-6
     same-length-7
     same-length-8

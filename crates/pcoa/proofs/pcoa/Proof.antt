@@ -6,7 +6,7 @@ use borrow.Author.Needs.{needs}
 use lib.ListN.{length}
 use Rattle.pcoa.specs.Given.{given}
 use Rattle.pcoa.proofs.Call.{call-refused, call-passed}
-use Rattle.pcoa.proofs.Lines.{passed-fits}
+use Rattle.ordination_lines.proofs.Lines.{passed-fits}
 use Rattle.pcoa.proofs.pcoa.Statement.{statement}
 use Rattle.pcoa.proofs.pcoa.Tie as tie
 
@@ -24,13 +24,23 @@ enum-told c = search needs
 
 solve-requires : tie.Need-solve-requires
 solve-requires c κs =
-    let f = passed-fits (c .before .before .before .before .before .before .before .before .before .before .before .before .before .before .before .args .components) (c .before .before .before .before .before .before .before .before .before .before .before .before .before .before .before .args .n) (c .before .before .before .before .before .before .before .before .before .before .before .before .before .before .before .args .distances .now) (length (c .before .before .before .before .before .before .before .before .before .before .before .before .before .before .before .args .out .now)) (length (c .before .before .before .before .before .before .before .before .before .before .before .before .before .before .before .args .b .now)) (length (c .before .before .before .before .before .before .before .before .before .before .before .before .before .before .before .args .w .now)) (length (c .before .before .before .before .before .before .before .before .before .before .before .before .before .before .before .args .m .now)) (length (c .before .before .before .before .before .before .before .before .before .before .before .before .before .before .before .args .v .now)) (c .before .before .before .before .before .before .before .before .leading .ensures) (sym (c .before .before .before .before .before .enum-told .given .1) ∙ c .before .before .before .before .before .before .before .check .ensures) in
+    let at-enum-told = c .before .before .before .before .before in
+    let at-check = at-enum-told .before .before in
+    let at-leading = at-check .before in
+    let at-start = at-leading .before .before .before .before .before .before .before in
+    let a = at-start .args in
+    let f = passed-fits (a .components) (a .n) (a .distances .now) (length (a .out .now)) (length (a .b .now)) (length (a .w .now)) (length (a .m .now)) (length (a .v .now)) (at-leading .leading .ensures) (sym (at-enum-told .enum-told .given .1) ∙ at-check .check .ensures) in
     let k = f .asks in
     let r = f .room in
     ((f .distances, f .few, k .below, k .most), (r .out-fits, r .b-fits, r .w-fits, r .m-fits, r .v-fits))
 
 returns : tie.Need-returns
-returns c = call-refused (c .before .before .before .before .before .before .before .before .before .before .before .args .components) (c .before .before .before .before .before .before .before .before .before .before .before .args .n) (c .before .before .before .before .before .before .before .before .before .before .before .args .distances .now) (c .before .before .before .before .before .before .before .before .before .before .before .args .out .now) (c .before .before .before .before .before .before .before .before .before .before .before .args .b .now) (c .before .before .before .before .before .before .before .before .before .before .before .args .w .now) (c .before .before .before .before .before .before .before .before .before .before .before .args .m .now) (c .before .before .before .before .before .before .before .before .before .before .before .args .v .now) (sym (c .before .c .given .1) ∙ c .before .before .before .check .ensures)
+returns c =
+    let at-c = c .before in
+    let at-check = at-c .before .before in
+    let at-start = at-check .before .before .before .before .before .before .before .before in
+    let a = at-start .args in
+    call-refused (a .components) (a .n) (a .distances .now) (a .out .now) (a .b .now) (a .w .now) (a .m .now) (a .v .now) (sym (at-c .c .given .1) ∙ at-check .check .ensures)
 
 same-length : tie.Need-same-length
 same-length c = c .before .before .before .before .before .before .before .before .before .before .solve .kept .1 .1 .1 .0
@@ -48,7 +58,14 @@ same-length-5 : tie.Need-same-length-5
 same-length-5 c = c .before .before .before .before .before .before .before .before .before .before .solve .kept .1 .1 .1 .1 .1 .1 .1 .0
 
 returns-2 : tie.Need-returns-2
-returns-2 c = call-passed (c .before .before .before .before .before .before .before .before .before .before .before .before .before .before .before .before .before .before .before .before .before .before .before .before .before .before .args .components) (c .before .before .before .before .before .before .before .before .before .before .before .before .before .before .before .before .before .before .before .before .before .before .before .before .before .before .args .n) (c .before .before .before .before .before .before .before .before .before .before .before .before .before .before .before .before .before .before .before .before .before .before .before .before .before .before .args .distances .now) (c .before .before .before .before .before .before .before .before .before .before .before .before .before .before .before .before .before .before .before .before .before .before .before .before .before .before .args .out .now) (c .before .before .before .before .before .before .before .before .before .before .before .before .before .before .before .before .before .before .before .before .before .before .before .before .before .before .args .b .now) (c .before .before .before .before .before .before .before .before .before .before .before .before .before .before .before .before .before .before .before .before .before .before .before .before .before .before .args .w .now) (c .before .before .before .before .before .before .before .before .before .before .before .before .before .before .before .before .before .before .before .before .before .before .before .before .before .before .args .m .now) (c .before .before .before .before .before .before .before .before .before .before .before .before .before .before .before .before .before .before .before .before .before .before .before .before .before .before .args .v .now) (c .before .before .before .before .before .before .before .before .before .before .before .before .before .before .before .before .before .before .before .leading .ensures) (sym (c .before .before .before .before .before .before .before .before .before .before .before .before .before .before .before .before .enum-told .given .1) ∙ c .before .before .before .before .before .before .before .before .before .before .before .before .before .before .before .before .before .before .check .ensures) (c .before .before .before .before .before .before .before .before .before .before .solve .ensures)
+returns-2 c =
+    let at-solve = c .before .before .before .before .before .before .before .before .before .before in
+    let at-enum-told = at-solve .before .before .before .before .before .before in
+    let at-check = at-enum-told .before .before in
+    let at-leading = at-check .before in
+    let at-start = at-leading .before .before .before .before .before .before .before in
+    let a = at-start .args in
+    call-passed (a .components) (a .n) (a .distances .now) (a .out .now) (a .b .now) (a .w .now) (a .m .now) (a .v .now) (at-leading .leading .ensures) (sym (at-enum-told .enum-told .given .1) ∙ at-check .check .ensures) (at-solve .solve .ensures)
 
 pub pcoa-spec : {M : Type 1} → statement M
 pcoa-spec =

@@ -3,7 +3,7 @@ use mathlib.Core.Path.{ap, _∙_}
 use borrow.Author.Needs.{needs}
 use Rattle.jacobi.specs.Eigen.{jacobi}
 use Rattle.jacobi.proofs.Call.{solved-found}
-use Rattle.small.specs.Small.{symmetrised}
+use Rattle.square_matrix.specs.Symmetric.{symmetrised}
 use Rattle.ritz.proofs.decompose.Statement.{statement}
 use Rattle.ritz.proofs.decompose.Tie as tie
 

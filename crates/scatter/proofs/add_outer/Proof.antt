@@ -23,44 +23,89 @@ loop-holds : tie.Need-loop-holds Inv-loop μ-loop
 loop-holds c = reworked-none _ _ _ _ (c .before .before .before .pre .0)
 
 mul-add-multiple : tie.Need-mul-add-multiple Inv-loop μ-loop
-mul-add-multiple c = omega (arith, row-end (c .before .before .before .before .before .args .p) (c .before .loop .a) (c .before .before .before .before .before .args .p) (c .loop-test .taken), c .before .loop .inv .long)
+mul-add-multiple c =
+    let at-loop = c .before in
+    let at-start = at-loop .before .before .before .before in
+    omega (arith, row-end (at-start .args .p) (at-loop .loop .a) (at-start .args .p) (c .loop-test .taken), at-loop .loop .inv .long)
 
 mul-add-multiple-2 : tie.Need-mul-add-multiple-2 Inv-loop μ-loop
-mul-add-multiple-2 c = omega (arith, row-end (c .before .before .before .before .before .args .p) (c .before .loop .a) (c .before .before .before .before .before .args .p) (c .loop-test .taken), c .before .loop .inv .long)
+mul-add-multiple-2 c =
+    let at-loop = c .before in
+    let at-start = at-loop .before .before .before .before in
+    omega (arith, row-end (at-start .args .p) (at-loop .loop .a) (at-start .args .p) (c .loop-test .taken), at-loop .loop .inv .long)
 
 add-add-multiple : tie.Need-add-add-multiple Inv-loop μ-loop
-add-add-multiple c = omega (arith, row-end (c .before .before .before .before .before .args .p) (c .before .loop .a) (c .before .before .before .before .before .args .p) (c .loop-test .taken), c .before .loop .inv .long)
+add-add-multiple c =
+    let at-loop = c .before in
+    let at-start = at-loop .before .before .before .before in
+    omega (arith, row-end (at-start .args .p) (at-loop .loop .a) (at-start .args .p) (c .loop-test .taken), at-loop .loop .inv .long)
 
 mul-add-multiple-3 : tie.Need-mul-add-multiple-3 Inv-loop μ-loop
-mul-add-multiple-3 c = omega (arith, row-end (c .before .before .before .before .before .args .p) (c .before .loop .a) (c .before .before .before .before .before .args .p) (c .loop-test .taken), c .before .loop .inv .long)
+mul-add-multiple-3 c =
+    let at-loop = c .before in
+    let at-start = at-loop .before .before .before .before in
+    omega (arith, row-end (at-start .args .p) (at-loop .loop .a) (at-start .args .p) (c .loop-test .taken), at-loop .loop .inv .long)
 
 sub-add-multiple : tie.Need-sub-add-multiple Inv-loop μ-loop
-sub-add-multiple c = omega (arith, row-end (c .before .before .before .before .before .args .p) (c .before .loop .a) (c .before .before .before .before .before .args .p) (c .loop-test .taken), c .before .loop .inv .long)
+sub-add-multiple c =
+    let at-loop = c .before in
+    let at-start = at-loop .before .before .before .before in
+    omega (arith, row-end (at-start .args .p) (at-loop .loop .a) (at-start .args .p) (c .loop-test .taken), at-loop .loop .inv .long)
 
 part-add-multiple-start : tie.Need-part-add-multiple-start Inv-loop μ-loop
-part-add-multiple-start c = omega (arith, row-end (c .before .before .before .before .before .args .p) (c .before .loop .a) (c .before .before .before .before .before .args .p) (c .loop-test .taken), c .before .loop .inv .long)
+part-add-multiple-start c =
+    let at-loop = c .before in
+    let at-start = at-loop .before .before .before .before in
+    omega (arith, row-end (at-start .args .p) (at-loop .loop .a) (at-start .args .p) (c .loop-test .taken), at-loop .loop .inv .long)
 
 part-add-multiple-end : tie.Need-part-add-multiple-end Inv-loop μ-loop
-part-add-multiple-end c = omega (arith, row-end (c .before .before .before .before .before .args .p) (c .before .loop .a) (c .before .before .before .before .before .args .p) (c .loop-test .taken), c .before .loop .inv .long)
+part-add-multiple-end c =
+    let at-loop = c .before in
+    let at-start = at-loop .before .before .before .before in
+    omega (arith, row-end (at-start .args .p) (at-loop .loop .a) (at-start .args .p) (c .loop-test .taken), at-loop .loop .inv .long)
 
 mul-add-multiple-4 : tie.Need-mul-add-multiple-4 Inv-loop μ-loop
-mul-add-multiple-4 c = omega (arith, row-end (c .before .before .before .before .before .before .args .p) (c .before .before .loop .a) (c .before .before .before .before .before .before .args .p) (c .before .loop-test .taken), c .before .before .loop .inv .long)
+mul-add-multiple-4 c =
+    let at-loop-test = c .before in
+    let at-loop = at-loop-test .before in
+    let at-start = at-loop .before .before .before .before in
+    omega (arith, row-end (at-start .args .p) (at-loop .loop .a) (at-start .args .p) (at-loop-test .loop-test .taken), at-loop .loop .inv .long)
 
 shared-slice-read-add-multiple : tie.Need-shared-slice-read-add-multiple Inv-loop μ-loop
-shared-slice-read-add-multiple c = omega (arith, row-end (c .before .before .before .before .before .before .before .args .p) (c .before .before .before .loop .a) (c .before .before .before .before .before .before .before .args .p) (c .before .before .loop-test .taken), c .before .before .before .loop .inv .long)
+shared-slice-read-add-multiple c =
+    let at-loop-test = c .before .before in
+    let at-loop = at-loop-test .before in
+    let at-start = at-loop .before .before .before .before in
+    omega (arith, row-end (at-start .args .p) (at-loop .loop .a) (at-start .args .p) (at-loop-test .loop-test .taken), at-loop .loop .inv .long)
 
 add-multiple-requires : tie.Need-add-multiple-requires Inv-loop μ-loop
-add-multiple-requires c κs = c .before .before .before .before .before .before .before .pre .2 ∙ sym (length-part (c .before .before .before .before .before .before .before .args .p) (c .before .before .before .loop .a) (c .before .before .before .loop .m) (omega (arith, row-end (c .before .before .before .before .before .before .before .args .p) (c .before .before .before .loop .a) (c .before .before .before .before .before .before .before .args .p) (c .before .before .loop-test .taken), c .before .before .before .loop .inv .long)))
+add-multiple-requires c κs =
+    let at-loop-test = c .before .before in
+    let at-loop = at-loop-test .before in
+    let at-start = at-loop .before .before .before .before in
+    at-start .pre .2 ∙ sym (length-part (at-start .args .p) (at-loop .loop .a) (at-loop .loop .m) (omega (arith, row-end (at-start .args .p) (at-loop .loop .a) (at-start .args .p) (at-loop-test .loop-test .taken), at-loop .loop .inv .long)))
 
 add-a : tie.Need-add-a Inv-loop μ-loop
-add-a c = omega (arith, row-end (c .before .before .before .before .before .before .before .before .before .before .args .p) (c .before .before .before .before .before .before .loop .a) (c .before .before .before .before .before .before .before .before .before .before .args .p) (c .before .before .before .before .before .loop-test .taken), c .before .before .before .before .before .before .loop .inv .long)
+add-a c =
+    let at-loop-test = c .before .before .before .before .before in
+    let at-loop = at-loop-test .before in
+    let at-start = at-loop .before .before .before .before in
+    omega (arith, row-end (at-start .args .p) (at-loop .loop .a) (at-start .args .p) (at-loop-test .loop-test .taken), at-loop .loop .inv .long)
 
 loop-less : tie.Need-loop-less Inv-loop μ-loop
-loop-less c = omega (arith, row-end (c .before .before .before .before .before .before .before .before .before .before .args .p) (c .before .before .before .before .before .before .loop .a) (c .before .before .before .before .before .before .before .before .before .before .args .p) (c .before .before .before .before .before .loop-test .taken), c .before .before .before .before .before .before .loop .inv .long)
+loop-less c =
+    let at-loop-test = c .before .before .before .before .before in
+    let at-loop = at-loop-test .before in
+    let at-start = at-loop .before .before .before .before in
+    omega (arith, row-end (at-start .args .p) (at-loop .loop .a) (at-start .args .p) (at-loop-test .loop-test .taken), at-loop .loop .inv .long)
 
 loop-again : tie.Need-loop-again Inv-loop μ-loop
 loop-again c =
-    reworked-row _ _ _ _ (c .before .before .before .before .before .before .loop .m) _ (λ i v. v ⊕ getD (c .before .before .before .before .before .before .before .before .before .before .args .s .now) (c .before .before .before .before .before .before .loop .a) nan ⊗ getD (c .before .before .before .before .before .before .before .before .before .before .args .d .now) i nan) (c .before .before .before .before .before .before .before .before .before .before .pre .0) (c .before .before .before .before .before .before .loop .inv) (c .before .before .before .before .before .loop-test .taken) (c .before .before .add-multiple .ensures) (λ i _. refl)
+    let at-add-multiple = c .before .before in
+    let at-loop-test = at-add-multiple .before .before .before in
+    let at-loop = at-loop-test .before in
+    let at-start = at-loop .before .before .before .before in
+    reworked-row _ _ _ _ (at-loop .loop .m) _ (λ i v. v ⊕ getD (at-start .args .s .now) (at-loop .loop .a) nan ⊗ getD (at-start .args .d .now) i nan) (at-start .pre .0) (at-loop .loop .inv) (at-loop-test .loop-test .taken) (at-add-multiple .add-multiple .ensures) (λ i _. refl)
 
 same-length : tie.Need-same-length Inv-loop μ-loop
 same-length c = c .before .loop .inv .long

@@ -3,7 +3,8 @@ use mathlib.Core.Path.{sym, _∙_}
 use native.Mathlib.Nat.{min-le-right}
 use borrow.Author.Needs.{needs}
 use lib.ListN.{length}
-use Rattle.topeigs.proofs.Call.{call-refused, call-passed, passed-fits}
+use Rattle.topeigs_lines.proofs.Lines.{passed-fits}
+use Rattle.topeigs.proofs.Call.{call-refused, call-passed}
 use Rattle.topeigs.proofs.top_eigs.Statement.{statement}
 use Rattle.topeigs.proofs.top_eigs.Tie as tie
 

@@ -5,7 +5,8 @@ use Prim.Native.Nat.{_*_, _-_}
 use lib.ListN.{length, length-replicate}
 use Rattle.float.specs.Floats.{zero⁺}
 use Rattle.triangular.specs.Triangular.{solveColumns}
-use Rattle.whitening.specs.Whitened.{symmetrised, whitened}
+use Rattle.square_matrix.specs.Symmetric.{symmetrised}
+use Rattle.whitening.specs.Whitened.{whitened}
 use Rattle.whitening.proofs.whiten.Statement.{statement}
 use Rattle.whitening.proofs.whiten.Tie as tie
 

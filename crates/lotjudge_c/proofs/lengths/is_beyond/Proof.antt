@@ -4,7 +4,7 @@ use mathlib.Core.Path.{sym, ap}
 use mathlib.Core.Bool.{Bool, _||_}
 use borrow.Author.Needs.{needs}
 use borrow.Author.Tests.{lt-ltb, le-ltb}
-use Rattle.pcoa.specs.Call.{badComponents}
+use Rattle.ordination_lines.specs.Lines.{badComponents}
 use Rattle.lotjudge_c.proofs.lengths.is_beyond.Statement.{statement}
 use Rattle.lotjudge_c.proofs.lengths.is_beyond.Tie as tie
 

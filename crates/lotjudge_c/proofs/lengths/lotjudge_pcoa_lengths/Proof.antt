@@ -4,7 +4,7 @@ use mathlib.Core.Path.{sym, _∙_}
 use native.Mathlib.Omega.{arith}
 use native.Mathlib.Nat.{mul-le-mul, min-le-right}
 use borrow.Author.Needs.{needs}
-use Rattle.pcoa.specs.Call.{badComponents}
+use Rattle.ordination_lines.specs.Lines.{badComponents}
 use Rattle.lotjudge_c.proofs.Asked.{beyond, few, pcoa-told}
 use Rattle.lotjudge_c.proofs.lengths.lotjudge_pcoa_lengths.Statement.{statement}
 use Rattle.lotjudge_c.proofs.lengths.lotjudge_pcoa_lengths.Tie as tie

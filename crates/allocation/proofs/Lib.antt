@@ -1,0 +1,2 @@
+-- What the outputs hold at each step.
+pub mod Outputs

@@ -1,0 +1,2 @@
+-- Matrices filled row after row.
+pub mod Grids

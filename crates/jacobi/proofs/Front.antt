@@ -1,0 +1,25 @@
+-- The first part of a longer output was lent, and comes back. Assumes nothing.
+use mathlib.Core.Path.{_≡_, ap, _∙_}
+use mathlib.Core.Bool.{Bool, true, false, cond}
+use mathlib.Core.List.{List, _++_}
+use Prim.Native.Nat.{ℕ}
+use native.Mathlib.Omega.{arith}
+use lib.ListN.{length, take, drop, replicate, length-append, length-replicate, take-append-drop}
+use lib.Ieee.{Float}
+use Rattle.float.specs.Floats.{zero⁺}
+use Rattle.lists.specs.Writes.{over}
+use Rattle.lists.proofs.Parts.{over-front}
+use Rattle.outcome.specs.Outcome.{Outcome, answered, refused}
+use Rattle.outcome.specs.Slices.{untouched, output}
+
+pub output-front : {A : Type 0} (part : A → List Float) (k : ℕ) (o : Outcome A) (out : List Float) {new : List Float} → length new ≡ k
+    → new ≡ output zero⁺ part k o (take k out) → new ++ drop k out ≡ output zero⁺ part k o out
+unfolding output over
+output-front part k (answered a) out many f =
+    let whole = ap length f ∙ length-append (part a) (drop (length (part a)) (take k out)) in
+    ap (λ (t : List Float). t ++ drop k out) f ∙ over-front (part a) out k (omega arith)
+output-front part k (refused r) out {new} many f = by (untouched r) f
+  where
+    by : (t : Bool) → new ≡ cond t (take k out) (over (replicate k zero⁺) (take k out)) → new ++ drop k out ≡ cond t out (over (replicate k zero⁺) out)
+    by true f = ap (λ (t : List Float). t ++ drop k out) f ∙ take-append-drop k out
+    by false f = let zeros = length-replicate k zero⁺ in ap (λ (t : List Float). t ++ drop k out) f ∙ over-front (replicate k zero⁺) out k (omega arith)

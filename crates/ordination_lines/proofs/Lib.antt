@@ -1,0 +1,3 @@
+-- The lines, one by one.
+pub mod Lines
+pub mod Words

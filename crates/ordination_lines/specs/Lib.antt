@@ -1,0 +1,3 @@
+-- Section 4 of document 01: the lines of the table.
+pub mod Lengths
+pub mod Lines

@@ -1,0 +1,2 @@
+-- The ridge, worked out and added.
+pub mod Ridge

@@ -1,0 +1,20 @@
+-- The ridge, worked out and added. Assumes nothing.
+use mathlib.Core.Path.{_≡_, ap, _∙_}
+use mathlib.Core.Bool.{cond}
+use mathlib.Core.List.{List}
+use Prim.Native.Nat.{ℕ}
+use lib.Dec.{eqb}
+use lib.Ieee.{Float}
+use Rattle.float.specs.Floats.{_⊕_, _⊗_, _⊘_, num, 1e-8, 1e-12}
+use Rattle.float.specs.Order.{larger}
+use Rattle.lists.specs.Ranges.{grid}
+use Rattle.lists.specs.Rows.{entry}
+use Rattle.square_matrix.specs.Trace.{trace}
+use Rattle.ridge.specs.Ridge.{ridge, ridged}
+
+pub ridged-is : (p : ℕ) (sw : List Float) {m : List Float} {t l : Float} → t ≡ trace p sw → l ≡ larger t 1e-12
+    → m ≡ grid p p (λ a b. cond (eqb a b) (entry p sw a b ⊕ 1e-8 ⊗ l ⊘ num p) (entry p sw a b)) → m ≡ ridged p sw
+unfolding ridged ridge
+ridged-is p sw traced most is =
+    let f : Float → List Float = λ r. grid p p (λ a b. cond (eqb a b) (entry p sw a b ⊕ r) (entry p sw a b)) in
+    is ∙ ap (λ (l : Float). f (1e-8 ⊗ l ⊘ num p)) (most ∙ ap (λ (t : Float). larger t 1e-12) traced)

@@ -1,0 +1,2 @@
+-- Section 5 of document 01: the ridge.
+pub mod Ridge

@@ -1,0 +1,2 @@
+-- A branch by a test.
+pub mod Chosen

@@ -1,0 +1,2 @@
+-- The lines, one by one.
+pub mod Lines

@@ -1,0 +1,2 @@
+-- Section 4 of document 01: the lines of the table.
+pub mod TopLines
