@@ -1,4 +1,4 @@
--- `shuffles::shuffle_found` meets its contract. The labels of the shuffle are of the same groups.
+-- `sampled_hits::shuffle_found` meets its contract. The labels of the shuffle are of the same groups.
 -- Assumes nothing.
 
 use mathlib.Core.Path.{sym, ap, subst, _∙_}
@@ -11,9 +11,9 @@ use Rattle.lists.specs.Numbers.{Below}
 use Rattle.location.specs.Location.{within, pseudoF}
 use Rattle.statistics.specs.Hits.{shuffleHit}
 use Rattle.anova.specs.Anova.{anovaF}
 use Rattle.shuffles.proofs.Shuffles.{shuffledBy-fine}
-use Rattle.shuffles.proofs.shuffle_found.Statement.{statement}
-use Rattle.shuffles.proofs.shuffle_found.Tie as tie
+use Rattle.sampled_hits.proofs.shuffle_found.Statement.{statement}
+use Rattle.sampled_hits.proofs.shuffle_found.Tie as tie
 
 shuffle-again-requires : tie.Need-shuffle-again-requires
 shuffle-again-requires c κs = (c .before .before .before .before .before .before .before .before .before .before .before .pre .0 .strata, c .before .before .before .before .before .before .before .before .before .before .before .pre .1 .labels, c .before .before .before .before .before .before .before .before .before .before .before .pre .0 .labels)

@@ -1,4 +1,4 @@
--- `shuffles::draw_with` meets its contract. The strata are the parts of a list, and the hits are counted over them.
+-- `sampled_hits::draw_with` meets its contract. The strata are the parts of a list, and the hits are counted over them.
 -- Assumes nothing.
 
 use mathlib.Core.Path.{_≡_, sym, _∙_}
@@ -10,10 +10,10 @@ use Rattle.location.specs.Location.{within, pseudoF}
 use Rattle.anova.specs.Anova.{anovaF}
 use Rattle.squares.specs.Squares.{terms}
 use lib.Seq.{length-take-le}
-use Rattle.shuffles.specs.Drawn.{drawn}
-use Rattle.shuffles.proofs.Shuffles.{hits-within, hits-are}
-use Rattle.shuffles.proofs.draw_with.Statement.{statement}
-use Rattle.shuffles.proofs.draw_with.Tie as tie
+use Rattle.sampled_hits.specs.Drawn.{drawn}
+use Rattle.sampled_hits.proofs.Within.{hits-within, hits-are}
+use Rattle.sampled_hits.proofs.draw_with.Statement.{statement}
+use Rattle.sampled_hits.proofs.draw_with.Tie as tie
 
 group-requires : tie.Need-group-requires
 group-requires c κs = search needs

@@ -1,11 +1,11 @@
--- `shuffles::counted` meets its contract. By whether it is so.
+-- `sampled_hits::counted` meets its contract. By whether it is so.
 -- Assumes nothing.
 
 use Prim.Native.Nat.{_-_}
 use native.Mathlib.Omega.{arith}
 use borrow.Author.Needs.{needs}
-use Rattle.shuffles.proofs.counted.Statement.{statement}
-use Rattle.shuffles.proofs.counted.Tie as tie
+use Rattle.sampled_hits.proofs.counted.Statement.{statement}
+use Rattle.sampled_hits.proofs.counted.Tie as tie
 
 add-result : tie.Need-add-result
 add-result c = search needs

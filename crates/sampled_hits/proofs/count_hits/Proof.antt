@@ -1,4 +1,4 @@
--- `shuffles::count_hits` meets its contract. The hits so far and those of the shuffles left are always all.
+-- `sampled_hits::count_hits` meets its contract. The hits so far and those of the shuffles left are always all.
 -- Assumes nothing.
 
 use mathlib.Core.Path.{_≡_, refl, _∙_}
@@ -6,16 +6,16 @@ use Prim.Native.Nat.{_+_, _-_, _≤_}
 use native.Mathlib.Omega.{arith}
 use lib.ListN.{length}
 use Rattle.location.specs.Location.{within, pseudoF}
 use Rattle.shuffles.specs.Parted.{shuffledBy}
 use Rattle.lists.specs.Ranges.{range}
 use Rattle.lists.specs.Filters.{countIf}
 use Rattle.lists.proofs.Filters.{count-turn, count-end, one-more}
 use native.Mathlib.Nat.{zero-add}
 use Rattle.statistics.specs.Hits.{shuffleHit}
 use Rattle.anova.specs.Anova.{anovaF}
-use Rattle.shuffles.specs.Room.{Room}
-use Rattle.shuffles.proofs.count_hits.Statement.{statement}
-use Rattle.shuffles.proofs.count_hits.Tie as tie
+use Rattle.sampled_hits.specs.Room.{Room}
+use Rattle.sampled_hits.proofs.count_hits.Statement.{statement}
+use Rattle.sampled_hits.proofs.count_hits.Tie as tie
 
 abbrev Inv-loop : tie.InvT-loop
 Inv-loop t w z total gs m g sn sm s seed n seen lab₀ next₀ mem₀ means₀ a₀ b₀ i₀ lab next mem means a b i =

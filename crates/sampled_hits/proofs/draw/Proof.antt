@@ -1,10 +1,10 @@
--- `shuffles::draw` meets its contract. 256 samples have room.
+-- `sampled_hits::draw` meets its contract. 256 samples have room.
 -- Assumes nothing.
 
 use Prim.Native.Nat.{_-_}
 use borrow.Author.Needs.{needs}
-use Rattle.shuffles.proofs.draw.Statement.{statement}
-use Rattle.shuffles.proofs.draw.Tie as tie
+use Rattle.sampled_hits.proofs.draw.Statement.{statement}
+use Rattle.sampled_hits.proofs.draw.Tie as tie
 
 slice-aggregate-draw-with : tie.Need-slice-aggregate-draw-with
 slice-aggregate-draw-with c = search needs

@@ -1,4 +1,4 @@
--- `shuffles::both_f` meets its contract. Both F over the members of the groups that the labels give.
+-- `sampled_hits::both_f` meets its contract. Both F over the members of the groups that the labels give.
 -- Assumes nothing.
 use mathlib.Core.Path.{ap, _∙_}
 use Prim.Native.Nat.{_-_}
@@ -6,8 +6,8 @@ use native.Mathlib.Omega.{arith}
 use borrow.Author.Needs.{needs}
 use lib.Ieee.{Float}
 use Rattle.location.specs.Location.{within, pseudoF}
-use Rattle.shuffles.proofs.both_f.Statement.{statement}
-use Rattle.shuffles.proofs.both_f.Tie as tie
+use Rattle.sampled_hits.proofs.both_f.Statement.{statement}
+use Rattle.sampled_hits.proofs.both_f.Tie as tie
 
 group-requires : tie.Need-group-requires
 group-requires c κs = search needs
