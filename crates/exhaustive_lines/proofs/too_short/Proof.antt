@@ -1,17 +1,17 @@
--- `exhaustive::too_short` meets its contract. The slices in turn; from 2 ^ 32 on n times n is above every length.
+-- `exhaustive_lines::too_short` meets its contract. The slices in turn; from 2 ^ 32 on n times n is above every length.
 -- Assumes nothing.
 use Prim.Native.Nat.{_+_, _*_, _-_}
 use native.Mathlib.Nat.{mul-le-mul}
 use native.Mathlib.Omega.{arith}
 use borrow.Author.Needs.{needs}
-use Rattle.passed_lot.proofs.Whole.{short-at, not-here, last-short}
+use Rattle.exhaustive_lines.proofs.Short.{short-at, not-here, last-short}
 use borrow.Author.Tests.{lt-ltb, le-ltb}
 use lib.Dec.{ltb}
 use Rattle.every_way.specs.Call.{lengthsOf}
 use Rattle.outcome.specs.Refusals.{short}
 use Rattle.lists.specs.Filters.{any}
-use Rattle.exhaustive.proofs.too_short.Statement.{statement}
-use Rattle.exhaustive.proofs.too_short.Tie as tie
+use Rattle.exhaustive_lines.proofs.too_short.Statement.{statement}
+use Rattle.exhaustive_lines.proofs.too_short.Tie as tie
 
 returns : tie.Need-returns
 unfolding lengthsOf
