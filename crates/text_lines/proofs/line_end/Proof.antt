@@ -1,4 +1,4 @@
--- `frames::line_end` meets its contract. The place that is looked for is the same at every turn. Assumes nothing.
+-- `text_lines::line_end` meets its contract. The place that is looked for is the same at every turn. Assumes nothing.
 use Prim.Native.Nat.{_≤_, _+_, _-_}
 use mathlib.Core.Path.{_≡_, refl, sym, _∙_}
 use native.Mathlib.Omega.{arith}
@@ -6,9 +6,9 @@ use lib.ListN.{length, drop}
 use borrow.Author.Tests.{eq-eqb, ne-eqb}
 use Rattle.lists.specs.Filters.{firstAt}
 use Rattle.lists.proofs.Filters.{first-here, first-later, first-none}
-use Rattle.frames.specs.Lines.{feed}
-use Rattle.frames.proofs.line_end.Statement.{statement}
-use Rattle.frames.proofs.line_end.Tie as tie
+use Rattle.text_lines.specs.Lines.{feed}
+use Rattle.text_lines.proofs.line_end.Statement.{statement}
+use Rattle.text_lines.proofs.line_end.Tie as tie
 
 abbrev Inv-loop : tie.InvT-loop
 Inv-loop text at i₀ i = (i ≤ length text) × (i + firstAt feed (drop i text) ≡ at + firstAt feed (drop at text))

@@ -1,8 +1,8 @@
--- `frames::ends_at` meets its contract. Assumes nothing.
-use Rattle.frames.proofs.Taking.{not-the-end, the-end}
+-- `text_lines::ends_at` meets its contract. Assumes nothing.
+use Rattle.text_lines.proofs.End.{not-the-end, the-end}
 use borrow.Author.Needs.{needs}
-use Rattle.frames.proofs.ends_at.Statement.{statement}
-use Rattle.frames.proofs.ends_at.Tie as tie
+use Rattle.text_lines.proofs.ends_at.Statement.{statement}
+use Rattle.text_lines.proofs.ends_at.Tie as tie
 
 line-at-requires : tie.Need-line-at-requires
 line-at-requires c κs = search needs

@@ -1,12 +1,12 @@
--- `frames::put_pair` meets its contract. The tests say whether the pair is new, and its cells lie within 32 rows of 32.
+-- `pairs::put_pair` meets its contract. The tests say whether the pair is new, and its cells lie within 32 rows of 32.
 -- Assumes nothing.
 use Prim.Native.Nat.{_-_}
 use native.Mathlib.Omega.{arith}
 use lib.ListN.{length-set}
 use borrow.Author.Needs.{needs}
-use Rattle.frames.proofs.Pairing.{cell-lt, not-a3, not-upper, not-inside, was-seen, is-new, put-none, put-one}
-use Rattle.frames.proofs.put_pair.Statement.{statement}
-use Rattle.frames.proofs.put_pair.Tie as tie
+use Rattle.pairs.proofs.Cells.{cell-lt, not-a3, not-upper, not-inside, was-seen, is-new, put-none, put-one}
+use Rattle.pairs.proofs.put_pair.Statement.{statement}
+use Rattle.pairs.proofs.put_pair.Tie as tie
 
 returns : tie.Need-returns
 returns c = put-none _ _ _ _ (not-a3 _ _ _ (c .if1 .taken))

@@ -10,9 +10,8 @@ use lib.Seq.{drop-drop}
 use Rattle.lists.specs.Filters.{firstAt}
 use Rattle.reader.specs.declared.Frame.{Frame}
 use Rattle.reader.specs.Frame.{noFrame, frame}
-use Rattle.frames.specs.Lines.{feed, lines}
-use Rattle.frames.specs.Frames.{head, tail}
-use Rattle.frames.specs.Reached.{framesFrom, IsLine}
+use Rattle.text_lines.specs.Lines.{feed, lines}
+use Rattle.text_lines.specs.Places.{head, tail, framesFrom, IsLine}
 use Rattle.lists.proofs.Searches.{first-within}
 
 -- the line that c begins, or not, and the lines after it
