@@ -10,7 +10,7 @@ use lib.Dec.{leb}
 use borrow.Author.Tests.{leb-true}
 use Rattle.lists.specs.Filters.{countIf}
 use Rattle.lists.proofs.Filters.{countIf-no}
-use Rattle.ways.specs.Level.{KeepsLevel, Ranks}
+use Rattle.level.specs.Level.{KeepsLevel, Ranks}
 use Rattle.lists.proofs.Counts.{count-mono, count-member}
 
 and-left : (a b : Bool) → (a && b) ≡ true → a ≡ true

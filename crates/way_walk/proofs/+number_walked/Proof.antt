@@ -6,15 +6,15 @@ use mathlib.Core.Logic.{⊎-elim}
 use Prim.Native.Nat.{ℕ, _-_, _^_, _<_}
 use native.Mathlib.Omega.{arith}
 use lib.ListN.{length, length-set}
 use Rattle.ways.specs.Onward.{HasRows}
 use Rattle.ways.proofs.Turns.{Turn, so-far, so-far-none, turn-first, turn-inside, turn-empty, empty-counted, placed-rows, placed-sized, placed-few, placed-counted, placed-fits, turn-placed, turns-counted, reached-leaf, reached-all, all-reached}
 use borrow.Fn.Kinds.{In}
 use borrow.Fn.PlainCycle.{Measures, is, falls, and}
-use Rattle.ways.proofs.number_walked.Reads as reads
-use Rattle.ways.proofs.number_walked.Kinds as kinds
-use Rattle.ways.proofs.+number_walked.Lts-number_walked as lts
-use Rattle.ways.proofs.+number_walked.{statement}
-use Rattle.ways.proofs.+number_walked.Tie.{close}
+use Rattle.way_walk.proofs.number_walked.Reads as reads
+use Rattle.way_walk.proofs.number_walked.Kinds as kinds
+use Rattle.way_walk.proofs.+number_walked.Lts-number_walked as lts
+use Rattle.way_walk.proofs.+number_walked.{statement}
+use Rattle.way_walk.proofs.+number_walked.Tie.{close}
 
 abbrev μ : Measures 3 kinds.ps ℕ
 μ κs a = length (a .0 .now) - a .1 .1 .0
