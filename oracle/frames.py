@@ -171,8 +171,9 @@ def texts():
     yield "an assignment", scattered((0, 0, 0, 1, 1, 1))
     yield "an assignment, strata, no label", scattered((0, 1, 0, 65535, 1, 0, 1), (4, 4, 4, 4, 4, 2, 2), 2)
     yield "an assignment to three groups", scattered((0, 0, 1, 1, 2, 2, 0, 1))
+    yield "8 and 8", scattered((0,) * 8 + (1,) * 8)
     yield "9 and 9", four([k % 2 for k in range(18)])
-    yield "9 and 9, a negative distance", four([k % 2 for k in range(18)]).replace("a310114008", "a31011c008")
+    yield "5 pairs, a negative distance", four([k // 2 for k in range(10)]).replace("a308094008", "a30809c008")
 
 
 def large():
@@ -257,7 +258,7 @@ def judged(t):
     square = [[d[a * n + b] * d[a * n + b] for b in held] for a in held]
     f, z, below = statistics(own, square, m, g)
     ways = set()
-    for parts in itertools.product(*[set(itertools.permutations([own[k] for k in ks])) for ks in groups]):
+    for parts in itertools.product(*[list(arrangements([own[k] for k in ks])) for ks in groups]):
         way = [None] * m
         for ks, part in zip(groups, parts):
             for k, x in zip(ks, part):
@@ -274,6 +275,17 @@ def judged(t):
     warnings = once + 2 * (given and informs == 0) + 4 * (informs / m < 0.5 and informs > 0) + 8 * small + 16 * below
     return ("b1%02x%02x%08x\n" % (m, g, count) + tested("b2", f, hits(f, [w[0] for w in each])) + tested("b3", z, hits(z, [w[1] for w in each]))
             + "b4%02x\n" % warnings + assigned(right_count(xs, own, g), rights))
+
+
+def arrangements(labels):
+    """Each order of the labels, equal ones counted once."""
+    if not labels:
+        yield ()
+    for x in sorted(set(labels)):
+        rest = list(labels)
+        rest.remove(x)
+        for more in arrangements(rest):
+            yield (x,) + more
 
 
 def quotient(a, b):
@@ -330,4 +342,6 @@ if sys.argv[1:] == ["expected"]:
 else:
     for name, t in texts():
         assert "|" not in name + t and "#" not in name + t
-        sys.stdout.write(name + "|" + t + "#")
+    whole = "".join(name + "|" + t + "#" for name, t in texts())
+    assert len(whole) <= 65536  # what `frames_run` reads
+    sys.stdout.write(whole)

@@ -17,8 +17,8 @@ use Rattle.float.proofs.Tolerance.{as-large-of-rank}
 use Rattle.statistics.specs.declared.Statistic.{Statistic}
 use Rattle.statistics.specs.declared.Statistic.the-variants.{Finite, Unbounded}
 use Rattle.statistics.specs.Hits.{statistic, hit}
-use Rattle.ways.specs.Level.{KeepsLevel, Ranks}
-use Rattle.ways.proofs.Level.{level, always}
+use Rattle.level.specs.Level.{KeepsLevel, Ranks}
+use Rattle.level.proofs.Level.{level, always}
 use Rattle.way_hits.specs.declared.Assignment.{Assignment}
 use Rattle.way_hits.specs.declared.Assignment.the-variants.{Right, Withheld}
 use Rattle.way_hits.specs.WayHits.{asRight, isGiven}

@@ -6,9 +6,10 @@ use lib.Ieee.{ofBits, toBits}
 use Rattle.outcome.specs.Outcome.{Outcome, answered, andThen}
 use Rattle.lot.specs.Lot.{Lot}
 use Rattle.frames.specs.Frames.{readLot}
-use Rattle.printing.specs.Hex.{hex}
+use Rattle.hexadecimal.specs.Hex.{hex}
 use Rattle.printing.specs.Printed.{testedLine, assignedLine, verdictLines, refusalLine, printed}
-use Rattle.judge.specs.Judge.{judgement, judgeText}
+use Rattle.judged_lot.specs.Judged.{judgement}
+use Rattle.judge.specs.Judge.{judgeText}
 use Rattle.example.specs.Text.{bytes}
 use Rattle.example.specs.Example.{input, upper, output, Example}
 use Rattle.example.proofs.Reading.{lot, the-input, in-upper-case, after-the-end}

@@ -12,8 +12,9 @@ use Rattle.outcome.specs.Outcome.{answered, refused, andThen}
 use Rattle.lot.specs.Lot.{Lot, none, lotOf}
 use Rattle.reader.specs.Hex.{spelled, fieldAt}
 use Rattle.reader.specs.Frame.{withFields, frameOf, ofKind, frame}
-use Rattle.frames.specs.Lines.{lines}
-use Rattle.frames.specs.Frames.{isHeader, isSample, joins, isPair, isEnd, head, tail, several, distance, described, lotIn, readLot}
+use Rattle.text_lines.specs.Lines.{lines}
+use Rattle.text_lines.specs.Places.{head, tail, isEnd}
+use Rattle.frames.specs.Frames.{isHeader, isSample, joins, isPair, several, distance, described, lotIn, readLot}
 use Rattle.example.specs.Text.{bytes}
 use Rattle.example.specs.Example.{input, upper}
 

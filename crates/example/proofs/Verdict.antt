@@ -47,7 +47,7 @@ use Rattle.way_hits.proofs.WayHits.{none-seen}
 use Rattle.judgement.specs.declared.Judgement.{Judgement}
 use Rattle.every_way.specs.Exhaustive as every
 use Rattle.every_way.specs.Exhaustive.{locationOf, dispersionOf, assignmentOf, hits, locationHits, dispersionHits, assignmentHits, coordinates, exhaustive}
-use Rattle.judge.specs.Judge.{lines, judgement}
+use Rattle.judged_lot.specs.Judged.{lines, judgement}
 use Rattle.example.proofs.Reading.{distances, lot}
 use Rattle.example.proofs.Ordinated.{answers, ordinated}
 

@@ -3,54 +3,7 @@ use every_way::Answer;
 use outcome::Check;
 ghost use mathlib.Core.Path.{_≡_};
 ghost use Rattle.lot.specs.Lot.{lotOf};
-ghost use Rattle.outcome.specs.Refusals.{short};
-ghost use Rattle.every_way.specs.Call.{lengthsOf, slicesOf, called, exhaustiveCall};
-
-// Line 1, for outputs and work slices of these lengths. From 2 ^ 32 on n times n is above every length.
-fn too_short(
-    n: usize,
-    names: usize,
-    counts: usize,
-    means: usize,
-    terms: usize,
-    pulls: usize,
-    coords: usize,
-    room: usize,
-    vectors: usize,
-    rows: usize,
-) -> bool
-    ensures { λ r. ⌜ r ≡ short (lengthsOf n names counts means terms pulls coords room vectors rows) ⌝ }
-{
-    if n >= 4294967296 {
-        return true;
-    }
-    let q = n * n;
-    if names < n {
-        return true;
-    }
-    if counts < n {
-        return true;
-    }
-    if means < n {
-        return true;
-    }
-    if terms < q {
-        return true;
-    }
-    if pulls < q {
-        return true;
-    }
-    if coords < 16 + 8 * n {
-        return true;
-    }
-    if room < n + q {
-        return true;
-    }
-    if vectors < q {
-        return true;
-    }
-    rows < q
-}
+ghost use Rattle.every_way.specs.Call.{slicesOf, called, exhaustiveCall};
 
 // The exhaustive test of n samples by their labels: every way of the labels within strata, and three hit counts. `names`, `counts` and `means` get each
 // group's label, count and mean z; the other slices that are lent are work.
@@ -76,7 +29,7 @@ pub fn exhaustive(
         ≡ exhaustiveCall (lotOf n (now (distances .entry)) (now (labels .entry)) stratified (now (strata .entry)) weighted (now (weights .entry)))
         (slicesOf (now (names .entry)) (now (counts .entry)) (now (means .entry)) (now (terms .entry)) (now (pulls .entry)) (now (coords .entry)) (now (room .entry)) (now (vectors .entry)) (now (rows .entry))) ⌝ }
 {
-    let short = too_short(
+    let short = exhaustive_lines::too_short(
         n,
         names.len(),
         counts.len(),

@@ -19,8 +19,9 @@ use Rattle.lot.specs.Lot.{Lot}
 use Rattle.lot.specs.Lines.{misfits}
 use Rattle.reader.specs.declared.Frame.{Frame}
 use Rattle.reader.specs.Frame.{frame}
-use Rattle.frames.specs.Lines.{lines}
-use Rattle.frames.specs.Frames.{isHeader, isSample, joins, isPair, pairCount, isEnd, malformed, head, tail, Taken, several, distance, described, lotIn, readLot}
+use Rattle.text_lines.specs.Lines.{lines}
+use Rattle.text_lines.specs.Places.{isEnd, head, tail}
+use Rattle.frames.specs.Frames.{isHeader, isSample, joins, isPair, pairCount, malformed, Taken, several, distance, described, lotIn, readLot}
 use Rattle.frames.specs.Fits.{Fits}
 use Rattle.frames.proofs.Taking.{length-map}
 use Rattle.frames.proofs.Reading.{final, from-pairs, from-samples}

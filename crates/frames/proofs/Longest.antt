@@ -20,8 +20,9 @@ use Rattle.reader.specs.declared.Field.the-variants.{Number, Malformed}
 use Rattle.reader.specs.declared.Frame.{Frame}
 use Rattle.reader.specs.Hex.{fieldAt}
 use Rattle.reader.specs.Frame.{noFrame, with, withFields, frameOf, ofKind, frame}
-use Rattle.frames.specs.Lines.{feed, lines}
-use Rattle.frames.specs.Frames.{isHeader, isSample, joins, isPair, pairCount, isEnd, malformed, head, tail, Taken, several, described, lotIn, readLot}
+use Rattle.text_lines.specs.Lines.{feed, lines}
+use Rattle.text_lines.specs.Places.{isEnd, head, tail}
+use Rattle.frames.specs.Frames.{isHeader, isSample, joins, isPair, pairCount, malformed, Taken, several, described, lotIn, readLot}
 use Rattle.frames.proofs.Pairing.{both}
 use Rattle.frames.proofs.Reading.{final, from-pairs, from-samples}
 use Rattle.frames.proofs.Fits.{by-test, by-step}

@@ -21,7 +21,9 @@ use Rattle.lists.proofs.Ranges.{length-grid}
 use Rattle.lists.proofs.Rows.{row-end, cell-below, entry-grid}
 use Rattle.lists.proofs.Writes.{length-over, getD-over, getD-behind}
 use Rattle.frames.specs.Frames.{joins, isPair, distance}
-use Rattle.frames.specs.Reached.{unseen, Put, Paired}
+use Rattle.pairs.specs.Put.{unseen, Put}
+use Rattle.pairs.proofs.Cells.{cell-lt}
+use Rattle.frames.specs.Reached.{Paired}
 use Rattle.frames.specs.Call.{noDistances}
 use Rattle.reader.specs.declared.Frame.{Frame}
 
@@ -55,10 +57,6 @@ any-last p (g ∷ fs) f = ap (λ (b : Bool). p g || b) (any-last p fs f) ∙ ass
     assoc false b c = refl
 
 -- ---- cells
-
-pub cell-lt : (n i j : ℕ) → n ≤ 32 → i < n → j < n → i * n + j < 1024
-cell-lt n i j h g k =
-    let a : n * n ≤ 32 * 32 = mul-le-mul {n₂ = 32} {m₂ = 32} h h in omega (arith, cell-below n n i j g k)
 
 pub all-cells : (n : ℕ) → n ≤ 32 → (n * n ≤ 1024) × (n ≤ n * n)
 all-cells n h = (mul-le-mul {n₂ = 32} {m₂ = 32} h h, le-square n)
@@ -259,38 +257,6 @@ module _ (n : ℕ) {d₀ d : List Float} {seen : List ℕ} {pairs : List Frame} 
       }
 
 -- ---- a pair is put, or not
-
-pub not-a3 : (n : ℕ) (seen : List ℕ) (f : Frame) → (f .kind ≡ 0xa3 → ⊥) → unseen n seen f ≡ false
-unfolding unseen
-not-a3 n seen f h = rw (ne-eqb (f .kind) 0xa3 h)
-
-pub not-upper : (n : ℕ) (seen : List ℕ) (f : Frame) → f .kind ≡ 0xa3 → f .second ≤ f .first → unseen n seen f ≡ false
-unfolding unseen
-not-upper n seen f e h = rw (eq-eqb (f .kind) 0xa3 e, le-ltb (f .first) (f .second) h)
-
-pub not-inside : (n : ℕ) (seen : List ℕ) (f : Frame) → f .kind ≡ 0xa3 → f .first < f .second → n ≤ f .second → unseen n seen f ≡ false
-unfolding unseen
-not-inside n seen f e h g = rw (eq-eqb (f .kind) 0xa3 e, lt-ltb (f .first) (f .second) h, le-ltb (f .second) n g)
-
-module _ (n : ℕ) (seen : List ℕ) (f : Frame) (e : f .kind ≡ 0xa3) (h : f .first < f .second) (g : f .second < n) where
-  pub was-seen : (getD seen (f .first * n + f .second) 0 ≡ 0 → ⊥) → unseen n seen f ≡ false
-  unfolding unseen
-  was-seen i = rw (eq-eqb (f .kind) 0xa3 e, lt-ltb (f .first) (f .second) h, lt-ltb (f .second) n g, ne-eqb (getD seen (f .first * n + f .second) 0) 0 i)
-
-  pub is-new : getD seen (f .first * n + f .second) 0 ≡ 0 → unseen n seen f ≡ true
-  unfolding unseen
-  is-new i = rw (eq-eqb (f .kind) 0xa3 e, lt-ltb (f .first) (f .second) h, lt-ltb (f .second) n g, eq-eqb (getD seen (f .first * n + f .second) 0) 0 i)
-
-pub put-none : (n : ℕ) (f : Frame) (d : List Float) (seen : List ℕ) → unseen n seen f ≡ false → Put n f d seen d seen false
-put-none n f d seen e = record { told = sym e; mirrored = refl; marked = refl }
-
-pub put-one : (n : ℕ) (f : Frame) (d : List Float) (seen : List ℕ) {x : Float} → unseen n seen f ≡ true → x ≡ f64 (f .bits) →
-    Put n f d seen (set (set d (f .first * n + f .second) x) (f .second * n + f .first) x) (set seen (f .first * n + f .second) 1) true
-put-one n f d seen e g = record {
-  told = sym e;
-  mirrored = ap (λ (x : Float). set (set d (f .first * n + f .second) x) (f .second * n + f .first) x) g;
-  marked = refl;
-}
 
 module _ (n : ℕ) {d d′ : List Float} {seen seen′ : List ℕ} {pairs : List Frame} {f : Frame} {r : Bool} (m : Marked n noDistances d seen pairs) (p : Put n f d seen d′ seen′ r) where
   pub put-other : r ≡ false → isPair n pairs f ≡ false

@@ -14,9 +14,10 @@ use Rattle.lists.specs.Writes.{over, cleared}
 use Rattle.outcome.specs.Outcome.{Outcome, answered, refused, andThen}
 use Rattle.outcome.specs.declared.Refusal.{Refusal}
 use Rattle.lot.specs.Lot.{Lot}
-use Rattle.frames.specs.Frames.{head, tail, isHeader, isSample, isPair, pairCount, isEnd, malformed, Taken, several, distance, described, lotIn, readLot}
+use Rattle.text_lines.specs.Places.{head, tail, isEnd, framesFrom}
+use Rattle.frames.specs.Frames.{isHeader, isSample, isPair, pairCount, malformed, Taken, several, distance, described, lotIn, readLot}
 use Rattle.frames.specs.Call.{noNumbers, noDistances, held, leaves, readCall, called}
-use Rattle.frames.specs.Reached.{framesFrom, Opens, OpenedBy, Took, ReachedBy, Sampled, Paired, Room, Cleared, Reads, ReadBy}
+use Rattle.frames.specs.Reached.{Opens, OpenedBy, Took, ReachedBy, Sampled, Paired, Room, Cleared, Reads, ReadBy}
 use Rattle.reader.specs.declared.Frame.{Frame}
 use Rattle.frames.specs.declared.Header.{Header}
 use Rattle.frames.specs.declared.Opening.{Opening}

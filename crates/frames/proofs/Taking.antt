@@ -8,18 +8,15 @@ use native.Mathlib.Omega.{arith}
 use lib.Dec.{eqb, leb}
 use lib.ListN.{length, drop, set, length-append, length-set, length-replicate}
 use borrow.Author.Tests.{eq-eqb, ne-eqb, lt-leb, le-leb, leb-true, leb-false}
-use Rattle.lists.specs.Filters.{firstAt}
 use Rattle.lists.specs.Writes.{over}
 use Rattle.lists.proofs.Ranges.{map-last}
 use Rattle.lists.proofs.Writes.{over-none, over-next}
 use Rattle.outcome.specs.Outcome.{Outcome}
-use Rattle.frames.specs.Lines.{feed, lines}
-use Rattle.frames.specs.Frames.{head, tail, isHeader, isSample, isEnd, malformed, Taken, several}
-use Rattle.frames.specs.Reached.{framesFrom, IsLine, Opens, Took, Sampled}
+use Rattle.text_lines.specs.Places.{head, tail, framesFrom, IsLine}
+use Rattle.frames.specs.Frames.{isHeader, isSample, malformed, Taken, several}
+use Rattle.frames.specs.Reached.{Opens, Took, Sampled}
 use Rattle.frames.specs.Call.{noNumbers}
 use Rattle.reader.specs.declared.Frame.{Frame}
-use Rattle.reader.specs.Frame.{frame}
-use Rattle.frames.proofs.Lines.{lines-past, lines-from}
 
 -- ---- several frames
 
@@ -144,30 +141,3 @@ sampled-next fs f {l} {t} {k} m h s = record {
   labelled = one-more (λ f. f .second) fs f m h (s .labelled);
   stratified = one-more (λ f. f .third) fs f m h (s .stratified);
 }
-
--- ---- the end
-
-end-by : (fs : List Frame) (b : Bool) → eqb (head fs .kind) 0xaf ≡ b → cond b (eqb (length (tail fs)) 0) false ≡ isEnd fs
-unfolding head tail isEnd
-end-by [] true e = sym e
-end-by [] false e = refl
-end-by (f ∷ fs) true e = sym (ap (λ (t : Bool). t && eqb (length fs) 0) e)
-end-by (f ∷ fs) false e = sym (ap (λ (t : Bool). t && eqb (length fs) 0) e)
-
-none-left : (text : List ℕ) (at : ℕ) (b : Bool) → leb (length text) at ≡ b → b ≡ eqb (length (framesFrom text at)) 0
-unfolding framesFrom
-none-left text at true t = sym (ap (λ (ls : List (List ℕ)). eqb (length (map frame ls)) 0) (lines-past text at (leb-true (length text) at t)))
-none-left text at false t =
-    let e = at + firstAt feed (drop at text) in
-    sym (ap (λ (ls : List (List ℕ)). eqb (length (map frame ls)) 0) (lines-from text at e (leb-false (length text) at t) refl)
-    ∙ ne-eqb (suc (length (map frame (lines (drop (e + 1) text))))) 0 (λ z. omega arith))
-
-module _ {text : List ℕ} {at : ℕ} {f : Frame} {next : ℕ} (l : IsLine text at f next) where
-  pub not-the-end : (f .kind ≡ 0xaf → ⊥) → false ≡ isEnd (framesFrom text at)
-  not-the-end h = end-by (framesFrom text at) false (ap (λ (g : Frame). eqb (g .kind) 0xaf) (sym (l .its-frame)) ∙ ne-eqb (f .kind) 0xaf h)
-
-  pub the-end : f .kind ≡ 0xaf → leb (length text) next ≡ isEnd (framesFrom text at)
-  the-end e =
-      none-left text next (leb (length text) next) refl
-      ∙ ap (λ (fs : List Frame). eqb (length fs) 0) (l .the-rest)
-      ∙ end-by (framesFrom text at) true (ap (λ (g : Frame). eqb (g .kind) 0xaf) (sym (l .its-frame)) ∙ eq-eqb (f .kind) 0xaf e)

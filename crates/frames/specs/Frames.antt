@@ -12,8 +12,9 @@ use Rattle.outcome.specs.declared.Refusal.the-variants as refusal
 use Rattle.outcome.specs.Outcome.{Outcome, answered, refused, andThen}
 use Rattle.lot.specs.Lot.{Lot, lotOf}
 use Rattle.reader.specs.declared.Frame.{Frame}
-use Rattle.reader.specs.Frame.{noFrame, frame}
-use Rattle.frames.specs.Lines.{lines}
+use Rattle.reader.specs.Frame.{frame}
+use Rattle.text_lines.specs.Lines.{lines}
+use Rattle.text_lines.specs.Places.{head, tail, isEnd}
 
 -- ---- which frames may follow those before them
 
@@ -36,24 +37,11 @@ isPair n before f = eqb (f .kind) 0xa3 && ltb (f .first) (f .second) && ltb (f .
 abbrev pub pairCount : ℕ → ℕ
 pairCount n = (n * n - n) / 2
 
--- `af`, and nothing after it
-unfoldable pub isEnd : List Frame → Bool
-isEnd [] = false
-isEnd (f ∷ fs) = eqb (f .kind) 0xaf && eqb (length fs) 0
-
 -- ---- frames in their order
 
 -- 12: a frame is malformed, missing or repeated
 abbrev pub malformed : {A : Type 0} → Outcome A
 malformed = refused refusal.Frame
-
-unfoldable pub head : List Frame → Frame
-head [] = noFrame
-head (f ∷ fs) = f
-
-unfoldable pub tail : List Frame → List Frame
-tail [] = []
-tail (f ∷ fs) = fs
 
 -- the frames taken, and those that follow them
 pub record Taken : Type 0 where

@@ -1,20 +1,18 @@
 -- What the functions that read a part of a text return, and what they leave in slices. Statements only.
-use Prim.Native.Nat.{ℕ, _+_, _*_}
+use Prim.Native.Nat.{ℕ}
 use mathlib.Core.Path.{_≡_}
-use mathlib.Core.Bool.{Bool, true, false, _&&_, cond}
+use mathlib.Core.Bool.{Bool, true, false}
 use mathlib.Core.List.{List, map}
-use lib.Dec.{eqb, ltb}
-use lib.ListN.{length, drop, getD, set}
+use lib.Dec.{eqb}
+use lib.ListN.{length}
 use lib.Ieee.{Float}
-use Rattle.float.specs.Floats.{f64}
 use Rattle.lists.specs.Ranges.{grid}
 use Rattle.lists.specs.Writes.{over}
 use Rattle.outcome.specs.Outcome.{Outcome, answered, refused}
 use Rattle.lot.specs.Lot.{Lot}
 use Rattle.reader.specs.declared.Frame.{Frame}
-use Rattle.reader.specs.Frame.{frame}
-use Rattle.frames.specs.Lines.{lines}
-use Rattle.frames.specs.Frames.{head, tail, isHeader, malformed, Taken, distance, readLot}
+use Rattle.text_lines.specs.Places.{head, tail, framesFrom}
+use Rattle.frames.specs.Frames.{isHeader, malformed, Taken, distance, readLot}
 use Rattle.frames.specs.Call.{noNumbers, noDistances, headerOf}
 use Rattle.frames.specs.declared.Header.{Header}
 use Rattle.frames.specs.declared.Opening.{Opening}
@@ -23,15 +21,6 @@ use Rattle.frames.specs.declared.Place.{Place}
 use Rattle.frames.specs.declared.Place.the-variants.{At, Nowhere}
 use Rattle.frames.specs.declared.Answer.{Answer}
 use Rattle.frames.specs.declared.Answer.the-variants.{Read, Refused}
-
--- the frames of the lines from place at on
-unfoldable pub framesFrom : List ℕ → ℕ → List Frame
-framesFrom text at = map frame (lines (drop at text))
-
--- f is the first of the frames from place at on, and the others go on from place next
-pub record IsLine (text : List ℕ) (at : ℕ) (f : Frame) (next : ℕ) : Type 0 where
-  pub its-frame : f ≡ head (framesFrom text at)
-  pub the-rest : framesFrom text next ≡ tail (framesFrom text at)
 
 -- the first frame opens the lot: its n, whether strata are given, and where the others go on
 pub record Opens (text : List ℕ) (n : ℕ) (stratified : Bool) (next : ℕ) : Type 0 where
@@ -71,16 +60,6 @@ pub record Sampled (l s : List ℕ) (samples : List Frame) : Type 0 where
   pub strata : length s ≡ 32
   pub labelled : l ≡ over (map (λ f. f .second) samples) noNumbers
   pub stratified : s ≡ over (map (λ f. f .third) samples) noNumbers
-
--- a pair of the lot whose mark is 0
-unfoldable pub unseen : ℕ → List ℕ → Frame → Bool
-unseen n seen f = eqb (f .kind) 0xa3 && ltb (f .first) (f .second) && ltb (f .second) n && eqb (getD seen (f .first * n + f .second) 0) 0
-
--- d and seen were held, and d′ and seen′ are: the distance at both its places and the mark, if r; else as before
-pub record Put (n : ℕ) (f : Frame) (d : List Float) (seen : List ℕ) (d′ : List Float) (seen′ : List ℕ) (r : Bool) : Type 0 where
-  pub told : r ≡ unseen n seen f
-  pub mirrored : d′ ≡ cond r (set (set d (f .first * n + f .second) (f64 (f .bits))) (f .second * n + f .first) (f64 (f .bits))) d
-  pub marked : seen′ ≡ cond r (set seen (f .first * n + f .second) 1) seen
 
 -- a cleared slice got the distances of the pairs
 abbrev pub Paired : ℕ → List Float → List Frame → Type 0

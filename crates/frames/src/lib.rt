@@ -1,63 +1,13 @@
 // The input of `lotjudge` (document 01, section 7): frames are read into a lot.
 ghost use mathlib.Core.Path.{_≡_};
 ghost use mathlib.Core.List.{[]};
-ghost use Prim.Native.Nat.{_+_, _<_, _≤_};
-ghost use lib.ListN.{length, drop, replicate};
-ghost use Rattle.float.specs.Floats.{f64};
-ghost use Rattle.lists.specs.Filters.{firstAt};
-ghost use Rattle.frames.specs.Lines.{feed};
-ghost use Rattle.frames.specs.Frames.{isSample, isPair, pairCount, isEnd, several};
+ghost use Prim.Native.Nat.{_≤_};
+ghost use lib.ListN.{replicate};
+ghost use Rattle.text_lines.specs.Places.{framesFrom};
+ghost use Rattle.frames.specs.Frames.{isSample, isPair, pairCount, several};
 ghost use Rattle.frames.specs.Call.{noNumbers, noDistances, readCall, called};
-ghost use Rattle.frames.specs.Reached.{framesFrom, IsLine, OpenedBy, ReachedBy, Sampled, Put, Paired, Room, Cleared, ReadBy};
+ghost use Rattle.frames.specs.Reached.{OpenedBy, ReachedBy, Sampled, Paired, Room, Cleared, ReadBy};
 use outcome::Refusal;
-use reader::Frame;
-
-// ---- lines of a text
-
-// The place of the first line feed from place at on, or the text's end.
-fn line_end(text: &[u8], at: usize) -> usize
-    requires { ⌜ at ≤ length (now text) ⌝ }
-    ensures { λ r. ⌜ r ≡ at + firstAt feed (drop at (now (text .entry))) ⌝ }
-{
-    let mut i = at;
-    while i < text.len() {
-        if text[i] == 10 {
-            return i;
-        }
-        i += 1;
-    }
-    i
-}
-
-// A frame, and where the next line starts.
-pub struct Line {
-    pub frame: Frame,
-    pub next: usize,
-}
-
-// The frame of the line at place at; none past the end.
-fn line_at(text: &[u8], at: usize) -> Line
-    ensures { λ r. ⌜ IsLine (now (text .entry)) at (r .frame) (r .next) ⌝ }
-{
-    if text.len() <= at {
-        return Line {
-            frame: reader::no_frame(),
-            next: at,
-        };
-    }
-    let e = line_end(text, at);
-    let f = reader::parse(&text[at..e]);
-    if e < text.len() {
-        Line {
-            frame: f,
-            next: e + 1,
-        }
-    } else {
-        Line { frame: f, next: e }
-    }
-}
-
-// ---- the lot that the frames describe
 
 pub enum Opening {
     Opened {
@@ -72,7 +22,7 @@ pub enum Opening {
 fn read_header(text: &[u8]) -> Opening
     ensures { λ r. ⌜ OpenedBy (now (text .entry)) r ⌝ }
 {
-    let l = line_at(text, 0);
+    let l = text_lines::line_at(text, 0);
     let f = l.frame;
     if f.kind != 0xa1 {
         return Opening::Unopened;
@@ -104,7 +54,7 @@ fn read_samples(text: &[u8], from: usize, n: usize, labels: &mut [u16], strata: 
     let mut at = from;
     let mut k: usize = 0;
     while k < n {
-        let l = line_at(text, at);
+        let l = text_lines::line_at(text, at);
         let f = l.frame;
         if f.kind != 0xa2 {
             return Place::Nowhere;
@@ -120,44 +70,6 @@ fn read_samples(text: &[u8], from: usize, n: usize, labels: &mut [u16], strata: 
     Place::At(at)
 }
 
-// The f64 of a pattern; each pattern of a NaN is NaN.
-fn float_of(b: u64) -> f64
-    ensures { λ r. ⌜ r ≡ f64 b ⌝ }
-{
-    if b % 0x8000_0000_0000_0000 <= 0x7ff0_0000_0000_0000 {
-        return f64::from_bits(b);
-    }
-    0.0 / 0.0
-}
-
-// Puts a pair's distance at both its places, if it is a pair of the lot that was not seen.
-fn put_pair(f: Frame, n: usize, distances: &mut [f64], seen: &mut [u8]) -> bool
-    requires { ⌜ (n ≤ 32) × (length (now distances) ≡ 1024) × (length (now seen) ≡ 1024) ⌝ }
-    ensures { λ r. ⌜ Put n f (now (distances .entry)) (now (seen .entry)) (now (distances .exit)) (now (seen .exit)) r ⌝ }
-{
-    if f.kind != 0xa3 {
-        return false;
-    }
-    let i = f.first as usize;
-    let j = f.second as usize;
-    if j <= i {
-        return false;
-    }
-    if n <= j {
-        return false;
-    }
-    let p = i * n + j;
-    if seen[p] != 0 {
-        return false;
-    }
-    let q = j * n + i;
-    let d = float_of(f.bits);
-    seen[p] = 1;
-    distances[p] = d;
-    distances[q] = d;
-    true
-}
-
 // The pairs whose frames start at place from, over zeros.
 fn read_pairs(text: &[u8], from: usize, n: usize, distances: &mut [f64], seen: &mut [u8]) -> Place
     requires { ⌜ (n ≤ 32) × (now distances ≡ noDistances) × (now seen ≡ replicate 1024 0) ⌝ }
@@ -167,28 +79,15 @@ fn read_pairs(text: &[u8], from: usize, n: usize, distances: &mut [f64], seen: &
     let mut at = from;
     let mut k: usize = 0;
     while k < total {
-        let l = line_at(text, at);
+        let l = text_lines::line_at(text, at);
         let f = l.frame;
-        if !put_pair(f, n, distances, seen) {
+        if !pairs::put_pair(f, n, distances, seen) {
             return Place::Nowhere;
         }
         at = l.next;
         k += 1;
     }
     Place::At(at)
-}
-
-// Whether the frames at place at are the end and nothing more.
-fn ends_at(text: &[u8], at: usize) -> bool
-    ensures { λ r. ⌜ r ≡ isEnd (framesFrom (now (text .entry)) at) ⌝ }
-{
-    let l = line_at(text, at);
-    let f = l.frame;
-    let next = l.next;
-    if f.kind != 0xaf {
-        return false;
-    }
-    text.len() <= next
 }
 
 // n, and whether strata are given.
@@ -227,7 +126,7 @@ fn read_over(
     let Place::At(last) = read_pairs(text, at, n, distances, seen) else {
         return Answer::Refused(Refusal::Frame);
     };
-    if ends_at(text, last) {
+    if text_lines::ends_at(text, last) {
         Answer::Read(Header { n, stratified })
     } else {
         Answer::Refused(Refusal::Frame)

@@ -1,69 +1,27 @@
 // `judge` (document 01, section 7): from the whole input to the whole output.
 ghost use mathlib.Core.Path.{_≡_};
-ghost use mathlib.Core.Bool.{false};
 ghost use Prim.Native.Nat.{_≤_};
 ghost use lib.ListN.{length};
 ghost use Rattle.outcome.specs.Outcome.{andThen};
-ghost use Rattle.lot.specs.Lot.{lotOf};
 ghost use Rattle.every_way.specs.Call.{answerOf};
 ghost use Rattle.frames.specs.Frames.{readLot};
 ghost use Rattle.frames.specs.Call.{fronts};
 ghost use Rattle.frames.specs.Fits.{Fits};
 ghost use Rattle.frames.specs.Reached.{Room};
-ghost use Rattle.printing.specs.Printed.{page, onto};
-ghost use Rattle.judge.specs.Judge.{judgement, judgeText};
+ghost use Rattle.hexadecimal.specs.Page.{page, onto};
+ghost use Rattle.judged_lot.specs.Judged.{judgement};
+ghost use Rattle.judge.specs.Judge.{judgeText};
 use every_way::Answer;
 use frames::Header;
 
-// What is found of a lot that was read; no weights are given.
-fn judge_lot(
-    n: usize,
-    distances: &[f64],
-    labels: &[u16],
-    stratified: bool,
-    strata: &[u16],
-    weights: &[f64],
-) -> Answer
-    requires { ⌜ Fits (lotOf n (now distances) (now labels) stratified (now strata) false (now weights)) ⌝ }
-    ensures { λ r. ⌜ answerOf r ≡ judgement (lotOf n (now (distances .entry)) (now (labels .entry)) stratified (now (strata .entry)) false (now (weights .entry))) ⌝ }
-{
-    let mut names = [0u16; 32];
-    let mut counts = [0u16; 32];
-    let mut means = [0.0f64; 32];
-    let mut terms = [0.0f64; 1024];
-    let mut pulls = [0.0f64; 1024];
-    let mut coords = [0.0f64; 272];
-    let mut room = [0.0f64; 1056];
-    let mut vectors = [0.0f64; 1024];
-    let mut rows = [0u16; 1024];
-    exhaustive::exhaustive(
-        n,
-        distances,
-        labels,
-        stratified,
-        strata,
-        false,
-        weights,
-        &mut names,
-        &mut counts,
-        &mut means,
-        &mut terms,
-        &mut pulls,
-        &mut coords,
-        &mut room,
-        &mut vectors,
-        &mut rows,
-    )
-}
-
-// The same of the lot at the fronts of three slices.
+// What is found of the lot at the fronts of three slices.
 fn judge_front(h: Header, labels: &[u16], strata: &[u16], distances: &[f64]) -> Answer
     requires { ⌜ Room (now labels) (now strata) (now distances) × Fits (fronts h (now labels) (now strata) (now distances)) ⌝ }
     ensures { λ r. ⌜ answerOf r ≡ judgement (fronts h (now (labels .entry)) (now (strata .entry)) (now (distances .entry))) ⌝ }
 {
     let n = h.n;
     let q = n * n;
-    judge_lot(
+    judged_lot::judge_lot(
         n,
         &distances[..q],
         &labels[..n],

@@ -1,3 +1,2 @@
--- What the functions for other languages return, by what the operations answer; the lengths that they tell.
+-- What the functions for other languages return, by what the operations answer.
 pub mod Exports
-pub mod Asked

@@ -1,3 +1,2 @@
 -- The functions for other languages: what they return and write.
 pub mod Exported
-pub mod Lengths

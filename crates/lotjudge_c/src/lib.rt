@@ -1,17 +1,19 @@
 // The library for other languages (include/lotjudge.h): each operation on numbers and slices, with a number for its outcome: 0, or the refusal's.
-mod lengths;
-
 ghost use mathlib.Core.Path.{_≡_};
+ghost use mathlib.Core.Bool.{_||_};
+ghost use Prim.Native.Nat.{min};
+ghost use lib.Dec.{ltb};
 ghost use Rattle.float.specs.Root.{root};
 ghost use Rattle.lot.specs.Lot.{lotOf};
 ghost use Rattle.sampled.specs.Call.{slicesOf, testCall};
 ghost use Rattle.every_way.specs.Call as ways;
-ghost use Rattle.pcoa.specs.Call.{pcoaCall};
+ghost use Rattle.pcoa.specs.Call.{badComponents, pcoaCall};
 ghost use Rattle.hash_pca.specs.Call.{hashPcaCall};
 ghost use Rattle.dapc.specs.Call.{dapcCall};
-ghost use Rattle.printing.specs.Printed.{page, onto};
+ghost use Rattle.hexadecimal.specs.Page.{page, onto};
 ghost use Rattle.judge.specs.Judge.{judgeText};
 ghost use Rattle.layouts.specs.Coded.{arrays};
+ghost use Rattle.lengths.specs.Lengths.{testLengths, waysLengths, pcoaLengths, hashPcaLengths, dapcLengths, judgeLength, tell, told};
 ghost use Rattle.lotjudge_c.specs.Exported.{exportTest, testExport, exportWays, waysExport, exportPcoa, pcoaExport, exportHashPca, hashPcaExport, exportDapc, dapcExport};
 
 #[no_mangle]
@@ -170,4 +172,52 @@ pub extern "C" fn lotjudge_sqrt(x: f64) -> f64
     ensures { λ r. ⌜ r ≡ root x ⌝ }
 {
     float::sqrt(x)
+}
+
+// ---- the lengths that are asked
+
+#[no_mangle]
+pub extern "C" fn lotjudge_test_lengths(n: usize, lengths: &mut [usize; 5]) -> u8
+    ensures { λ r. ⌜ told r (now (lengths .exit)) ≡ tell (ltb 256 n) (testLengths n) (now (lengths .entry)) ⌝ }
+{
+    lengths::test_lengths(n, lengths)
+}
+
+#[no_mangle]
+pub extern "C" fn lotjudge_exhaustive_lengths(n: usize, lengths: &mut [usize; 9]) -> u8
+    ensures { λ r. ⌜ told r (now (lengths .exit)) ≡ tell (ltb 256 n) (waysLengths n) (now (lengths .entry)) ⌝ }
+{
+    lengths::exhaustive_lengths(n, lengths)
+}
+
+#[no_mangle]
+pub extern "C" fn lotjudge_pcoa_lengths(n: usize, components: usize, lengths: &mut [usize; 5]) -> u8
+    ensures { λ r. ⌜ told r (now (lengths .exit)) ≡ tell (ltb 256 n || badComponents components) (pcoaLengths n (min components n)) (now (lengths .entry)) ⌝ }
+{
+    lengths::pcoa_lengths(n, components, lengths)
+}
+
+#[no_mangle]
+pub extern "C" fn lotjudge_hash_pca_lengths(
+    n: usize,
+    components: usize,
+    lengths: &mut [usize; 6],
+) -> u8
+    ensures { λ r. ⌜ told r (now (lengths .exit)) ≡ tell (ltb 256 n || badComponents components) (hashPcaLengths n (min components n)) (now (lengths .entry)) ⌝ }
+{
+    lengths::hash_pca_lengths(n, components, lengths)
+}
+
+#[no_mangle]
+pub extern "C" fn lotjudge_dapc_lengths(n: usize, columns: usize, lengths: &mut [usize; 2]) -> u8
+    ensures { λ r. ⌜ told r (now (lengths .exit)) ≡ tell (ltb 256 n || ltb 16 columns) (dapcLengths n columns) (now (lengths .entry)) ⌝ }
+{
+    lengths::dapc_lengths(n, columns, lengths)
+}
+
+#[no_mangle]
+pub extern "C" fn lotjudge_judge_length() -> usize
+    ensures { λ r. ⌜ r ≡ judgeLength ⌝ }
+{
+    lengths::judge_length()
 }

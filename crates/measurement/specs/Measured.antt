@@ -11,7 +11,7 @@ use Rattle.dispersion.specs.Dispersion.{zOf}
 use Rattle.statistics.specs.Hits.{statistic}
 use Rattle.statistics.specs.Warnings.{bit, leftOut}
 use Rattle.observation.specs.Observed.{observed}
-use Rattle.shuffles.specs.Drawn.{drawn}
+use Rattle.sampled_hits.specs.Drawn.{drawn}
 use Rattle.measurement.specs.declared.Measured.{Measured}
 use Rattle.measurement.specs.declared.TestResult.{TestResult}
 use Rattle.chances.specs.Chances.{chance}

@@ -1,6 +1,6 @@
 // Both statistics with their p, and the answer made from them (document 01, section 8).
 use chances::Chance;
-use shuffles::Seen;
+use sampled_hits::Seen;
 ghost use mathlib.Core.Path.{_≡_};
 ghost use Prim.Native.Nat.{_<_, _≤_};
 ghost use lib.ListN.{length};
@@ -71,7 +71,7 @@ pub fn measure(
         location: first,
         dispersion: second,
     };
-    let h = shuffles::draw(t, w, z, o.total, gs, ss, m, g, s, seed, n, seen);
+    let h = sampled_hits::draw(t, w, z, o.total, gs, ss, m, g, s, seed, n, seen);
     let location = chances::chance_of(none, first, h.location, n);
     let dispersion = chances::chance_of(none, second, h.dispersion, n);
     Measured {

@@ -22,7 +22,6 @@ use Rattle.lists.proofs.Writes.{take-over}
 use Rattle.outcome.proofs.Table.{first-untouched}
 use Rattle.lists.proofs.Truths.{or-neither}
 use Rattle.lists.proofs.Counts.{count-cong}
-use Rattle.lists.proofs.Members.{member-any, member-getD}
 use Rattle.every_way.specs.declared.Answer.the-variants.{Refused}
 use Rattle.lot.specs.declared.Shape.{Shape}
 use Rattle.lot.specs.Lot.{Lot, none}
@@ -323,16 +322,3 @@ shape-few lot s passed shape d =
       omega (arith, d .samples .many, kept-few (lot .labels), t .fits .labelsFit, t .few),
       omega (arith, d .labelled .many, names-few (lot .labels), t .fits .labelsFit, t .few),
     )
-
--- ---- line 1, slice by slice
-
-pub short-at : (xs : List Lent) (i : ℕ) → i < length xs → ltb (getD xs i (0 of 0) .has) (getD xs i (0 of 0) .asked) ≡ true → true ≡ short xs
-unfolding short
-short-at xs i h e = sym (member-any (λ l. ltb (l .has) (l .asked)) xs (getD xs i (0 of 0)) (member-getD xs i (0 of 0) h) e)
-
-pub not-here : (a b c : Bool) → a ≡ false → c ≡ b → c ≡ (a || b)
-not-here a b c e h = rw e h
-
-pub last-short : (a : Bool) → a ≡ (a || false)
-last-short true = refl
-last-short false = refl

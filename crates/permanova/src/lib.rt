@@ -129,6 +129,7 @@ pub fn test(
         terms.len(),
         pulls.len(),
     );
+    let beyond = sampled::too_many(n_perm);
     let c = lines::check_lot(
         n,
         distances,
@@ -138,7 +139,7 @@ pub fn test(
         weighted,
         weights,
         short,
-        999999 < n_perm,
+        beyond,
     );
     match c {
         Check::Refused(r) => Answer::Refused(r),

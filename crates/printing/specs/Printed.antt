@@ -1,9 +1,7 @@
 -- Section 7: what `lotjudge` prints. Definitions only.
 use Prim.Native.Nat.{ℕ}
 use mathlib.Core.List.{List, _++_}
-use lib.ListN.{length}
 use Rattle.float.specs.Floats.{bits}
-use Rattle.lists.specs.Writes.{over}
 use Rattle.outcome.specs.declared.Refusal.{Refusal}
 use Rattle.outcome.specs.Refusals.{number}
 use Rattle.outcome.specs.Outcome.{Outcome, answered, refused}
@@ -13,7 +11,7 @@ use Rattle.way_hits.specs.declared.Assignment.{Assignment}
 use Rattle.way_hits.specs.declared.Assignment.the-variants.{Right, Withheld}
 use Rattle.way_hits.specs.WayHits.{rightOf}
 use Rattle.judgement.specs.declared.Judgement.{Judgement}
-use Rattle.printing.specs.Hex.{hex, feed}
+use Rattle.hexadecimal.specs.Hex.{hex, feed}
 
 -- 01 finite, 00 unbounded; F's bits, 0 if unbounded
 abbrev pub stateOf : Statistic → ℕ
@@ -53,16 +51,3 @@ refusalLine r = hex 2 0xbf ++ hex 2 (number r) ++ feed
 unfoldable pub printed : Outcome Judgement → List ℕ
 printed (answered v) = verdictLines v
 printed (refused r) = refusalLine r
-
--- ---- how a contract says it: how many bytes are printed, and what the slice holds
-
-pub record Page : Type 0 where
-  pub size : ℕ
-  pub bytes : List ℕ
-
-abbrev pub page : ℕ → List ℕ → Page
-page size bytes = record { size = size; bytes = bytes }
-
--- the text at the front of a slice
-unfoldable pub onto : List ℕ → List ℕ → Page
-onto text before = record { size = length text; bytes = over text before }

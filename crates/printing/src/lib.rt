@@ -1,13 +1,14 @@
 // The output of `lotjudge` (document 01, section 7): the lines of a verdict or a refusal.
 ghost use mathlib.Core.Path.{_≡_};
 ghost use mathlib.Core.List.{_++_};
-ghost use Prim.Native.Nat.{_+_, _<_, _≤_};
+ghost use Prim.Native.Nat.{_+_, _≤_};
 ghost use lib.ListN.{length};
 ghost use Rattle.every_way.specs.Call.{answerOf};
-ghost use Rattle.printing.specs.Hex.{digit, hex, feed};
+ghost use Rattle.hexadecimal.specs.Hex.{hex, feed};
+ghost use Rattle.hexadecimal.specs.Wrote.{Wrote};
+ghost use Rattle.hexadecimal.specs.Page.{page, onto};
 ghost use Rattle.way_hits.specs.WayHits.{rightOf};
-ghost use Rattle.printing.specs.Printed.{stateOf, patternOf, givenOf, testedLine, assignedLine, verdictLines, refusalLine, printed, page, onto};
-ghost use Rattle.printing.specs.Wrote.{Wrote};
+ghost use Rattle.printing.specs.Printed.{stateOf, patternOf, givenOf, testedLine, assignedLine, verdictLines, refusalLine, printed};
 use every_way::Answer;
 use judgement::Assigned;
 use judgement::Judgement;
@@ -16,42 +17,6 @@ use outcome::Refusal;
 use statistics::Statistic;
 use way_hits::Assignment;
 
-// ---- numbers
-
-// A digit in lower case.
-fn digit_of(v: u64) -> u8
-    requires { ⌜ v < 16 ⌝ }
-    ensures { λ r. ⌜ r ≡ digit v ⌝ }
-{
-    if v < 10 {
-        (48 + v) as u8
-    } else {
-        (87 + v) as u8
-    }
-}
-
-// Writes v in count digits from place at on.
-fn put_hex(out: &mut [u8], at: usize, count: usize, v: u64) -> usize
-    requires { ⌜ (at + count ≤ length (now out)) × (count ≤ 16) ⌝ }
-    ensures { λ r. ⌜ Wrote (now (out .entry)) at count (hex count v) (now (out .exit)) r ⌝ }
-{
-    let mut i = 0;
-    while i < count {
-        let shift = 4 * (count - i - 1);
-        out[at + i] = digit_of((v >> shift) % 16);
-        i += 1;
-    }
-    at + count
-}
-
-fn put_feed(out: &mut [u8], at: usize) -> usize
-    requires { ⌜ at < length (now out) ⌝ }
-    ensures { λ r. ⌜ Wrote (now (out .entry)) at 1 feed (now (out .exit)) r ⌝ }
-{
-    out[at] = 10;
-    at + 1
-}
-
 // ---- lines
 
 // A line of a kind with one number of two digits.
@@ -59,9 +24,9 @@ fn put_short(out: &mut [u8], at: usize, kind: u64, x: u64) -> usize
     requires { ⌜ at + 5 ≤ length (now out) ⌝ }
     ensures { λ r. ⌜ Wrote (now (out .entry)) at 5 (hex 2 kind ++ hex 2 x ++ feed) (now (out .exit)) r ⌝ }
 {
-    let p = put_hex(out, at, 2, kind);
-    let q = put_hex(out, p, 2, x);
-    put_feed(out, q)
+    let p = hexadecimal::put_hex(out, at, 2, kind);
+    let q = hexadecimal::put_hex(out, p, 2, x);
+    hexadecimal::put_feed(out, q)
 }
 
 // A line of a kind with numbers of 2, count and 8 digits.
@@ -69,11 +34,11 @@ fn put_line(out: &mut [u8], at: usize, kind: u64, x: u64, count: usize, y: u64, 
     requires { ⌜ (at + (2 + 2 + count + 8 + 1) ≤ length (now out)) × (count ≤ 16) ⌝ }
     ensures { λ r. ⌜ Wrote (now (out .entry)) at (2 + 2 + count + 8 + 1) (hex 2 kind ++ hex 2 x ++ hex count y ++ hex 8 z ++ feed) (now (out .exit)) r ⌝ }
 {
-    let p = put_hex(out, at, 2, kind);
-    let q = put_hex(out, p, 2, x);
-    let r = put_hex(out, q, count, y);
-    let s = put_hex(out, r, 8, z);
-    put_feed(out, s)
+    let p = hexadecimal::put_hex(out, at, 2, kind);
+    let q = hexadecimal::put_hex(out, p, 2, x);
+    let r = hexadecimal::put_hex(out, q, count, y);
+    let s = hexadecimal::put_hex(out, r, 8, z);
+    hexadecimal::put_feed(out, s)
 }
 
 // ---- the values of each case

@@ -26,8 +26,7 @@ use Rattle.anova.specs.Anova.{meanZ}
 use Rattle.statistics.specs.Statistics.{totalOf, withinOf, locationF, rSquaredOf, zOf, someNegative, dispersionOf, dispersionF}
 use Rattle.statistics.specs.Warnings.{uninformed, sizesOf, warned}
 use Rattle.observation.specs.Observed.{located, spread, observed}
-use Rattle.shuffles.specs.Shuffled.{hitsOf}
-use Rattle.shuffles.specs.Drawn.{drawn}
+use Rattle.sampled_hits.specs.Drawn.{hitsOf, drawn}
 use Rattle.measurement.specs.declared.TestResult.{TestResult}
 use Rattle.sampled.specs.declared.Answer.the-variants.{Tested, Refused}
 use Rattle.sampled.specs.Sampled.{partsOf, chanceOf, locationChance, dispersionChance}

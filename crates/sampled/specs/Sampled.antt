@@ -8,7 +8,8 @@ use Rattle.lot.specs.Strata.{strata, strataCount}
 use Rattle.statistics.specs.Hits.{statistic}
 use Rattle.statistics.specs.Statistics.{locationF, zOf, dispersionOf}
 use Rattle.statistics.specs.Warnings.{uninformed}
-use Rattle.shuffles.specs.Shuffled.{parts, hitsOf}
+use Rattle.shuffles.specs.Shuffled.{parts}
+use Rattle.sampled_hits.specs.Drawn.{hitsOf}
 use Rattle.chances.specs.declared.Chance.{Chance}
 use Rattle.chances.specs.Chances.{chance}
 

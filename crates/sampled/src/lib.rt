@@ -1,7 +1,8 @@
-// The sampled test (document 01, section 8): what is answered, and line 1 of the table.
+// The sampled test (document 01, section 8): what is answered, and lines 1 and 2 of the table for a call.
 use measurement::TestResult;
 use outcome::Refusal;
 ghost use mathlib.Core.Path.{_≡_};
+ghost use lib.Dec.{ltb};
 ghost use Rattle.sampled.specs.Call.{tooShort};
 
 pub enum Answer {
@@ -38,4 +39,11 @@ pub fn too_short(
         return true;
     }
     pulls < n * n
+}
+
+// Line 2, for this number of shuffles.
+pub fn too_many(n_perm: u64) -> bool
+    ensures { λ r. ⌜ r ≡ ltb 999999 «n_perm» ⌝ }
+{
+    999999 < n_perm
 }

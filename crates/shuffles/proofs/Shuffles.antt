@@ -1,6 +1,6 @@
 -- A shuffle keeps the number of labels, and their groups are of the same g. Over parts it is the shuffle within strata. Assumes nothing.
-use mathlib.Core.Path.{_≡_, refl, sym, ap, ap₂, _∙_, subst}
-use mathlib.Core.Bool.{Bool, true, false, cond}
+use mathlib.Core.Path.{_≡_, refl, sym, ap, _∙_, subst}
+use mathlib.Core.Bool.{Bool, true, false}
 use mathlib.Core.List.{List, [], _∷_, _++_, foldl}
 use Prim.Native.Nat.{ℕ, zero, suc, _+_, _-_, _%_, _<_}
 use native.Mathlib.Numerals.{add-one}
@@ -8,9 +8,7 @@ use lib.Dec.{eqb, ltb}
 use borrow.Author.Tests.{eqb-true, eqb-false, ltb-true, ltb-false}
 use lib.ListN.{length, getD, set, length-set, List·getD-eq-default}
 use lib.Seq.{getD-set-same, getD-set-other}
-use lib.Ieee.{Float}
-use Rattle.lists.specs.Ranges.{range, table}
-use Rattle.lists.specs.Filters.{countIf}
+use Rattle.lists.specs.Ranges.{table}
 use Rattle.lists.specs.Loops.{inTurn, downTo}
 use Rattle.lists.specs.Numbers.{members, Below}
 use Rattle.lists.proofs.Ranges.{table-last}
@@ -18,9 +16,6 @@ use Rattle.lists.proofs.Loops.{inTurn-keeps, inTurn-ext}
 use Rattle.members.specs.Members.{part, Grouped}
 use Rattle.splitmix.specs.SplitMix.{advance, mix}
 use Rattle.splitmix.specs.Shuffle.{Deal, deal, seeded, swapped, swapDrawn, shuffleStratum, shuffle}
-use Rattle.statistics.specs.declared.Statistic.{Statistic}
-use Rattle.statistics.specs.Hits.{shuffleHit}
-use Rattle.shuffles.specs.declared.Hits.{Hits}
 use Rattle.shuffles.specs.Shuffled.{parts, shuffled}
 use Rattle.shuffles.specs.Parted.{shuffledBy}
 
@@ -88,19 +83,3 @@ shuffled-within ss m s next mem lab seed t g =
     ap (λ (d : Deal). d .labels)
     (inTurn-ext (λ k. shuffleStratum (part next mem k)) (λ k u. shuffleStratum (members ss m k) u) s (deal (seeded seed t) lab) (λ k u h. ap (λ (p : List ℕ). shuffleStratum p u) (g .are k h))
     ∙ sym (fold-table (λ u stratum. shuffleStratum stratum u) (members ss m) s (deal (seeded seed t) lab)))
-
--- ---- hits over parts are hits within strata
-
-countIf-ext : {A : Type 0} (p q : A → Bool) (xs : List A) → ((x : A) → p x ≡ q x) → countIf p xs ≡ countIf q xs
-unfolding countIf
-countIf-ext p q [] e = refl
-countIf-ext p q (x ∷ xs) e = ap₂ (λ (b : Bool) (n : ℕ). cond b 1 0 + n) (e x) (countIf-ext p q xs e)
-
-pub hits-within : (ss : List ℕ) (m s : ℕ) (next mem gs : List ℕ) (seed n : ℕ) → Grouped ss m s next mem → (o : Statistic) (f : List ℕ → Float)
-    → countIf (λ i. shuffleHit o (f (shuffledBy next mem s gs seed i))) (range 0 n) ≡ countIf (λ i. shuffleHit o (f (shuffled (parts ss m s) gs seed i))) (range 0 n)
-hits-within ss m s next mem gs seed n g o f =
-    countIf-ext (λ i. shuffleHit o (f (shuffledBy next mem s gs seed i))) (λ i. shuffleHit o (f (shuffled (parts ss m s) gs seed i))) (range 0 n)
-    (λ i. ap (λ (l : List ℕ). shuffleHit o (f l)) (shuffled-within ss m s next mem gs seed i g))
-
-pub hits-are : (r : Hits) {a b : ℕ} → r .location ≡ a → r .dispersion ≡ b → r ≡ record { location = a; dispersion = b }
-hits-are r p q = λ i. record { location = p i; dispersion = q i }

@@ -1,5 +1,3 @@
--- Section 8 of document 01: shuffles within strata, and their hits.
+-- Section 8 of document 01: shuffles within strata.
 pub mod Shuffled
-pub mod Drawn
 pub mod Parted
-pub mod Room

@@ -2,7 +2,6 @@
 pub mod Distinct
 pub mod Dealt
 pub mod Every
-pub mod Level
 pub mod Number
 pub mod Counts
 pub mod Turns

@@ -6,8 +6,8 @@ use Prim.Native.Nat.{_-_}
 use native.Mathlib.Omega.{arith}
 use borrow.Author.Needs.{needs}
 use Rattle.squares.specs.Squares.{terms}
-use Rattle.shuffles.specs.declared.Hits.{Hits}
-use Rattle.shuffles.specs.Drawn.{drawn}
+use Rattle.sampled_hits.specs.declared.Hits.{Hits}
+use Rattle.sampled_hits.specs.Drawn.{drawn}
 use Rattle.measurement.specs.Measured.{measured}
 use Rattle.chances.proofs.Chances.{hits-few}
 use Rattle.measurement.proofs.measure.Statement.{statement}

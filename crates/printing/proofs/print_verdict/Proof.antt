@@ -3,7 +3,7 @@
 use Prim.Native.Nat.{_-_}
 use borrow.Author.Needs.{needs}
 use Rattle.printing.specs.Printed.{verdictLines}
-use Rattle.printing.proofs.Printing.{wrote-then}
+use Rattle.hexadecimal.proofs.Writing.{wrote-then}
 use Rattle.printing.proofs.print_verdict.Statement.{statement}
 use Rattle.printing.proofs.print_verdict.Tie as tie
 

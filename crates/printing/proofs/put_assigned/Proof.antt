@@ -4,9 +4,9 @@ use Prim.Native.Nat.{ℕ, _+_, _-_}
 use mathlib.Core.Path.{ap₂}
 use mathlib.Core.List.{_++_}
 use borrow.Author.Needs.{needs}
-use Rattle.printing.specs.Hex.{hex, feed}
+use Rattle.hexadecimal.specs.Hex.{hex, feed}
 use Rattle.printing.specs.Printed.{assignedLine}
-use Rattle.printing.proofs.Printing.{wrote-as}
+use Rattle.hexadecimal.proofs.Writing.{wrote-as}
 use Rattle.printing.proofs.put_assigned.Statement.{statement}
 use Rattle.printing.proofs.put_assigned.Tie as tie
 

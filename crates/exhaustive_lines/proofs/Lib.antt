@@ -1,0 +1,2 @@
+-- Whether a slice is short.
+mod Short

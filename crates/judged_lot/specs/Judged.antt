@@ -1,0 +1,25 @@
+-- Section 7: what is found of a lot that was read. Definitions only.
+use mathlib.Core.List.{List, [], _∷_}
+use lib.Dec.{ltb}
+use Rattle.lists.specs.Filters.{any}
+use Rattle.outcome.specs.declared.Refusal.the-variants.{Value, Labels, Ways}
+use Rattle.outcome.specs.Refusals.{Line, _when_, first}
+use Rattle.outcome.specs.Outcome.{Outcome, judged}
+use Rattle.lot.specs.Lot.{Lot}
+use Rattle.lot.specs.Kept.{groupCount}
+use Rattle.lot.specs.Lines.{badDistance}
+use Rattle.ways.specs.Ways.{mostWays, wayCount}
+use Rattle.judgement.specs.declared.Judgement.{Judgement}
+use Rattle.every_way.specs.Exhaustive.{exhaustive}
+
+-- lines 3, 5 and 8; of a lot that was read 1, 2 and 4 never hold: its parts fit n, which is at most 32, and weights are 1
+unfoldable pub lines : Lot → List Line
+lines lot =
+    (Value when any badDistance (lot .distances))
+    ∷ (Labels when ltb (groupCount (lot .labels)) 2)
+    ∷ (Ways when ltb mostWays (wayCount lot))
+    ∷ []
+
+-- what is found of a lot: a refusal, or what the exhaustive test says
+unfoldable pub judgement : Lot → Outcome Judgement
+judgement lot = judged (first (lines lot)) (exhaustive lot)

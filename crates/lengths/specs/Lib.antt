@@ -1,0 +1,2 @@
+-- Line 1 of the table: the lengths that are asked.
+pub mod Lengths

@@ -1,0 +1,2 @@
+-- The law of the level.
+pub mod Level

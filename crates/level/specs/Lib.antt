@@ -1,0 +1,2 @@
+-- Demand 3, for any list.
+pub mod Level

@@ -1,0 +1,3 @@
+-- The laws of pairs that are put, and of patterns.
+pub mod Cells
+mod Patterns

@@ -1,0 +1,2 @@
+-- Section 7 of document 01: pairs of samples.
+pub mod Put

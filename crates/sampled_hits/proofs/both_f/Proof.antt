@@ -1,0 +1,47 @@
+-- `sampled_hits::both_f` meets its contract. Both F over the members of the groups that the labels give.
+-- Assumes nothing.
+use mathlib.Core.Path.{ap, _∙_}
+use Prim.Native.Nat.{_-_}
+use native.Mathlib.Omega.{arith}
+use borrow.Author.Needs.{needs}
+use lib.Ieee.{Float}
+use Rattle.location.specs.Location.{within, pseudoF}
+use Rattle.sampled_hits.proofs.both_f.Statement.{statement}
+use Rattle.sampled_hits.proofs.both_f.Tie as tie
+
+group-requires : tie.Need-group-requires
+group-requires c κs = search needs
+
+within-requires : tie.Need-within-requires
+within-requires c κs = search needs
+
+pseudo-f-requires : tie.Need-pseudo-f-requires
+pseudo-f-requires c κs = search needs
+
+anova-f-requires : tie.Need-anova-f-requires
+anova-f-requires c κs = ((c .before .before .before .before .before .before .before .before .before .before .before .before .before .before .before .before .before .before .before .before .before .pre .0 .2, c .before .before .before .before .before .before .before .before .before .before .before .before .before .before .before .before .before .before .before .before .before .pre .0 .3, c .before .before .before .before .before .before .before .before .before .before .before .before .before .before .before .before .before .before .before .before .before .pre .0 .4, c .before .before .before .before .before .before .before .before .before .before .before .group .ensures, omega (arith, c .before .before .before .before .before .before .before .before .before .before .before .group .kept .1 .1 .1 .1 .0)), (c .before .before .before .before .before .before .before .before .before .before .before .before .before .before .before .before .before .before .before .before .before .pre .1 .3, c .before .before .before .before .before .before .before .before .before .before .before .before .before .before .before .before .before .before .before .before .before .pre .1 .4, c .before .before .before .before .before .before .before .before .before .before .before .before .before .before .before .before .before .before .before .before .before .pre .1 .5, c .before .before .before .before .before .before .before .before .before .before .before .before .before .before .before .before .before .before .before .before .before .pre .1 .6))
+
+same-length : tie.Need-same-length
+same-length c = search needs
+
+same-length-2 : tie.Need-same-length-2
+same-length-2 c = search needs
+
+same-length-3 : tie.Need-same-length-3
+same-length-3 c = search needs
+
+returns : tie.Need-returns
+returns c = (c .before .before .before .before .before .before .pseudo-f .ensures ∙ ap (λ (x : Float). pseudoF (c .before .before .before .before .before .before .before .before .before .before .before .before .before .before .before .before .before .before .before .before .before .before .before .before .args .total) x (c .before .before .before .before .before .before .before .before .before .before .before .before .before .before .before .before .before .before .before .before .before .before .before .before .args .m) (c .before .before .before .before .before .before .before .before .before .before .before .before .before .before .before .before .before .before .before .before .before .before .before .before .args .g)) (c .before .before .before .before .before .before .before .within .ensures), c .before .before .anova-f .ensures)
+
+pub both-f-spec : {M : Type 1} → statement M
+both-f-spec =
+    tie.close
+    (tie.spec
+    group-requires
+    within-requires
+    pseudo-f-requires
+    anova-f-requires
+    same-length
+    same-length-2
+    same-length-3
+    returns)

@@ -1,0 +1,20 @@
+-- `sampled_hits::counted` meets its contract. By whether it is so.
+-- Assumes nothing.
+
+use Prim.Native.Nat.{_-_}
+use native.Mathlib.Omega.{arith}
+use borrow.Author.Needs.{needs}
+use Rattle.sampled_hits.proofs.counted.Statement.{statement}
+use Rattle.sampled_hits.proofs.counted.Tie as tie
+
+add-result : tie.Need-add-result
+add-result c = search needs
+
+returns : tie.Need-returns
+returns c = rw (c .if1 .taken) (omega arith)
+
+returns-2 : tie.Need-returns-2
+returns-2 c = rw (c .if1 .left) (omega arith)
+
+pub counted-spec : {M : Type 1} → statement M
+counted-spec = tie.close (tie.spec add-result returns returns-2)

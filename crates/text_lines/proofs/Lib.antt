@@ -1,0 +1,3 @@
+-- The laws of lines, and of the end.
+pub mod Lines
+mod End
