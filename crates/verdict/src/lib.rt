@@ -67,7 +67,7 @@ fn count(
     ensures { λ r. ⌜ r ≡ countedBy (now (t .entry)) (now (p .entry)) (now (w .entry)) (now (x .entry)) (now (ks .entry)) (now (gs .entry)) (now (ss .entry)) n m g columns lead barred o ⌝ }
 {
     let seen = see(scores, x, ks, gs, n, columns, lead, m, g, barred, o);
-    let hits = walk::count_hits(
+    let hits = hit_counts::count_hits(
         rows,
         scores,
         ss,

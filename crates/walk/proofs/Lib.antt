@@ -1,3 +1,2 @@
 -- The laws of the walk.
 pub mod Turned
-pub mod Started

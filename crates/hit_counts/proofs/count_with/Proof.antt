@@ -1,12 +1,12 @@
--- `walk::count_with` meets its contract. The rows are filled, and the walk starts at the first sample.
+-- `hit_counts::count_with` meets its contract. The rows are filled, and the walk starts at the first sample.
 -- Assumes nothing.
 use Prim.Native.Nat.{_-_}
 use native.Mathlib.Omega.{arith}
 use borrow.Author.Needs.{needs}
 use Rattle.ways.proofs.Counts.{zeros-cleared}
-use Rattle.walk.proofs.Started.{rows-longer, start-rows, start-few, start-ahead, all-counted}
-use Rattle.walk.proofs.count_with.Statement.{statement}
-use Rattle.walk.proofs.count_with.Tie as tie
+use Rattle.hit_counts.proofs.Started.{rows-longer, start-rows, start-few, start-ahead, all-counted}
+use Rattle.hit_counts.proofs.count_with.Statement.{statement}
+use Rattle.hit_counts.proofs.count_with.Tie as tie
 
 clear-u16-requires : tie.Need-clear-u16-requires
 clear-u16-requires c κs = search needs

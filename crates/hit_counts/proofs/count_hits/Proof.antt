@@ -1,12 +1,12 @@
--- `walk::count_hits` meets its contract. Room for 256 samples.
+-- `hit_counts::count_hits` meets its contract. Room for 256 samples.
 -- Assumes nothing.
 use mathlib.Core.Path.{sym}
 use Prim.Native.Nat.{_-_}
 use native.Mathlib.Omega.{arith}
 use borrow.Author.Needs.{needs}
 use lib.Seq.{length-take-le}
-use Rattle.walk.proofs.count_hits.Statement.{statement}
-use Rattle.walk.proofs.count_hits.Tie as tie
+use Rattle.hit_counts.proofs.count_hits.Statement.{statement}
+use Rattle.hit_counts.proofs.count_hits.Tie as tie
 
 array-borrow-prefix-way : tie.Need-array-borrow-prefix-way
 array-borrow-prefix-way c = search needs

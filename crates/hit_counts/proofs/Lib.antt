@@ -1,0 +1,2 @@
+-- The laws of the hits among all ways.
+pub mod Started
