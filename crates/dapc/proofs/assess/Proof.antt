@@ -19,26 +19,16 @@ leading-of-requires : tie.Need-leading-of-requires
 leading-of-requires c κs = search needs
 
 fill-group-each-requires : tie.Need-fill-group-each-requires
-fill-group-each-requires c κs =
-    let at-start = c .before .before .before .before .before .before .before .before in
-    (omega (arith, at-start .pre .0 .few), at-start .pre .1 .0, at-start .pre .0 .numbersFit)
+fill-group-each-requires c κs = (omega (arith, c .before .before .before .before .before .before .before .before .pre .0 .few), c .before .before .before .before .before .before .before .before .pre .1 .0, c .before .before .before .before .before .before .before .before .pre .0 .numbersFit)
 
 slice-reshare-prefix-discriminate : tie.Need-slice-reshare-prefix-discriminate
 slice-reshare-prefix-discriminate c = omega (arith, c .before .before .before .before .fill-group-each .kept .1 .1 .0, c .before .before .before .before .before .before .before .before .before .before .before .before .before .pre .0 .numbersFit)
 
 slice-aggregate-discriminate : tie.Need-slice-aggregate-discriminate
-slice-aggregate-discriminate c =
-    let at-fill-group-each = c .before .before .before .before .before in
-    let at-start = at-fill-group-each .before .before .before .before .before .before .before .before .before in
-    sym (length-take-le (length (at-start .args .labels .now)) (at-fill-group-each .fill-group-each .last .1 .1 .0) (omega (arith, at-fill-group-each .fill-group-each .kept .1 .1 .0, at-start .pre .0 .numbersFit)))
+slice-aggregate-discriminate c = sym (length-take-le (length (c .before .before .before .before .before .before .before .before .before .before .before .before .before .before .args .labels .now)) (c .before .before .before .before .before .fill-group-each .last .1 .1 .0) (omega (arith, c .before .before .before .before .before .fill-group-each .kept .1 .1 .0, c .before .before .before .before .before .before .before .before .before .before .before .before .before .before .pre .0 .numbersFit)))
 
 discriminate-requires : tie.Need-discriminate-requires
-discriminate-requires c κs =
-    let at-fill-group-each = c .before .before .before .before .before in
-    let at-leading-of = at-fill-group-each .before .before in
-    let at-start = at-leading-of .before .before .before .before .before .before .before in
-    let a = at-start .args in
-    (made-ready (a .columns) (a .m) (a .g) (at-leading-of .leading-of .result) (a .x .now) (a .labels .now) (length (a .out .now)) (length (a .assigned .now)) (length (a .each .now)) (at-start .pre .0) (at-start .pre .1 .1) (at-start .pre .1 .2) (at-leading-of .leading-of .ensures) (take (length (a .labels .now)) (at-fill-group-each .fill-group-each .last .1 .1 .0)) (ap (take (length (a .labels .now))) (at-fill-group-each .fill-group-each .ensures) ∙ take-over (groupEach (a .labels .now)) (a .each .now) (length (a .labels .now)) (length-each (a .labels .now))) (at-start .pre .1 .3), kept-grouped (a .columns) (a .m) (a .g) (at-leading-of .leading-of .result) (a .x .now) (a .labels .now) (length (a .out .now)) (length (a .assigned .now)) (length (a .each .now)) (at-start .pre .0) (at-start .pre .1 .1) (at-start .pre .1 .2) (at-leading-of .leading-of .ensures) (take (length (a .labels .now)) (at-fill-group-each .fill-group-each .last .1 .1 .0)) (ap (take (length (a .labels .now))) (at-fill-group-each .fill-group-each .ensures) ∙ take-over (groupEach (a .labels .now)) (a .each .now) (length (a .labels .now)) (length-each (a .labels .now))))
+discriminate-requires c κs = (made-ready (c .before .before .before .before .before .before .before .before .before .before .before .before .before .before .args .columns) (c .before .before .before .before .before .before .before .before .before .before .before .before .before .before .args .m) (c .before .before .before .before .before .before .before .before .before .before .before .before .before .before .args .g) (c .before .before .before .before .before .before .before .leading-of .result) (c .before .before .before .before .before .before .before .before .before .before .before .before .before .before .args .x .now) (c .before .before .before .before .before .before .before .before .before .before .before .before .before .before .args .labels .now) (length (c .before .before .before .before .before .before .before .before .before .before .before .before .before .before .args .out .now)) (length (c .before .before .before .before .before .before .before .before .before .before .before .before .before .before .args .assigned .now)) (length (c .before .before .before .before .before .before .before .before .before .before .before .before .before .before .args .each .now)) (c .before .before .before .before .before .before .before .before .before .before .before .before .before .before .pre .0) (c .before .before .before .before .before .before .before .before .before .before .before .before .before .before .pre .1 .1) (c .before .before .before .before .before .before .before .before .before .before .before .before .before .before .pre .1 .2) (c .before .before .before .before .before .before .before .leading-of .ensures) (take (length (c .before .before .before .before .before .before .before .before .before .before .before .before .before .before .args .labels .now)) (c .before .before .before .before .before .fill-group-each .last .1 .1 .0)) (ap (take (length (c .before .before .before .before .before .before .before .before .before .before .before .before .before .before .args .labels .now))) (c .before .before .before .before .before .fill-group-each .ensures) ∙ take-over (groupEach (c .before .before .before .before .before .before .before .before .before .before .before .before .before .before .args .labels .now)) (c .before .before .before .before .before .before .before .before .before .before .before .before .before .before .args .each .now) (length (c .before .before .before .before .before .before .before .before .before .before .before .before .before .before .args .labels .now)) (length-each (c .before .before .before .before .before .before .before .before .before .before .before .before .before .before .args .labels .now))) (c .before .before .before .before .before .before .before .before .before .before .before .before .before .before .pre .1 .3), kept-grouped (c .before .before .before .before .before .before .before .before .before .before .before .before .before .before .args .columns) (c .before .before .before .before .before .before .before .before .before .before .before .before .before .before .args .m) (c .before .before .before .before .before .before .before .before .before .before .before .before .before .before .args .g) (c .before .before .before .before .before .before .before .leading-of .result) (c .before .before .before .before .before .before .before .before .before .before .before .before .before .before .args .x .now) (c .before .before .before .before .before .before .before .before .before .before .before .before .before .before .args .labels .now) (length (c .before .before .before .before .before .before .before .before .before .before .before .before .before .before .args .out .now)) (length (c .before .before .before .before .before .before .before .before .before .before .before .before .before .before .args .assigned .now)) (length (c .before .before .before .before .before .before .before .before .before .before .before .before .before .before .args .each .now)) (c .before .before .before .before .before .before .before .before .before .before .before .before .before .before .pre .0) (c .before .before .before .before .before .before .before .before .before .before .before .before .before .before .pre .1 .1) (c .before .before .before .before .before .before .before .before .before .before .before .before .before .before .pre .1 .2) (c .before .before .before .before .before .before .before .leading-of .ensures) (take (length (c .before .before .before .before .before .before .before .before .before .before .before .before .before .before .args .labels .now)) (c .before .before .before .before .before .fill-group-each .last .1 .1 .0)) (ap (take (length (c .before .before .before .before .before .before .before .before .before .before .before .before .before .before .args .labels .now))) (c .before .before .before .before .before .fill-group-each .ensures) ∙ take-over (groupEach (c .before .before .before .before .before .before .before .before .before .before .before .before .before .before .args .labels .now)) (c .before .before .before .before .before .before .before .before .before .before .before .before .before .before .args .each .now) (length (c .before .before .before .before .before .before .before .before .before .before .before .before .before .before .args .labels .now)) (length-each (c .before .before .before .before .before .before .before .before .before .before .before .before .before .before .args .labels .now))))
 
 same-length : tie.Need-same-length
 same-length c = c .before .before .before .before .discriminate .kept .0
@@ -50,13 +40,7 @@ same-length-3 : tie.Need-same-length-3
 same-length-3 c = c .before .before .before .before .before .before .before .before .before .before .fill-group-each .kept .1 .1 .0
 
 returns : tie.Need-returns
-returns c =
-    let at-discriminate = c .before .before .before .before in
-    let at-fill-group-each = at-discriminate .before .before .before .before .before .before in
-    let at-leading-of = at-fill-group-each .before .before in
-    let at-start = at-leading-of .before .before .before .before .before .before .before in
-    let a = at-start .args in
-    assessed (a .columns) (a .m) (a .g) (at-leading-of .leading-of .result) (a .x .now) (a .labels .now) (length (a .out .now)) (length (a .assigned .now)) (length (a .each .now)) (at-start .pre .0) (at-start .pre .1 .1) (at-start .pre .1 .2) (at-leading-of .leading-of .ensures) (take (length (a .labels .now)) (at-fill-group-each .fill-group-each .last .1 .1 .0)) (ap (take (length (a .labels .now))) (at-fill-group-each .fill-group-each .ensures) ∙ take-over (groupEach (a .labels .now)) (a .each .now) (length (a .labels .now)) (length-each (a .labels .now))) (a .out .now) (a .assigned .now) (at-discriminate .discriminate .ensures)
+returns c = assessed (c .before .before .before .before .before .before .before .before .before .before .before .before .before .before .before .before .before .before .before .args .columns) (c .before .before .before .before .before .before .before .before .before .before .before .before .before .before .before .before .before .before .before .args .m) (c .before .before .before .before .before .before .before .before .before .before .before .before .before .before .before .before .before .before .before .args .g) (c .before .before .before .before .before .before .before .before .before .before .before .before .leading-of .result) (c .before .before .before .before .before .before .before .before .before .before .before .before .before .before .before .before .before .before .before .args .x .now) (c .before .before .before .before .before .before .before .before .before .before .before .before .before .before .before .before .before .before .before .args .labels .now) (length (c .before .before .before .before .before .before .before .before .before .before .before .before .before .before .before .before .before .before .before .args .out .now)) (length (c .before .before .before .before .before .before .before .before .before .before .before .before .before .before .before .before .before .before .before .args .assigned .now)) (length (c .before .before .before .before .before .before .before .before .before .before .before .before .before .before .before .before .before .before .before .args .each .now)) (c .before .before .before .before .before .before .before .before .before .before .before .before .before .before .before .before .before .before .before .pre .0) (c .before .before .before .before .before .before .before .before .before .before .before .before .before .before .before .before .before .before .before .pre .1 .1) (c .before .before .before .before .before .before .before .before .before .before .before .before .before .before .before .before .before .before .before .pre .1 .2) (c .before .before .before .before .before .before .before .before .before .before .before .before .leading-of .ensures) (take (length (c .before .before .before .before .before .before .before .before .before .before .before .before .before .before .before .before .before .before .before .args .labels .now)) (c .before .before .before .before .before .before .before .before .before .before .fill-group-each .last .1 .1 .0)) (ap (take (length (c .before .before .before .before .before .before .before .before .before .before .before .before .before .before .before .before .before .before .before .args .labels .now))) (c .before .before .before .before .before .before .before .before .before .before .fill-group-each .ensures) ∙ take-over (groupEach (c .before .before .before .before .before .before .before .before .before .before .before .before .before .before .before .before .before .before .before .args .labels .now)) (c .before .before .before .before .before .before .before .before .before .before .before .before .before .before .before .before .before .before .before .args .each .now) (length (c .before .before .before .before .before .before .before .before .before .before .before .before .before .before .before .before .before .before .before .args .labels .now)) (length-each (c .before .before .before .before .before .before .before .before .before .before .before .before .before .before .before .before .before .before .before .args .labels .now))) (c .before .before .before .before .before .before .before .before .before .before .before .before .before .before .before .before .before .before .before .args .out .now) (c .before .before .before .before .before .before .before .before .before .before .before .before .before .before .before .before .before .before .before .args .assigned .now) (c .before .before .before .before .discriminate .ensures)
 
 pub assess-spec : {M : Type 1} → statement M
 assess-spec =

@@ -22,28 +22,19 @@ enum-told c = search needs
 
 judge-in-requires : tie.Need-judge-in-requires
 judge-in-requires c κs =
-    let at-enum-told = c .before .before in
-    let at-check = at-enum-told .before .before in
-    let at-start = at-check .before .before .before .before .before in
-    let a = at-start .args in
-    let s = passed-shape (a .n) (a .columns) (a .x .now) (length (a .labels .now)) (length (a .out .now)) (length (a .assigned .now)) (sym (at-enum-told .enum-told .given .1) ∙ at-check .check .ensures) in
+    let s = passed-shape (c .before .before .before .before .before .before .before .before .before .args .n) (c .before .before .before .before .before .before .before .before .before .args .columns) (c .before .before .before .before .before .before .before .before .before .args .x .now) (length (c .before .before .before .before .before .before .before .before .before .args .labels .now)) (length (c .before .before .before .before .before .before .before .before .before .args .out .now)) (length (c .before .before .before .before .before .before .before .before .before .args .assigned .now)) (sym (c .before .before .enum-told .given .1) ∙ c .before .before .before .before .check .ensures) in
     let e = s .labelled in
     record {
-      coordinates = s .coordinates ∙ ap (λ (k : ℕ). k * a .columns) (sym e);
+      coordinates = s .coordinates ∙ ap (λ (k : ℕ). k * c .before .before .before .before .before .before .before .before .before .args .columns) (sym e);
       few = omega (arith, s .few);
       narrow = s .narrow;
-      room = omega (arith, s .room, ap (λ (k : ℕ). k * a .columns) e);
+      room = omega (arith, s .room, ap (λ (k : ℕ). k * c .before .before .before .before .before .before .before .before .before .args .columns) e);
       places = omega (arith, s .places);
       numbersFit = omega (arith, s .few);
     }
 
 returns : tie.Need-returns
-returns c =
-    let at-c = c .before in
-    let at-check = at-c .before .before in
-    let at-start = at-check .before .before .before .before .before in
-    let a = at-start .args in
-    call-refused (a .n) (a .columns) (a .x .now) (a .labels .now) (a .out .now) (a .assigned .now) (sym (at-c .c .given .1) ∙ at-check .check .ensures)
+returns c = call-refused (c .before .before .before .before .before .before .before .before .args .n) (c .before .before .before .before .before .before .before .before .args .columns) (c .before .before .before .before .before .before .before .before .args .x .now) (c .before .before .before .before .before .before .before .before .args .labels .now) (c .before .before .before .before .before .before .before .before .args .out .now) (c .before .before .before .before .before .before .before .before .args .assigned .now) (sym (c .before .c .given .1) ∙ c .before .before .before .check .ensures)
 
 same-length : tie.Need-same-length
 same-length c = c .before .before .before .before .judge-in .kept .0
@@ -52,13 +43,7 @@ same-length-2 : tie.Need-same-length-2
 same-length-2 c = c .before .before .before .before .judge-in .kept .1 .0
 
 returns-2 : tie.Need-returns-2
-returns-2 c =
-    let at-judge-in = c .before .before .before .before in
-    let at-enum-told = at-judge-in .before .before .before in
-    let at-check = at-enum-told .before .before in
-    let at-start = at-check .before .before .before .before .before in
-    let a = at-start .args in
-    call-passed (a .n) (a .columns) (a .x .now) (a .labels .now) (a .out .now) (a .assigned .now) (sym (at-enum-told .enum-told .given .1) ∙ at-check .check .ensures) (passed-shape (a .n) (a .columns) (a .x .now) (length (a .labels .now)) (length (a .out .now)) (length (a .assigned .now)) (sym (at-enum-told .enum-told .given .1) ∙ at-check .check .ensures) .labelled) (at-judge-in .judge-in .ensures)
+returns-2 c = call-passed (c .before .before .before .before .before .before .before .before .before .before .before .before .before .before .args .n) (c .before .before .before .before .before .before .before .before .before .before .before .before .before .before .args .columns) (c .before .before .before .before .before .before .before .before .before .before .before .before .before .before .args .x .now) (c .before .before .before .before .before .before .before .before .before .before .before .before .before .before .args .labels .now) (c .before .before .before .before .before .before .before .before .before .before .before .before .before .before .args .out .now) (c .before .before .before .before .before .before .before .before .before .before .before .before .before .before .args .assigned .now) (sym (c .before .before .before .before .before .before .before .enum-told .given .1) ∙ c .before .before .before .before .before .before .before .before .before .check .ensures) (passed-shape (c .before .before .before .before .before .before .before .before .before .before .before .before .before .before .args .n) (c .before .before .before .before .before .before .before .before .before .before .before .before .before .before .args .columns) (c .before .before .before .before .before .before .before .before .before .before .before .before .before .before .args .x .now) (length (c .before .before .before .before .before .before .before .before .before .before .before .before .before .before .args .labels .now)) (length (c .before .before .before .before .before .before .before .before .before .before .before .before .before .before .args .out .now)) (length (c .before .before .before .before .before .before .before .before .before .before .before .before .before .before .args .assigned .now)) (sym (c .before .before .before .before .before .before .before .enum-told .given .1) ∙ c .before .before .before .before .before .before .before .before .before .check .ensures) .labelled) (c .before .before .before .before .judge-in .ensures)
 
 pub dapc-spec : {M : Type 1} → statement M
 dapc-spec =

@@ -19,9 +19,7 @@ use Rattle.dapc.proofs.judge.Statement.{statement}
 use Rattle.dapc.proofs.judge.Tie as tie
 
 group-requires : tie.Need-group-requires
-group-requires c κs =
-    let at-start = c .before .before .before .before .before .before .before .before .before .before in
-    (omega (arith, at-start .pre .0 .few), at-start .pre .1, at-start .pre .2, at-start .pre .0 .numbersFit)
+group-requires c κs = (omega (arith, c .before .before .before .before .before .before .before .before .before .before .pre .0 .few), c .before .before .before .before .before .before .before .before .before .before .pre .1, c .before .before .before .before .before .before .before .before .before .before .pre .2, c .before .before .before .before .before .before .before .before .before .before .pre .0 .numbersFit)
 
 check-groups-requires : tie.Need-check-groups-requires
 check-groups-requires c κs = search needs
@@ -33,32 +31,25 @@ enum-told : tie.Need-enum-told
 enum-told c = search needs
 
 slice-reshare-prefix-assess : tie.Need-slice-reshare-prefix-assess
-slice-reshare-prefix-assess c =
-    let at-group = c .before .before .before .before .before .before .before .before .before .before .before .before in
-    let at-start = at-group .before .before .before .before .before .before .before .before .before .before .before in
-    omega (arith, at-group .group .ensures .labelled .many, names-few (at-start .args .labels .now), at-start .pre .2, at-group .group .kept .1 .1 .0)
+slice-reshare-prefix-assess c = omega (arith, c .before .before .before .before .before .before .before .before .before .before .before .before .group .ensures .labelled .many, names-few (c .before .before .before .before .before .before .before .before .before .before .before .before .before .before .before .before .before .before .before .before .before .before .before .args .labels .now), c .before .before .before .before .before .before .before .before .before .before .before .before .before .before .before .before .before .before .before .before .before .before .before .pre .2, c .before .before .before .before .before .before .before .before .before .before .before .before .group .kept .1 .1 .0)
 
 slice-aggregate-assess : tie.Need-slice-aggregate-assess
 slice-aggregate-assess c = filled-part _ (c .before .before .before .before .before .before .before .before .before .before .before .before .before .group .ensures .labelled)
 
 assess-requires : tie.Need-assess-requires
 assess-requires c κs =
-    let at-enum-told = c .before .before .before .before in
-    let at-check-groups = at-enum-told .before .before in
-    let at-group = at-check-groups .before .before .before .before .before .before .before in
-    let at-start = at-group .before .before .before .before .before .before .before .before .before .before .before in
-    let counts = counts-are (at-start .args .labels .now) (at-group .group .ensures) in
-    let passed = passed-groups (at-start .args .columns) (at-group .group .result .kept) (at-group .group .result .groups) (sym (at-enum-told .enum-told .given .1) ∙ at-check-groups .check-groups .ensures) in
-    let s = at-start .pre .0 in (
+    let counts = counts-are (c .before .before .before .before .before .before .before .before .before .before .before .before .before .before .before .before .before .before .before .before .before .before .before .before .args .labels .now) (c .before .before .before .before .before .before .before .before .before .before .before .before .before .group .ensures) in
+    let passed = passed-groups (c .before .before .before .before .before .before .before .before .before .before .before .before .before .before .before .before .before .before .before .before .before .before .before .before .args .columns) (c .before .before .before .before .before .before .before .before .before .before .before .before .before .group .result .kept) (c .before .before .before .before .before .before .before .before .before .before .before .before .before .group .result .groups) (sym (c .before .before .before .before .enum-told .given .1) ∙ c .before .before .before .before .before .before .check-groups .ensures) in
+    let s = c .before .before .before .before .before .before .before .before .before .before .before .before .before .before .before .before .before .before .before .before .before .before .before .before .pre .0 in (
       record {
         coordinates = s .coordinates;
         few = s .few;
         narrow = s .narrow;
         room = s .room;
         places = s .places;
-        numbersFit = omega (arith, s .numbersFit, at-group .group .kept .1 .1 .1 .0);
+        numbersFit = omega (arith, s .numbersFit, c .before .before .before .before .before .before .before .before .before .before .before .before .before .group .kept .1 .1 .1 .0);
       },
-      (filled-front _ (at-group .group .ensures .labelled), counts .0, counts .1, passed .0),
+      (filled-front _ (c .before .before .before .before .before .before .before .before .before .before .before .before .before .group .ensures .labelled), counts .0, counts .1, passed .0),
     )
 
 same-length : tie.Need-same-length
@@ -72,13 +63,8 @@ same-length-3 c = search needs
 
 returns : tie.Need-returns
 returns c =
-    let at-c = c .before in
-    let at-check-groups = at-c .before .before in
-    let at-group = at-check-groups .before .before .before .before .before .before .before in
-    let at-start = at-group .before .before .before .before .before .before .before .before .before .before .before in
-    let a = at-start .args in
-    let counts = counts-are (a .labels .now) (at-group .group .ensures) in
-    groups-refused (length (a .labels .now)) (a .columns) (a .x .now) (a .labels .now) (a .out .now) (a .assigned .now) (sym (at-c .c .given .1) ∙ at-check-groups .check-groups .ensures ∙ ap₂ (λ (m g : ℕ). first (groupLines (a .columns) m g)) (counts .0) (counts .1))
+    let counts = counts-are (c .before .before .before .before .before .before .before .before .before .before .before .before .before .before .before .before .before .before .before .before .before .args .labels .now) (c .before .before .before .before .before .before .before .before .before .before .group .ensures) in
+    groups-refused (length (c .before .before .before .before .before .before .before .before .before .before .before .before .before .before .before .before .before .before .before .before .before .args .labels .now)) (c .before .before .before .before .before .before .before .before .before .before .before .before .before .before .before .before .before .before .before .before .before .args .columns) (c .before .before .before .before .before .before .before .before .before .before .before .before .before .before .before .before .before .before .before .before .before .args .x .now) (c .before .before .before .before .before .before .before .before .before .before .before .before .before .before .before .before .before .before .before .before .before .args .labels .now) (c .before .before .before .before .before .before .before .before .before .before .before .before .before .before .before .before .before .before .before .before .before .args .out .now) (c .before .before .before .before .before .before .before .before .before .before .before .before .before .before .before .before .before .before .before .before .before .args .assigned .now) (sym (c .before .c .given .1) ∙ c .before .before .before .check-groups .ensures ∙ ap₂ (λ (m g : ℕ). first (groupLines (c .before .before .before .before .before .before .before .before .before .before .before .before .before .before .before .before .before .before .before .before .before .args .columns) m g)) (counts .0) (counts .1))
 
 same-length-4 : tie.Need-same-length-4
 same-length-4 c = search needs
@@ -97,16 +83,10 @@ same-length-8 c = search needs
 
 returns-2 : tie.Need-returns-2
 returns-2 c =
-    let at-assess = c .before .before .before .before .before .before in
-    let at-enum-told = at-assess .before .before .before .before .before in
-    let at-check-groups = at-enum-told .before .before in
-    let at-group = at-check-groups .before .before .before .before .before .before .before in
-    let at-start = at-group .before .before .before .before .before .before .before .before .before .before .before in
-    let a = at-start .args in
-    let counts = counts-are (a .labels .now) (at-group .group .ensures) in
-    groups-passed (length (a .labels .now)) (a .columns) (a .x .now) (a .labels .now) (a .out .now) (a .assigned .now) (sym (at-enum-told .enum-told .given .1) ∙ at-check-groups .check-groups .ensures ∙ ap₂ (λ (m g : ℕ). first (groupLines (a .columns) m g)) (counts .0) (counts .1))
-    (at-assess .assess .ensures
-    ∙ ap₂ (λ (m g : ℕ). leaves (length (a .labels .now)) (leading (a .columns) m g) (axesOf g (leading (a .columns) m g)) (dapc (length (a .labels .now)) (a .columns) (a .x .now) (groupEach (a .labels .now)) g) (a .out .now) (a .assigned .now)) (counts .0) (counts .1))
+    let counts = counts-are (c .before .before .before .before .before .before .before .before .before .before .before .before .before .before .before .before .before .before .before .before .before .before .before .before .before .before .before .before .before .before .before .args .labels .now) (c .before .before .before .before .before .before .before .before .before .before .before .before .before .before .before .before .before .before .before .before .group .ensures) in
+    groups-passed (length (c .before .before .before .before .before .before .before .before .before .before .before .before .before .before .before .before .before .before .before .before .before .before .before .before .before .before .before .before .before .before .before .args .labels .now)) (c .before .before .before .before .before .before .before .before .before .before .before .before .before .before .before .before .before .before .before .before .before .before .before .before .before .before .before .before .before .before .before .args .columns) (c .before .before .before .before .before .before .before .before .before .before .before .before .before .before .before .before .before .before .before .before .before .before .before .before .before .before .before .before .before .before .before .args .x .now) (c .before .before .before .before .before .before .before .before .before .before .before .before .before .before .before .before .before .before .before .before .before .before .before .before .before .before .before .before .before .before .before .args .labels .now) (c .before .before .before .before .before .before .before .before .before .before .before .before .before .before .before .before .before .before .before .before .before .before .before .before .before .before .before .before .before .before .before .args .out .now) (c .before .before .before .before .before .before .before .before .before .before .before .before .before .before .before .before .before .before .before .before .before .before .before .before .before .before .before .before .before .before .before .args .assigned .now) (sym (c .before .before .before .before .before .before .before .before .before .before .before .enum-told .given .1) ∙ c .before .before .before .before .before .before .before .before .before .before .before .before .before .check-groups .ensures ∙ ap₂ (λ (m g : ℕ). first (groupLines (c .before .before .before .before .before .before .before .before .before .before .before .before .before .before .before .before .before .before .before .before .before .before .before .before .before .before .before .before .before .before .before .args .columns) m g)) (counts .0) (counts .1))
+    (c .before .before .before .before .before .before .assess .ensures
+    ∙ ap₂ (λ (m g : ℕ). leaves (length (c .before .before .before .before .before .before .before .before .before .before .before .before .before .before .before .before .before .before .before .before .before .before .before .before .before .before .before .before .before .before .before .args .labels .now)) (leading (c .before .before .before .before .before .before .before .before .before .before .before .before .before .before .before .before .before .before .before .before .before .before .before .before .before .before .before .before .before .before .before .args .columns) m g) (axesOf g (leading (c .before .before .before .before .before .before .before .before .before .before .before .before .before .before .before .before .before .before .before .before .before .before .before .before .before .before .before .before .before .before .before .args .columns) m g)) (dapc (length (c .before .before .before .before .before .before .before .before .before .before .before .before .before .before .before .before .before .before .before .before .before .before .before .before .before .before .before .before .before .before .before .args .labels .now)) (c .before .before .before .before .before .before .before .before .before .before .before .before .before .before .before .before .before .before .before .before .before .before .before .before .before .before .before .before .before .before .before .args .columns) (c .before .before .before .before .before .before .before .before .before .before .before .before .before .before .before .before .before .before .before .before .before .before .before .before .before .before .before .before .before .before .before .args .x .now) (groupEach (c .before .before .before .before .before .before .before .before .before .before .before .before .before .before .before .before .before .before .before .before .before .before .before .before .before .before .before .before .before .before .before .args .labels .now)) g) (c .before .before .before .before .before .before .before .before .before .before .before .before .before .before .before .before .before .before .before .before .before .before .before .before .before .before .before .before .before .before .before .args .out .now) (c .before .before .before .before .before .before .before .before .before .before .before .before .before .before .before .before .before .before .before .before .before .before .before .before .before .before .before .before .before .before .before .args .assigned .now)) (counts .0) (counts .1))
 
 pub judge-spec : {M : Type 1} → statement M
 judge-spec =
