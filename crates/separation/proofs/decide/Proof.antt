@@ -27,10 +27,18 @@ same-length-3 : tie.Need-same-length-3
 same-length-3 c = c .before .before .before .before .before .before .before .before .before .before .factor .kept .0
 
 returns : tie.Need-returns
-returns c = pivot-fails (length (c .before .before .before .before .before .before .before .before .before .before .before .before .before .before .before .before .before .before .before .before .before .before .args .groups .now)) (c .before .before .before .before .before .before .before .before .before .before .before .before .before .before .before .before .before .before .before .before .before .before .args .columns) (c .before .before .before .before .before .before .before .before .before .before .before .before .before .before .before .before .before .before .before .before .before .before .args .p) (c .before .before .before .before .before .before .before .before .before .before .before .before .before .before .before .before .before .before .before .before .before .before .args .axes) (c .before .before .before .before .before .before .before .before .before .before .before .before .before .before .before .before .before .before .before .before .before .before .args .g) (c .before .before .before .before .before .before .before .before .before .before .before .before .before .before .before .before .before .before .before .before .before .before .args .x .now) (c .before .before .before .before .before .before .before .before .before .before .before .before .before .before .before .before .before .before .before .before .before .before .args .groups .now) (c .before .before .before .before .before .before .before .before .before .before .before .before .before .before .before .before .before .before .before .before .before .before .args .mean .now) (c .before .before .before .before .before .before .before .before .before .before .before .before .before .before .before .before .before .before .before .before .before .before .args .a .now) (c .before .before .before .before .before .before .before .before .before .before .before .before .before .before .before .before .before .before .before .before .before .before .args .sb .now) (c .before .before .before .before .before .before .before .before .before .before .before .before .before .before .before .before .before .before .before .before .before .before .args .out .now) (c .before .before .before .before .before .before .before .before .before .before .before .before .before .before .before .before .before .before .before .before .before .before .args .assigned .now) (c .before .before .before .before .before .before .before .before .before .before .factor .ensures .0) (c .before .before .before .before .before .before .before .before .before .before .factor .ensures .1) (c .before .before .before .before .before .before .before .if1 .taken) (c .before .before .before .before .refuse .ensures)
+returns c =
+    let at-refuse = c .before .before .before .before in
+    let at-if = at-refuse .before .before .before in
+    let at-factor = at-if .before .before .before in
+    let at-start = at-factor .before .before .before .before .before .before .before .before .before .before .before .before in
+    pivot-fails (length (at-start .args .groups .now)) (at-start .args .columns) (at-start .args .p) (at-start .args .axes) (at-start .args .g) (at-start .args .x .now) (at-start .args .groups .now) (at-start .args .mean .now) (at-start .args .a .now) (at-start .args .sb .now) (at-start .args .out .now) (at-start .args .assigned .now) (at-factor .factor .ensures .0) (at-factor .factor .ensures .1) (at-if .if1 .taken) (at-refuse .refuse .ensures)
 
 eigenpairs-requires : tie.Need-eigenpairs-requires
-eigenpairs-requires c κs = (c .before .before .before .before .before .before .before .before .before .before .before .before .before .before .before .before .before .pre .1 .0 .1, c .before .before .before .before .before .factor .kept .0 ∙ ap length (c .before .before .before .before .before .before .before .before .before .before .before .before .before .before .before .before .before .pre .1 .0 .0) ∙ length-replicate (c .before .before .before .before .before .before .before .before .before .before .before .before .before .before .before .before .before .args .p * c .before .before .before .before .before .before .before .before .before .before .before .before .before .before .before .before .before .args .p) zero⁺, c .before .before .before .before .before .before .before .before .before .before .before .before .before .before .before .before .before .pre .1 .1 .3, c .before .before .before .before .before .before .before .before .before .before .before .before .before .before .before .before .before .pre .0 .narrow)
+eigenpairs-requires c κs =
+    let at-factor = c .before .before .before .before .before in
+    let at-start = at-factor .before .before .before .before .before .before .before .before .before .before .before .before in
+    (at-start .pre .1 .0 .1, at-factor .factor .kept .0 ∙ ap length (at-start .pre .1 .0 .0) ∙ length-replicate (at-start .args .p * at-start .args .p) zero⁺, at-start .pre .1 .1 .3, at-start .pre .0 .narrow)
 
 enum-told : tie.Need-enum-told
 enum-told c = search needs
@@ -54,10 +62,21 @@ same-length-7 : tie.Need-same-length-7
 same-length-7 c = c .before .before .before .before .before .before .before .before .before .before .before .eigenpairs .kept .0
 
 returns-2 : tie.Need-returns-2
-returns-2 c = eigen-refuses (length (c .before .before .before .before .before .before .before .before .before .before .before .before .before .before .before .before .before .before .before .before .before .before .before .before .before .before .before .before .before .args .groups .now)) (c .before .before .before .before .before .before .before .before .before .before .before .before .before .before .before .before .before .before .before .before .before .before .before .before .before .before .before .before .before .args .columns) (c .before .before .before .before .before .before .before .before .before .before .before .before .before .before .before .before .before .before .before .before .before .before .before .before .before .before .before .before .before .args .p) (c .before .before .before .before .before .before .before .before .before .before .before .before .before .before .before .before .before .before .before .before .before .before .before .before .before .before .before .before .before .args .axes) (c .before .before .before .before .before .before .before .before .before .before .before .before .before .before .before .before .before .before .before .before .before .before .before .before .before .before .before .before .before .args .g) (c .before .before .before .before .before .before .before .before .before .before .before .before .before .before .before .before .before .before .before .before .before .before .before .before .before .before .before .before .before .args .x .now) (c .before .before .before .before .before .before .before .before .before .before .before .before .before .before .before .before .before .before .before .before .before .before .before .before .before .before .before .before .before .args .groups .now) (c .before .before .before .before .before .before .before .before .before .before .before .before .before .before .before .before .before .before .before .before .before .before .before .before .before .before .before .before .before .args .mean .now) (c .before .before .before .before .before .before .before .before .before .before .before .before .before .before .before .before .before .before .before .before .before .before .before .before .before .before .before .before .before .args .a .now) (c .before .before .before .before .before .before .before .before .before .before .before .before .before .before .before .before .before .before .before .before .before .before .before .before .before .before .before .before .before .args .sb .now) (c .before .before .before .before .before .before .before .before .before .before .before .before .before .before .before .before .before .before .before .before .before .before .before .before .before .before .before .before .before .args .out .now) (c .before .before .before .before .before .before .before .before .before .before .before .before .before .before .before .before .before .before .before .before .before .before .before .before .before .before .before .before .before .args .assigned .now) (c .before .before .before .before .before .before .before .before .before .before .before .before .before .before .before .before .before .factor .ensures .0) (c .before .before .before .before .before .before .before .before .before .before .before .before .before .before .before .before .before .factor .ensures .1) (c .before .before .before .before .before .before .before .before .before .before .before .before .before .before .if1 .left) (c .before .before .before .before .before .before .before .before .before .before .before .eigenpairs .last .0) (c .before .before .before .before .before .before .before .before .before .before .before .eigenpairs .ensures) (c .before .before .before .before .before .before .before .enum-told2 .given .1) (c .before .before .before .before .refuse2 .ensures)
+returns-2 c =
+    let at-refuse = c .before .before .before .before in
+    let at-enum-told = at-refuse .before .before .before in
+    let at-eigenpairs = at-enum-told .before .before .before .before in
+    let at-if = at-eigenpairs .before .before .before in
+    let at-factor = at-if .before .before .before in
+    let at-start = at-factor .before .before .before .before .before .before .before .before .before .before .before .before in
+    eigen-refuses (length (at-start .args .groups .now)) (at-start .args .columns) (at-start .args .p) (at-start .args .axes) (at-start .args .g) (at-start .args .x .now) (at-start .args .groups .now) (at-start .args .mean .now) (at-start .args .a .now) (at-start .args .sb .now) (at-start .args .out .now) (at-start .args .assigned .now) (at-factor .factor .ensures .0) (at-factor .factor .ensures .1) (at-if .if1 .left) (at-eigenpairs .eigenpairs .last .0) (at-eigenpairs .eigenpairs .ensures) (at-enum-told .enum-told2 .given .1) (at-refuse .refuse2 .ensures)
 
 place-requires : tie.Need-place-requires
-place-requires c κs = (c .before .before .before .before .before .before .before .before .before .before .before .before .before .before .before .before .before .before .before .before .before .before .before .before .before .before .pre .0, (c .before .before .before .before .before .before .before .before .eigenpairs .kept .0 ∙ c .before .before .before .before .before .before .before .before .before .before .before .before .before .before .before .before .before .before .before .before .before .before .before .before .before .before .pre .1 .0 .1, c .before .before .before .before .before .before .before .before .before .before .before .before .before .before .factor .kept .0 ∙ ap length (c .before .before .before .before .before .before .before .before .before .before .before .before .before .before .before .before .before .before .before .before .before .before .before .before .before .before .pre .1 .0 .0) ∙ length-replicate (c .before .before .before .before .before .before .before .before .before .before .before .before .before .before .before .before .before .before .before .before .before .before .before .before .before .before .args .p * c .before .before .before .before .before .before .before .before .before .before .before .before .before .before .before .before .before .before .before .before .before .before .before .before .before .before .args .p) zero⁺, c .before .before .before .before .before .before .before .before .before .before .before .before .before .before .before .before .before .before .before .before .before .before .before .before .before .before .pre .1 .1 .0, c .before .before .before .before .before .before .before .before .before .before .before .before .before .before .before .before .before .before .before .before .before .before .before .before .before .before .pre .1 .1 .1))
+place-requires c κs =
+    let at-eigenpairs = c .before .before .before .before .before .before .before .before in
+    let at-factor = at-eigenpairs .before .before .before .before .before .before in
+    let at-start = at-factor .before .before .before .before .before .before .before .before .before .before .before .before in
+    (at-start .pre .0, (at-eigenpairs .eigenpairs .kept .0 ∙ at-start .pre .1 .0 .1, at-factor .factor .kept .0 ∙ ap length (at-start .pre .1 .0 .0) ∙ length-replicate (at-start .args .p * at-start .args .p) zero⁺, at-start .pre .1 .1 .0, at-start .pre .1 .1 .1))
 
 same-length-8 : tie.Need-same-length-8
 same-length-8 c = c .before .before .before .before .place .kept .0
@@ -72,7 +91,14 @@ same-length-11 : tie.Need-same-length-11
 same-length-11 c = c .before .before .before .before .before .before .before .before .before .before .before .before .before .eigenpairs .kept .0
 
 returns-3 : tie.Need-returns-3
-returns-3 c = eigen-answers (length (c .before .before .before .before .before .before .before .before .before .before .before .before .before .before .before .before .before .before .before .before .before .before .before .before .before .before .before .before .before .before .before .args .groups .now)) (c .before .before .before .before .before .before .before .before .before .before .before .before .before .before .before .before .before .before .before .before .before .before .before .before .before .before .before .before .before .before .before .args .columns) (c .before .before .before .before .before .before .before .before .before .before .before .before .before .before .before .before .before .before .before .before .before .before .before .before .before .before .before .before .before .before .before .args .p) (c .before .before .before .before .before .before .before .before .before .before .before .before .before .before .before .before .before .before .before .before .before .before .before .before .before .before .before .before .before .before .before .args .axes) (c .before .before .before .before .before .before .before .before .before .before .before .before .before .before .before .before .before .before .before .before .before .before .before .before .before .before .before .before .before .before .before .args .g) (c .before .before .before .before .before .before .before .before .before .before .before .before .before .before .before .before .before .before .before .before .before .before .before .before .before .before .before .before .before .before .before .args .x .now) (c .before .before .before .before .before .before .before .before .before .before .before .before .before .before .before .before .before .before .before .before .before .before .before .before .before .before .before .before .before .before .before .args .groups .now) (c .before .before .before .before .before .before .before .before .before .before .before .before .before .before .before .before .before .before .before .before .before .before .before .before .before .before .before .before .before .before .before .args .mean .now) (c .before .before .before .before .before .before .before .before .before .before .before .before .before .before .before .before .before .before .before .before .before .before .before .before .before .before .before .before .before .before .before .args .a .now) (c .before .before .before .before .before .before .before .before .before .before .before .before .before .before .before .before .before .before .before .before .before .before .before .before .before .before .before .before .before .before .before .args .sb .now) (c .before .before .before .before .before .before .before .before .before .before .before .before .before .before .before .before .before .before .before .before .before .before .before .before .before .before .before .before .before .before .before .args .out .now) (c .before .before .before .before .before .before .before .before .before .before .before .before .before .before .before .before .before .before .before .before .before .before .before .before .before .before .before .before .before .before .before .args .assigned .now) (c .before .before .before .before .before .before .before .before .before .before .before .before .before .before .before .before .before .before .before .factor .ensures .0) (c .before .before .before .before .before .before .before .before .before .before .before .before .before .before .before .before .before .before .before .factor .ensures .1) (c .before .before .before .before .before .before .before .before .before .before .before .before .before .before .before .before .if1 .left) (c .before .before .before .before .before .before .before .before .before .before .before .before .before .eigenpairs .last .0) (c .before .before .before .before .before .before .before .before .before .before .before .before .before .eigenpairs .ensures) (c .before .before .before .before .before .before .before .before .before .enum-told .given .1) (c .before .before .before .before .place .ensures)
+returns-3 c =
+    let at-place = c .before .before .before .before in
+    let at-enum-told = at-place .before .before .before .before .before in
+    let at-eigenpairs = at-enum-told .before .before .before .before in
+    let at-if = at-eigenpairs .before .before .before in
+    let at-factor = at-if .before .before .before in
+    let at-start = at-factor .before .before .before .before .before .before .before .before .before .before .before .before in
+    eigen-answers (length (at-start .args .groups .now)) (at-start .args .columns) (at-start .args .p) (at-start .args .axes) (at-start .args .g) (at-start .args .x .now) (at-start .args .groups .now) (at-start .args .mean .now) (at-start .args .a .now) (at-start .args .sb .now) (at-start .args .out .now) (at-start .args .assigned .now) (at-factor .factor .ensures .0) (at-factor .factor .ensures .1) (at-if .if1 .left) (at-eigenpairs .eigenpairs .last .0) (at-eigenpairs .eigenpairs .ensures) (at-enum-told .enum-told .given .1) (at-place .place .ensures)
 
 pub decide-spec : {M : Type 1} → statement M
 decide-spec =

@@ -12,25 +12,40 @@ use Rattle.separation.proofs.decompose.Statement.{statement}
 use Rattle.separation.proofs.decompose.Tie as tie
 
 mul-k : tie.Need-mul-k
-mul-k c = omega (arith, mul-le-mul {n₁ = c .before .before .before .before .before .before .before .before .args .p} {m₁ = c .before .before .before .before .before .before .before .before .args .p} {n₂ = 16} {m₂ = 16} (c .before .before .before .before .before .before .before .before .pre .0 .narrow) (c .before .before .before .before .before .before .before .before .pre .0 .narrow))
+mul-k c =
+    let at-start = c .before .before .before .before .before .before .before .before in
+    omega (arith, mul-le-mul {n₁ = at-start .args .p} {m₁ = at-start .args .p} {n₂ = 16} {m₂ = 16} (at-start .pre .0 .narrow) (at-start .pre .0 .narrow))
 
 array-borrow-prefix-l : tie.Need-array-borrow-prefix-l
-array-borrow-prefix-l c = omega (arith, mul-le-mul {n₁ = c .before .before .before .before .before .before .before .before .before .before .args .p} {m₁ = c .before .before .before .before .before .before .before .before .before .before .args .p} {n₂ = 16} {m₂ = 16} (c .before .before .before .before .before .before .before .before .before .before .pre .0 .narrow) (c .before .before .before .before .before .before .before .before .before .before .pre .0 .narrow))
+array-borrow-prefix-l c =
+    let at-start = c .before .before .before .before .before .before .before .before .before .before in
+    omega (arith, mul-le-mul {n₁ = at-start .args .p} {m₁ = at-start .args .p} {n₂ = 16} {m₂ = 16} (at-start .pre .0 .narrow) (at-start .pre .0 .narrow))
 
 slice-aggregate-decide : tie.Need-slice-aggregate-decide
-slice-aggregate-decide c = sym (length-take-le _ _ (omega (arith, mul-le-mul {n₁ = c .before .before .before .before .before .before .before .before .before .before .before .args .p} {m₁ = c .before .before .before .before .before .before .before .before .before .before .before .args .p} {n₂ = 16} {m₂ = 16} (c .before .before .before .before .before .before .before .before .before .before .before .pre .0 .narrow) (c .before .before .before .before .before .before .before .before .before .before .before .pre .0 .narrow))))
+slice-aggregate-decide c =
+    let at-start = c .before .before .before .before .before .before .before .before .before .before .before in
+    sym (length-take-le _ _ (omega (arith, mul-le-mul {n₁ = at-start .args .p} {m₁ = at-start .args .p} {n₂ = 16} {m₂ = 16} (at-start .pre .0 .narrow) (at-start .pre .0 .narrow))))
 
 add-ev : tie.Need-add-ev
-add-ev c = omega (arith, mul-le-mul {n₁ = c .before .before .before .before .before .before .before .before .before .before .before .args .p} {m₁ = c .before .before .before .before .before .before .before .before .before .before .before .args .p} {n₂ = 16} {m₂ = 16} (c .before .before .before .before .before .before .before .before .before .before .before .pre .0 .narrow) (c .before .before .before .before .before .before .before .before .before .before .before .pre .0 .narrow), c .before .before .before .before .before .before .before .before .before .before .before .pre .0 .narrow)
+add-ev c =
+    let at-start = c .before .before .before .before .before .before .before .before .before .before .before in
+    omega (arith, mul-le-mul {n₁ = at-start .args .p} {m₁ = at-start .args .p} {n₂ = 16} {m₂ = 16} (at-start .pre .0 .narrow) (at-start .pre .0 .narrow), at-start .pre .0 .narrow)
 
 array-borrow-prefix-ev : tie.Need-array-borrow-prefix-ev
-array-borrow-prefix-ev c = omega (arith, mul-le-mul {n₁ = c .before .before .before .before .before .before .before .before .before .before .before .args .p} {m₁ = c .before .before .before .before .before .before .before .before .before .before .before .args .p} {n₂ = 16} {m₂ = 16} (c .before .before .before .before .before .before .before .before .before .before .before .pre .0 .narrow) (c .before .before .before .before .before .before .before .before .before .before .before .pre .0 .narrow), c .before .before .before .before .before .before .before .before .before .before .before .pre .0 .narrow)
+array-borrow-prefix-ev c =
+    let at-start = c .before .before .before .before .before .before .before .before .before .before .before in
+    omega (arith, mul-le-mul {n₁ = at-start .args .p} {m₁ = at-start .args .p} {n₂ = 16} {m₂ = 16} (at-start .pre .0 .narrow) (at-start .pre .0 .narrow), at-start .pre .0 .narrow)
 
 slice-aggregate-decide-2 : tie.Need-slice-aggregate-decide-2
-slice-aggregate-decide-2 c = sym (length-take-le _ _ (omega (arith, mul-le-mul {n₁ = c .before .before .before .before .before .before .before .before .before .before .before .before .args .p} {m₁ = c .before .before .before .before .before .before .before .before .before .before .before .before .args .p} {n₂ = 16} {m₂ = 16} (c .before .before .before .before .before .before .before .before .before .before .before .before .pre .0 .narrow) (c .before .before .before .before .before .before .before .before .before .before .before .before .pre .0 .narrow), c .before .before .before .before .before .before .before .before .before .before .before .before .pre .0 .narrow)))
+slice-aggregate-decide-2 c =
+    let at-start = c .before .before .before .before .before .before .before .before .before .before .before .before in
+    sym (length-take-le _ _ (omega (arith, mul-le-mul {n₁ = at-start .args .p} {m₁ = at-start .args .p} {n₂ = 16} {m₂ = 16} (at-start .pre .0 .narrow) (at-start .pre .0 .narrow), at-start .pre .0 .narrow)))
 
 decide-requires : tie.Need-decide-requires
-decide-requires c κs = (c .before .before .before .before .before .before .before .before .before .before .before .before .pre .0, ((take-replicate (c .before .before .before .before .before .before .before .before .before .before .before .before .args .p * c .before .before .before .before .before .before .before .before .before .before .before .before .args .p) 256 zero⁺ (omega (arith, mul-le-mul {n₁ = c .before .before .before .before .before .before .before .before .before .before .before .before .args .p} {m₁ = c .before .before .before .before .before .before .before .before .before .before .before .before .args .p} {n₂ = 16} {m₂ = 16} (c .before .before .before .before .before .before .before .before .before .before .before .before .pre .0 .narrow) (c .before .before .before .before .before .before .before .before .before .before .before .before .pre .0 .narrow))), length-take-le _ _ (omega (arith, mul-le-mul {n₁ = c .before .before .before .before .before .before .before .before .before .before .before .before .args .p} {m₁ = c .before .before .before .before .before .before .before .before .before .before .before .before .args .p} {n₂ = 16} {m₂ = 16} (c .before .before .before .before .before .before .before .before .before .before .before .before .pre .0 .narrow) (c .before .before .before .before .before .before .before .before .before .before .before .before .pre .0 .narrow), c .before .before .before .before .before .before .before .before .before .before .before .before .pre .0 .narrow))), c .before .before .before .before .before .before .before .before .before .before .before .before .pre .1))
+decide-requires c κs =
+    let at-start = c .before .before .before .before .before .before .before .before .before .before .before .before in
+    let a = at-start .args in
+    (at-start .pre .0, ((take-replicate (a .p * a .p) 256 zero⁺ (omega (arith, mul-le-mul {n₁ = a .p} {m₁ = a .p} {n₂ = 16} {m₂ = 16} (at-start .pre .0 .narrow) (at-start .pre .0 .narrow))), length-take-le _ _ (omega (arith, mul-le-mul {n₁ = a .p} {m₁ = a .p} {n₂ = 16} {m₂ = 16} (at-start .pre .0 .narrow) (at-start .pre .0 .narrow), at-start .pre .0 .narrow))), at-start .pre .1))
 
 same-length : tie.Need-same-length
 same-length c = c .before .before .before .before .before .before .decide .kept .0

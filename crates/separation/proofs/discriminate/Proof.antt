@@ -14,9 +14,12 @@ axes-of-requires c κs = c .before .before .before .before .pre .0 .two
 
 separate-in-requires : tie.Need-separate-in-requires
 separate-in-requires c κs =
-    let r = c .before .before .before .before .before .before .before .pre .0 in
-    let e = sym (c .before .before .axes-of .ensures) in
-    (subst (λ (k : ℕ). Ready (c .before .before .before .before .before .before .before .args .columns) (c .before .before .before .before .before .before .before .args .p) k (c .before .before .before .before .before .before .before .args .g) (c .before .before .before .before .before .before .before .args .x .now) (c .before .before .before .before .before .before .before .args .groups .now) (length (c .before .before .before .before .before .before .before .args .out .now)) (length (c .before .before .before .before .before .before .before .args .assigned .now))) e r, c .before .before .before .before .before .before .before .pre .1)
+    let at-axes-of = c .before .before in
+    let at-start = at-axes-of .before .before .before .before .before in
+    let a = at-start .args in
+    let r = at-start .pre .0 in
+    let e = sym (at-axes-of .axes-of .ensures) in
+    (subst (λ (k : ℕ). Ready (a .columns) (a .p) k (a .g) (a .x .now) (a .groups .now) (length (a .out .now)) (length (a .assigned .now))) e r, at-start .pre .1)
 
 same-length : tie.Need-same-length
 same-length c = c .before .before .before .before .separate-in .kept .0
@@ -25,7 +28,12 @@ same-length-2 : tie.Need-same-length-2
 same-length-2 c = c .before .before .before .before .separate-in .kept .1 .0
 
 returns : tie.Need-returns
-returns c = c .before .before .before .before .separate-in .ensures ∙ ap (λ (k : ℕ). leaves (length (c .before .before .before .before .before .before .before .before .before .before .before .before .args .groups .now)) (c .before .before .before .before .before .before .before .before .before .before .before .before .args .p) k (discriminate (length (c .before .before .before .before .before .before .before .before .before .before .before .before .args .groups .now)) (c .before .before .before .before .before .before .before .before .before .before .before .before .args .columns) (c .before .before .before .before .before .before .before .before .before .before .before .before .args .p) (c .before .before .before .before .before .before .before .before .before .before .before .before .args .x .now) (c .before .before .before .before .before .before .before .before .before .before .before .before .args .groups .now) (c .before .before .before .before .before .before .before .before .before .before .before .before .args .g)) (c .before .before .before .before .before .before .before .before .before .before .before .before .args .out .now) (c .before .before .before .before .before .before .before .before .before .before .before .before .args .assigned .now)) (c .before .before .before .before .before .before .before .axes-of .ensures)
+returns c =
+    let at-separate-in = c .before .before .before .before in
+    let at-axes-of = at-separate-in .before .before .before in
+    let at-start = at-axes-of .before .before .before .before .before in
+    let a = at-start .args in
+    at-separate-in .separate-in .ensures ∙ ap (λ (k : ℕ). leaves (length (a .groups .now)) (a .p) k (discriminate (length (a .groups .now)) (a .columns) (a .p) (a .x .now) (a .groups .now) (a .g)) (a .out .now) (a .assigned .now)) (at-axes-of .axes-of .ensures)
 
 pub discriminate-spec : {M : Type 1} → statement M
 discriminate-spec =

@@ -13,10 +13,16 @@ use Rattle.separation.proofs.eigen_of.Statement.{statement}
 use Rattle.separation.proofs.eigen_of.Tie as tie
 
 whiten-requires : tie.Need-whiten-requires
-whiten-requires c κs = (c .before .before .before .before .before .before .before .before .before .before .pre .0 .1, c .before .before .before .before .before .before .before .before .before .before .pre .0 .2, c .before .before .before .before .before .before .before .before .before .before .pre .1 .0, c .before .before .before .before .before .before .before .before .before .before .pre .1 .1)
+whiten-requires c κs =
+    let at-start = c .before .before .before .before .before .before .before .before .before .before in
+    (at-start .pre .0 .1, at-start .pre .0 .2, at-start .pre .1 .0, at-start .pre .1 .1)
 
 eigen-requires : tie.Need-eigen-requires
-eigen-requires c κs = ((c .before .before .before .before .before .before .before .before .before .before .whiten .kept .0 ∙ ap length (c .before .before .before .before .before .before .before .before .before .before .before .before .before .before .before .before .before .before .before .before .before .pre .0 .1) ∙ length-replicate (c .before .before .before .before .before .before .before .before .before .before .before .before .before .before .before .before .before .before .before .before .before .args .p * c .before .before .before .before .before .before .before .before .before .before .before .before .before .before .before .before .before .before .before .before .before .args .p) zero⁺, c .before .before .before .before .before .before .before .before .before .before .before .before .before .before .before .before .before .before .before .before .before .pre .0 .0, c .before .before .before .before .before .before .before .before .before .before .whiten .kept .1 .0 ∙ ap length (c .before .before .before .before .before .before .before .before .before .before .before .before .before .before .before .before .before .before .before .before .before .pre .0 .2) ∙ length-replicate (c .before .before .before .before .before .before .before .before .before .before .before .before .before .before .before .before .before .before .before .before .before .args .p * c .before .before .before .before .before .before .before .before .before .before .before .before .before .before .before .before .before .before .before .before .before .args .p) zero⁺, c .before .before .before .before .before .before .before .before .before .before .before .before .before .before .before .before .before .before .before .before .before .pre .0 .3), (c .before .before .before .before .before .before .before .before .before .before .before .before .before .before .before .before .before .before .before .before .before .pre .0 .4, c .before .before .before .before .before .before .before .before .before .before .before .before .before .before .before .before .before .before .before .before .before .pre .0 .5, omega arith))
+eigen-requires c κs =
+    let at-whiten = c .before .before .before .before .before .before .before .before .before .before in
+    let at-start = at-whiten .before .before .before .before .before .before .before .before .before .before .before in
+    let a = at-start .args in
+    ((at-whiten .whiten .kept .0 ∙ ap length (at-start .pre .0 .1) ∙ length-replicate (a .p * a .p) zero⁺, at-start .pre .0 .0, at-whiten .whiten .kept .1 .0 ∙ ap length (at-start .pre .0 .2) ∙ length-replicate (a .p * a .p) zero⁺, at-start .pre .0 .3), (at-start .pre .0 .4, at-start .pre .0 .5, omega arith))
 
 same-length : tie.Need-same-length
 same-length c = search needs

@@ -12,25 +12,39 @@ use Rattle.separation.proofs.eigenpairs.Statement.{statement}
 use Rattle.separation.proofs.eigenpairs.Tie as tie
 
 mul-k : tie.Need-mul-k
-mul-k c = omega (arith, mul-le-mul {n₁ = c .before .before .before .args .p} {m₁ = c .before .before .before .args .p} {n₂ = 16} {m₂ = 16} (c .before .before .before .pre .3) (c .before .before .before .pre .3))
+mul-k c =
+    let at-start = c .before .before .before in
+    omega (arith, mul-le-mul {n₁ = at-start .args .p} {m₁ = at-start .args .p} {n₂ = 16} {m₂ = 16} (at-start .pre .3) (at-start .pre .3))
 
 array-borrow-prefix-white : tie.Need-array-borrow-prefix-white
-array-borrow-prefix-white c = omega (arith, mul-le-mul {n₁ = c .before .before .before .before .args .p} {m₁ = c .before .before .before .before .args .p} {n₂ = 16} {m₂ = 16} (c .before .before .before .before .pre .3) (c .before .before .before .before .pre .3))
+array-borrow-prefix-white c =
+    let at-start = c .before .before .before .before in
+    omega (arith, mul-le-mul {n₁ = at-start .args .p} {m₁ = at-start .args .p} {n₂ = 16} {m₂ = 16} (at-start .pre .3) (at-start .pre .3))
 
 slice-aggregate-eigen-of : tie.Need-slice-aggregate-eigen-of
-slice-aggregate-eigen-of c = sym (length-take-le _ _ (omega (arith, mul-le-mul {n₁ = c .before .before .before .before .before .args .p} {m₁ = c .before .before .before .before .before .args .p} {n₂ = 16} {m₂ = 16} (c .before .before .before .before .before .pre .3) (c .before .before .before .before .before .pre .3))))
+slice-aggregate-eigen-of c =
+    let at-start = c .before .before .before .before .before in
+    sym (length-take-le _ _ (omega (arith, mul-le-mul {n₁ = at-start .args .p} {m₁ = at-start .args .p} {n₂ = 16} {m₂ = 16} (at-start .pre .3) (at-start .pre .3))))
 
 array-borrow-prefix-half : tie.Need-array-borrow-prefix-half
-array-borrow-prefix-half c = omega (arith, mul-le-mul {n₁ = c .before .before .before .before .before .args .p} {m₁ = c .before .before .before .before .before .args .p} {n₂ = 16} {m₂ = 16} (c .before .before .before .before .before .pre .3) (c .before .before .before .before .before .pre .3))
+array-borrow-prefix-half c =
+    let at-start = c .before .before .before .before .before in
+    omega (arith, mul-le-mul {n₁ = at-start .args .p} {m₁ = at-start .args .p} {n₂ = 16} {m₂ = 16} (at-start .pre .3) (at-start .pre .3))
 
 slice-aggregate-eigen-of-2 : tie.Need-slice-aggregate-eigen-of-2
-slice-aggregate-eigen-of-2 c = sym (length-take-le _ _ (omega (arith, mul-le-mul {n₁ = c .before .before .before .before .before .before .args .p} {m₁ = c .before .before .before .before .before .before .args .p} {n₂ = 16} {m₂ = 16} (c .before .before .before .before .before .before .pre .3) (c .before .before .before .before .before .before .pre .3))))
+slice-aggregate-eigen-of-2 c =
+    let at-start = c .before .before .before .before .before .before in
+    sym (length-take-le _ _ (omega (arith, mul-le-mul {n₁ = at-start .args .p} {m₁ = at-start .args .p} {n₂ = 16} {m₂ = 16} (at-start .pre .3) (at-start .pre .3))))
 
 array-borrow-prefix-v : tie.Need-array-borrow-prefix-v
-array-borrow-prefix-v c = omega (arith, mul-le-mul {n₁ = c .before .before .before .before .before .before .args .p} {m₁ = c .before .before .before .before .before .before .args .p} {n₂ = 16} {m₂ = 16} (c .before .before .before .before .before .before .pre .3) (c .before .before .before .before .before .before .pre .3))
+array-borrow-prefix-v c =
+    let at-start = c .before .before .before .before .before .before in
+    omega (arith, mul-le-mul {n₁ = at-start .args .p} {m₁ = at-start .args .p} {n₂ = 16} {m₂ = 16} (at-start .pre .3) (at-start .pre .3))
 
 slice-aggregate-eigen-of-3 : tie.Need-slice-aggregate-eigen-of-3
-slice-aggregate-eigen-of-3 c = sym (length-take-le _ _ (omega (arith, mul-le-mul {n₁ = c .before .before .before .before .before .before .before .args .p} {m₁ = c .before .before .before .before .before .before .before .args .p} {n₂ = 16} {m₂ = 16} (c .before .before .before .before .before .before .before .pre .3) (c .before .before .before .before .before .before .before .pre .3))))
+slice-aggregate-eigen-of-3 c =
+    let at-start = c .before .before .before .before .before .before .before in
+    sym (length-take-le _ _ (omega (arith, mul-le-mul {n₁ = at-start .args .p} {m₁ = at-start .args .p} {n₂ = 16} {m₂ = 16} (at-start .pre .3) (at-start .pre .3))))
 
 array-borrow-prefix-row : tie.Need-array-borrow-prefix-row
 array-borrow-prefix-row c = omega (arith, c .before .before .before .before .before .before .before .pre .3)
@@ -45,7 +59,10 @@ slice-aggregate-eigen-of-5 : tie.Need-slice-aggregate-eigen-of-5
 slice-aggregate-eigen-of-5 c = sym (length-take-le _ _ (omega (arith, c .before .before .before .before .before .before .before .before .before .pre .3)))
 
 eigen-of-requires : tie.Need-eigen-of-requires
-eigen-of-requires c κs = ((c .before .before .before .before .before .before .before .before .before .pre .0, take-replicate (c .before .before .before .before .before .before .before .before .before .args .p * c .before .before .before .before .before .before .before .before .before .args .p) 256 zero⁺ (omega (arith, mul-le-mul {n₁ = c .before .before .before .before .before .before .before .before .before .args .p} {m₁ = c .before .before .before .before .before .before .before .before .before .args .p} {n₂ = 16} {m₂ = 16} (c .before .before .before .before .before .before .before .before .before .pre .3) (c .before .before .before .before .before .before .before .before .before .pre .3))), take-replicate (c .before .before .before .before .before .before .before .before .before .args .p * c .before .before .before .before .before .before .before .before .before .args .p) 256 zero⁺ (omega (arith, mul-le-mul {n₁ = c .before .before .before .before .before .before .before .before .before .args .p} {m₁ = c .before .before .before .before .before .before .before .before .before .args .p} {n₂ = 16} {m₂ = 16} (c .before .before .before .before .before .before .before .before .before .pre .3) (c .before .before .before .before .before .before .before .before .before .pre .3))), length-take-le _ _ (omega (arith, mul-le-mul {n₁ = c .before .before .before .before .before .before .before .before .before .args .p} {m₁ = c .before .before .before .before .before .before .before .before .before .args .p} {n₂ = 16} {m₂ = 16} (c .before .before .before .before .before .before .before .before .before .pre .3) (c .before .before .before .before .before .before .before .before .before .pre .3))), length-take-le _ _ (omega (arith, c .before .before .before .before .before .before .before .before .before .pre .3)), length-take-le _ _ (omega (arith, c .before .before .before .before .before .before .before .before .before .pre .3))), (c .before .before .before .before .before .before .before .before .before .pre .1, c .before .before .before .before .before .before .before .before .before .pre .2, c .before .before .before .before .before .before .before .before .before .pre .3))
+eigen-of-requires c κs =
+    let at-start = c .before .before .before .before .before .before .before .before .before in
+    let a = at-start .args in
+    ((at-start .pre .0, take-replicate (a .p * a .p) 256 zero⁺ (omega (arith, mul-le-mul {n₁ = a .p} {m₁ = a .p} {n₂ = 16} {m₂ = 16} (at-start .pre .3) (at-start .pre .3))), take-replicate (a .p * a .p) 256 zero⁺ (omega (arith, mul-le-mul {n₁ = a .p} {m₁ = a .p} {n₂ = 16} {m₂ = 16} (at-start .pre .3) (at-start .pre .3))), length-take-le _ _ (omega (arith, mul-le-mul {n₁ = a .p} {m₁ = a .p} {n₂ = 16} {m₂ = 16} (at-start .pre .3) (at-start .pre .3))), length-take-le _ _ (omega (arith, at-start .pre .3)), length-take-le _ _ (omega (arith, at-start .pre .3))), (at-start .pre .1, at-start .pre .2, at-start .pre .3))
 
 same-length : tie.Need-same-length
 same-length c = c .before .before .before .before .before .before .before .eigen-of .kept .0

@@ -11,10 +11,16 @@ use Rattle.separation.proofs.separate.Statement.{statement}
 use Rattle.separation.proofs.separate.Tie as tie
 
 fill-requires : tie.Need-fill-requires
-fill-requires c κs = (c .before .before .before .before .before .before .before .before .before .before .before .before .pre .1, (c .before .before .before .before .before .before .before .before .before .before .before .before .pre .0 .0 .coordinates, c .before .before .before .before .before .before .before .before .before .before .before .before .pre .0 .0 .leads, c .before .before .before .before .before .before .before .before .before .before .before .before .pre .0 .0 .narrow, c .before .before .before .before .before .before .before .before .before .before .before .before .pre .0 .0 .most, c .before .before .before .before .before .before .before .before .before .before .before .before .pre .0 .0 .numbered, c .before .before .before .before .before .before .before .before .before .before .before .before .pre .0 .0 .few, c .before .before .before .before .before .before .before .before .before .before .before .before .pre .0 .1, omega (arith, grouped-few (c .before .before .before .before .before .before .before .before .before .before .before .before .args .groups .now), c .before .before .before .before .before .before .before .before .before .before .before .before .pre .0 .0 .few)))
+fill-requires c κs =
+    let at-start = c .before .before .before .before .before .before .before .before .before .before .before .before in
+    (at-start .pre .1, (at-start .pre .0 .0 .coordinates, at-start .pre .0 .0 .leads, at-start .pre .0 .0 .narrow, at-start .pre .0 .0 .most, at-start .pre .0 .0 .numbered, at-start .pre .0 .0 .few, at-start .pre .0 .1, omega (arith, grouped-few (at-start .args .groups .now), at-start .pre .0 .0 .few)))
 
 decompose-requires : tie.Need-decompose-requires
-decompose-requires c κs = (c .before .before .before .before .before .before .before .before .before .before .before .before .before .before .before .before .before .before .before .before .before .before .before .before .before .before .before .pre .0 .0, (c .before .before .before .before .before .before .before .before .before .before .before .before .before .before .fill .kept .0 ∙ ap length (c .before .before .before .before .before .before .before .before .before .before .before .before .before .before .before .before .before .before .before .before .before .before .before .before .before .before .before .pre .1 .0) ∙ length-replicate (c .before .before .before .before .before .before .before .before .before .before .before .before .before .before .before .before .before .before .before .before .before .before .before .before .before .before .before .args .p) zero⁻, c .before .before .before .before .before .before .before .before .before .before .before .before .before .before .fill .ensures .counted, c .before .before .before .before .before .before .before .before .before .before .before .before .before .before .fill .kept .1 .1 .0 ∙ ap length (c .before .before .before .before .before .before .before .before .before .before .before .before .before .before .before .before .before .before .before .before .before .before .before .before .before .before .before .pre .1 .2) ∙ length-replicate (c .before .before .before .before .before .before .before .before .before .before .before .before .before .before .before .before .before .before .before .before .before .before .before .before .before .before .before .args .p * c .before .before .before .before .before .before .before .before .before .before .before .before .before .before .before .before .before .before .before .before .before .before .before .before .before .before .before .args .p) zero⁺, c .before .before .before .before .before .before .before .before .before .before .before .before .before .before .fill .kept .1 .1 .1 .0 ∙ ap length (c .before .before .before .before .before .before .before .before .before .before .before .before .before .before .before .before .before .before .before .before .before .before .before .before .before .before .before .pre .1 .3) ∙ length-replicate (c .before .before .before .before .before .before .before .before .before .before .before .before .before .before .before .before .before .before .before .before .before .before .before .before .before .before .before .args .p * c .before .before .before .before .before .before .before .before .before .before .before .before .before .before .before .before .before .before .before .before .before .before .before .before .before .before .before .args .p) zero⁺))
+decompose-requires c κs =
+    let at-fill = c .before .before .before .before .before .before .before .before .before .before .before .before .before .before in
+    let at-start = at-fill .before .before .before .before .before .before .before .before .before .before .before .before .before in
+    let a = at-start .args in
+    (at-start .pre .0 .0, (at-fill .fill .kept .0 ∙ ap length (at-start .pre .1 .0) ∙ length-replicate (a .p) zero⁻, at-fill .fill .ensures .counted, at-fill .fill .kept .1 .1 .0 ∙ ap length (at-start .pre .1 .2) ∙ length-replicate (a .p * a .p) zero⁺, at-fill .fill .kept .1 .1 .1 .0 ∙ ap length (at-start .pre .1 .3) ∙ length-replicate (a .p * a .p) zero⁺))
 
 same-length : tie.Need-same-length
 same-length c = c .before .before .before .before .decompose .kept .0
@@ -35,7 +41,12 @@ same-length-6 : tie.Need-same-length-6
 same-length-6 c = c .before .before .before .before .before .before .before .before .before .before .before .before .before .before .before .before .before .before .before .fill .kept .1 .1 .1 .0
 
 returns : tie.Need-returns
-returns c = separated-is (length (c .before .before .before .before .before .before .before .before .before .before .before .before .before .before .before .before .before .before .before .before .before .before .before .before .before .before .before .before .before .before .before .before .args .groups .now)) (c .before .before .before .before .before .before .before .before .before .before .before .before .before .before .before .before .before .before .before .before .before .before .before .before .before .before .before .before .before .before .before .before .args .columns) (c .before .before .before .before .before .before .before .before .before .before .before .before .before .before .before .before .before .before .before .before .before .before .before .before .before .before .before .before .before .before .before .before .args .p) (c .before .before .before .before .before .before .before .before .before .before .before .before .before .before .before .before .before .before .before .before .before .before .before .before .before .before .before .before .before .before .before .before .args .axes) (c .before .before .before .before .before .before .before .before .before .before .before .before .before .before .before .before .before .before .before .before .before .before .before .before .before .before .before .before .before .before .before .before .args .g) (c .before .before .before .before .before .before .before .before .before .before .before .before .before .before .before .before .before .before .before .before .before .before .before .before .before .before .before .before .before .before .before .before .args .x .now) (c .before .before .before .before .before .before .before .before .before .before .before .before .before .before .before .before .before .before .before .before .before .before .before .before .before .before .before .before .before .before .before .before .args .groups .now) (c .before .before .before .before .before .before .before .before .before .before .before .before .before .before .before .before .before .before .before .before .before .before .before .before .before .before .before .before .before .before .before .before .args .out .now) (c .before .before .before .before .before .before .before .before .before .before .before .before .before .before .before .before .before .before .before .before .before .before .before .before .before .before .before .before .before .before .before .before .args .assigned .now) (c .before .before .before .before .before .before .before .before .before .before .before .before .before .before .before .before .before .before .before .fill .ensures) (c .before .before .before .before .decompose .ensures)
+returns c =
+    let at-decompose = c .before .before .before .before in
+    let at-fill = at-decompose .before .before .before .before .before .before .before .before .before .before .before .before .before .before .before in
+    let at-start = at-fill .before .before .before .before .before .before .before .before .before .before .before .before .before in
+    let a = at-start .args in
+    separated-is (length (a .groups .now)) (a .columns) (a .p) (a .axes) (a .g) (a .x .now) (a .groups .now) (a .out .now) (a .assigned .now) (at-fill .fill .ensures) (at-decompose .decompose .ensures)
 
 pub separate-spec : {M : Type 1} → statement M
 separate-spec =

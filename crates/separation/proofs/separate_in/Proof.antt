@@ -12,7 +12,9 @@ use Rattle.separation.proofs.separate_in.Statement.{statement}
 use Rattle.separation.proofs.separate_in.Tie as tie
 
 mul-k : tie.Need-mul-k
-mul-k c = omega (arith, mul-le-mul {n₁ = c .before .before .before .before .args .p} {m₁ = c .before .before .before .before .args .p} {n₂ = 16} {m₂ = 16} (c .before .before .before .before .pre .0 .narrow) (c .before .before .before .before .pre .0 .narrow))
+mul-k c =
+    let at-start = c .before .before .before .before in
+    omega (arith, mul-le-mul {n₁ = at-start .args .p} {m₁ = at-start .args .p} {n₂ = 16} {m₂ = 16} (at-start .pre .0 .narrow) (at-start .pre .0 .narrow))
 
 array-borrow-prefix-mean : tie.Need-array-borrow-prefix-mean
 array-borrow-prefix-mean c = omega (arith, c .before .before .before .before .before .before .pre .0 .narrow)
@@ -27,19 +29,30 @@ slice-aggregate-separate-2 : tie.Need-slice-aggregate-separate-2
 slice-aggregate-separate-2 c = sym (length-take-le _ _ (omega (arith, c .before .before .before .before .before .before .before .before .pre .0 .most)))
 
 array-borrow-prefix-sw : tie.Need-array-borrow-prefix-sw
-array-borrow-prefix-sw c = omega (arith, mul-le-mul {n₁ = c .before .before .before .before .before .before .before .before .args .p} {m₁ = c .before .before .before .before .before .before .before .before .args .p} {n₂ = 16} {m₂ = 16} (c .before .before .before .before .before .before .before .before .pre .0 .narrow) (c .before .before .before .before .before .before .before .before .pre .0 .narrow))
+array-borrow-prefix-sw c =
+    let at-start = c .before .before .before .before .before .before .before .before in
+    omega (arith, mul-le-mul {n₁ = at-start .args .p} {m₁ = at-start .args .p} {n₂ = 16} {m₂ = 16} (at-start .pre .0 .narrow) (at-start .pre .0 .narrow))
 
 slice-aggregate-separate-3 : tie.Need-slice-aggregate-separate-3
-slice-aggregate-separate-3 c = sym (length-take-le _ _ (omega (arith, mul-le-mul {n₁ = c .before .before .before .before .before .before .before .before .before .args .p} {m₁ = c .before .before .before .before .before .before .before .before .before .args .p} {n₂ = 16} {m₂ = 16} (c .before .before .before .before .before .before .before .before .before .pre .0 .narrow) (c .before .before .before .before .before .before .before .before .before .pre .0 .narrow))))
+slice-aggregate-separate-3 c =
+    let at-start = c .before .before .before .before .before .before .before .before .before in
+    sym (length-take-le _ _ (omega (arith, mul-le-mul {n₁ = at-start .args .p} {m₁ = at-start .args .p} {n₂ = 16} {m₂ = 16} (at-start .pre .0 .narrow) (at-start .pre .0 .narrow))))
 
 array-borrow-prefix-sb : tie.Need-array-borrow-prefix-sb
-array-borrow-prefix-sb c = omega (arith, mul-le-mul {n₁ = c .before .before .before .before .before .before .before .before .before .args .p} {m₁ = c .before .before .before .before .before .before .before .before .before .args .p} {n₂ = 16} {m₂ = 16} (c .before .before .before .before .before .before .before .before .before .pre .0 .narrow) (c .before .before .before .before .before .before .before .before .before .pre .0 .narrow))
+array-borrow-prefix-sb c =
+    let at-start = c .before .before .before .before .before .before .before .before .before in
+    omega (arith, mul-le-mul {n₁ = at-start .args .p} {m₁ = at-start .args .p} {n₂ = 16} {m₂ = 16} (at-start .pre .0 .narrow) (at-start .pre .0 .narrow))
 
 slice-aggregate-separate-4 : tie.Need-slice-aggregate-separate-4
-slice-aggregate-separate-4 c = sym (length-take-le _ _ (omega (arith, mul-le-mul {n₁ = c .before .before .before .before .before .before .before .before .before .before .args .p} {m₁ = c .before .before .before .before .before .before .before .before .before .before .args .p} {n₂ = 16} {m₂ = 16} (c .before .before .before .before .before .before .before .before .before .before .pre .0 .narrow) (c .before .before .before .before .before .before .before .before .before .before .pre .0 .narrow))))
+slice-aggregate-separate-4 c =
+    let at-start = c .before .before .before .before .before .before .before .before .before .before in
+    sym (length-take-le _ _ (omega (arith, mul-le-mul {n₁ = at-start .args .p} {m₁ = at-start .args .p} {n₂ = 16} {m₂ = 16} (at-start .pre .0 .narrow) (at-start .pre .0 .narrow))))
 
 separate-requires : tie.Need-separate-requires
-separate-requires c κs = (c .before .before .before .before .before .before .before .before .before .before .pre, (take-replicate (c .before .before .before .before .before .before .before .before .before .before .args .p) 16 zero⁻ (c .before .before .before .before .before .before .before .before .before .before .pre .0 .narrow), take-replicate {A = ℕ} (c .before .before .before .before .before .before .before .before .before .before .args .g) 128 0 (c .before .before .before .before .before .before .before .before .before .before .pre .0 .most), take-replicate (c .before .before .before .before .before .before .before .before .before .before .args .p * c .before .before .before .before .before .before .before .before .before .before .args .p) 256 zero⁺ (omega (arith, mul-le-mul {n₁ = c .before .before .before .before .before .before .before .before .before .before .args .p} {m₁ = c .before .before .before .before .before .before .before .before .before .before .args .p} {n₂ = 16} {m₂ = 16} (c .before .before .before .before .before .before .before .before .before .before .pre .0 .narrow) (c .before .before .before .before .before .before .before .before .before .before .pre .0 .narrow))), take-replicate (c .before .before .before .before .before .before .before .before .before .before .args .p * c .before .before .before .before .before .before .before .before .before .before .args .p) 256 zero⁺ (omega (arith, mul-le-mul {n₁ = c .before .before .before .before .before .before .before .before .before .before .args .p} {m₁ = c .before .before .before .before .before .before .before .before .before .before .args .p} {n₂ = 16} {m₂ = 16} (c .before .before .before .before .before .before .before .before .before .before .pre .0 .narrow) (c .before .before .before .before .before .before .before .before .before .before .pre .0 .narrow)))))
+separate-requires c κs =
+    let at-start = c .before .before .before .before .before .before .before .before .before .before in
+    let a = at-start .args in
+    (at-start .pre, (take-replicate (a .p) 16 zero⁻ (at-start .pre .0 .narrow), take-replicate {A = ℕ} (a .g) 128 0 (at-start .pre .0 .most), take-replicate (a .p * a .p) 256 zero⁺ (omega (arith, mul-le-mul {n₁ = a .p} {m₁ = a .p} {n₂ = 16} {m₂ = 16} (at-start .pre .0 .narrow) (at-start .pre .0 .narrow))), take-replicate (a .p * a .p) 256 zero⁺ (omega (arith, mul-le-mul {n₁ = a .p} {m₁ = a .p} {n₂ = 16} {m₂ = 16} (at-start .pre .0 .narrow) (at-start .pre .0 .narrow)))))
 
 same-length : tie.Need-same-length
 same-length c = c .before .before .before .before .before .before .before .before .separate .kept .0
