@@ -45,19 +45,26 @@ conclude-requires c κs =
     ((omega (arith, at-start .pre .0 .room, at-write-scores .write-scores .kept .0), at-start .pre .0 .places, at-start .pre .1 .0 .1, at-start .pre .1 .1 .3), (at-start .pre .0 .two, at-start .pre .0 .most, at-start .pre .0 .numbered, at-start .pre .0 .few))
 
 same-length : tie.Need-same-length
-same-length c = c .before .before .before .before .before .before .conclude .kept .0 ∙ c .before .before .before .before .before .before .before .before .before .before .before .before .before .before .write-scores .kept .0
+same-length c =
+    let after-conclude = c .before .before .before .before .before .before in
+    let after-write-scores = after-conclude .before .before .before .before .before .before .before .before in
+    after-conclude .conclude .kept .0 ∙ after-write-scores .write-scores .kept .0
 
 same-length-2 : tie.Need-same-length-2
 same-length-2 c = c .before .before .before .before .before .before .conclude .kept .1 .0
 
 same-length-3 : tie.Need-same-length-3
-same-length-3 c = c .before .before .before .before .before .before .before .before .before .before .before .before .before .before .before .before .before .before .before .before .solve-rows .kept .0
+same-length-3 c =
+    let after-solve-rows = c .before .before .before .before .before .before .before .before .before .before .before .before .before .before .before .before .before .before .before .before in
+    after-solve-rows .solve-rows .kept .0
 
 same-length-4 : tie.Need-same-length-4
 same-length-4 c = c .before .before .before .before .before .before .conclude .kept .1 .1 .0
 
 same-length-5 : tie.Need-same-length-5
-same-length-5 c = c .before .before .before .before .before .before .before .before .before .before .before .before .before .before .write-scores .kept .1 .0
+same-length-5 c =
+    let after-write-scores = c .before .before .before .before .before .before .before .before .before .before .before .before .before .before in
+    after-write-scores .write-scores .kept .1 .0
 
 returns : tie.Need-returns
 returns c =

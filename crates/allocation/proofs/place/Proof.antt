@@ -49,10 +49,14 @@ slice-aggregate-locate-2 c =
     sym (length-take-le _ _ (omega (arith, mul-le-mul {n₁ = a .g} {m₁ = a .axes} {n₂ = 128} {m₂ = 16} (at-start .pre .0 .most) (omega (arith, axes-most (a .axes) (a .g) (a .p) (at-start .pre .0 .axial), at-start .pre .0 .narrow)))))
 
 array-borrow-prefix-d : tie.Need-array-borrow-prefix-d
-array-borrow-prefix-d c = omega (arith, c .before .before .before .before .before .before .before .before .before .before .before .before .pre .0 .narrow)
+array-borrow-prefix-d c =
+    let pre = c .before .before .before .before .before .before .before .before .before .before .before .before .pre in
+    omega (arith, pre .0 .narrow)
 
 slice-aggregate-locate-3 : tie.Need-slice-aggregate-locate-3
-slice-aggregate-locate-3 c = sym (length-take-le _ _ (omega (arith, c .before .before .before .before .before .before .before .before .before .before .before .before .before .pre .0 .narrow)))
+slice-aggregate-locate-3 c =
+    let pre = c .before .before .before .before .before .before .before .before .before .before .before .before .before .pre in
+    sym (length-take-le _ _ (omega (arith, pre .0 .narrow)))
 
 locate-requires : tie.Need-locate-requires
 locate-requires c κs =

@@ -16,7 +16,9 @@ slice-relend-prefix-copy : tie.Need-slice-relend-prefix-copy
 slice-relend-prefix-copy c = search needs
 
 slice-aggregate-copy : tie.Need-slice-aggregate-copy
-slice-aggregate-copy c = sym (length-take-le (c .before .before .before .before .before .before .before .args .axes) (c .before .before .before .before .before .before .before .args .out .now) (omega arith))
+slice-aggregate-copy c =
+    let args = c .before .before .before .before .before .before .before .args in
+    sym (length-take-le (args .axes) (args .out .now) (omega arith))
 
 slice-aggregate-copy-2 : tie.Need-slice-aggregate-copy-2
 slice-aggregate-copy-2 c =

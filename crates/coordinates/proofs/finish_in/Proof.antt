@@ -26,7 +26,9 @@ slice-aggregate-describe c =
     sym (length-take-le (a .k + a .k) (a .out .now) (omega arith))
 
 slice-aggregate-describe-2 : tie.Need-slice-aggregate-describe-2
-slice-aggregate-describe-2 c = sym (length-take-le (c .before .before .before .before .before .before .args .k) (c .before .before .before .before .before .before .args .pairs .now) (omega arith))
+slice-aggregate-describe-2 c =
+    let args = c .before .before .before .before .before .before .args in
+    sym (length-take-le (args .k) (args .pairs .now) (omega arith))
 
 describe-requires : tie.Need-describe-requires
 describe-requires c κs =
@@ -50,7 +52,9 @@ part-place-end : tie.Need-part-place-end
 part-place-end c = search needs
 
 slice-aggregate-place : tie.Need-slice-aggregate-place
-slice-aggregate-place c = sym (length-take-le (c .before .before .before .before .before .before .before .before .before .before .before .before .before .args .k) (c .before .before .before .before .before .before .before .before .before .before .before .before .before .args .pairs .now) (omega arith))
+slice-aggregate-place c =
+    let args = c .before .before .before .before .before .before .before .before .before .before .before .before .before .args in
+    sym (length-take-le (args .k) (args .pairs .now) (omega arith))
 
 mul-place-2 : tie.Need-mul-place-2
 mul-place-2 c = search needs

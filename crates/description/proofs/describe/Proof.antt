@@ -42,8 +42,9 @@ same-length-4 c = search needs
 
 returns : tie.Need-returns
 returns c =
+    let after-group = c .before .before .before .before .before .before .before .before .before .before .before in
     let start = c .before .before .before .before .before .before .before .before .before .before .before .before .before .before .before .before .before .before .before .before .before in
-    let group-done = c .before .before .before .before .before .before .before .before .before .before .before .group in
+    let group-done = after-group .group in
     described (start .args .labels .now) (start .args .given .now) (start .args .stratified) (group-done .ensures) (c .before .before .stratify .ensures)
 
 pub describe-spec : {M : Type 1} → statement M

@@ -20,7 +20,9 @@ slice-relend-prefix-clear : tie.Need-slice-relend-prefix-clear
 slice-relend-prefix-clear c = search needs
 
 slice-aggregate-clear : tie.Need-slice-aggregate-clear
-slice-aggregate-clear c = sym (length-take-le (c .before .before .before .args .axes + c .before .before .before .args .n * c .before .before .before .args .axes) (c .before .before .before .args .out .now) (omega arith))
+slice-aggregate-clear c =
+    let args = c .before .before .before .args in
+    sym (length-take-le (args .axes + args .n * args .axes) (args .out .now) (omega arith))
 
 clear-requires : tie.Need-clear-requires
 clear-requires c κs = search needs
@@ -29,7 +31,9 @@ slice-relend-prefix-clear-u16 : tie.Need-slice-relend-prefix-clear-u16
 slice-relend-prefix-clear-u16 c = search needs
 
 slice-aggregate-clear-u16 : tie.Need-slice-aggregate-clear-u16
-slice-aggregate-clear-u16 c = sym (length-take-le (c .before .before .before .before .before .before .before .args .n) (c .before .before .before .before .before .before .before .args .assigned .now) (omega arith))
+slice-aggregate-clear-u16 c =
+    let args = c .before .before .before .before .before .before .before .args in
+    sym (length-take-le (args .n) (args .assigned .now) (omega arith))
 
 clear-u16-requires : tie.Need-clear-u16-requires
 clear-u16-requires c κs = search needs
@@ -41,7 +45,10 @@ same-length-2 : tie.Need-same-length-2
 same-length-2 c = search needs
 
 returns : tie.Need-returns
-returns c = refused-by (c .before .before .before .before .before .before .before .before .before .before .args .r) (c .before .before .before .before .before .before .before .before .before .before .args .axes + c .before .before .before .before .before .before .before .before .before .before .args .n * c .before .before .before .before .before .before .before .before .before .before .args .axes) (c .before .before .before .before .before .before .before .before .before .before .args .n) (c .before .before .before .before .before .before .before .before .before .before .args .out .now) (c .before .before .before .before .before .before .before .before .before .before .args .assigned .now) (c .before .before .before .before .before .before .before .before .before .before .pre .0) (c .before .before .before .before .before .before .before .before .before .before .pre .1) (c .before .before .before .before .before .before .clear .ensures) (c .before .before .clear-u16 .ensures)
+returns c =
+    let after-clear = c .before .before .before .before .before .before in
+    let start = after-clear .before .before .before .before in
+    refused-by (start .args .r) (start .args .axes + start .args .n * start .args .axes) (start .args .n) (start .args .out .now) (start .args .assigned .now) (start .pre .0) (start .pre .1) (after-clear .clear .ensures) (c .before .before .clear-u16 .ensures)
 
 pub refuse-spec : {M : Type 1} → statement M
 refuse-spec =

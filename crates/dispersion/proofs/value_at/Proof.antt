@@ -53,7 +53,9 @@ value-of-requires c κs = search needs
 
 returns : tie.Need-returns
 unfolding valueBy
-returns c = rw (c .value-of .ensures, c .before .before .before .pull-sum .ensures, c .before .before .before .before .part-of .ensures, c .before .before .before .before .before .entry .ensures)
+returns c =
+    let entry2 = c .before .before .before .before .before .entry in
+    rw (c .value-of .ensures, c .before .before .before .pull-sum .ensures, c .before .before .before .before .part-of .ensures, entry2 .ensures)
 
 pub value-at-spec : {M : Type 1} → statement M
 value-at-spec =

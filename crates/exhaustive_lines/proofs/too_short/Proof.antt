@@ -22,23 +22,33 @@ mul-q c = let most = mul-le-mul {n₁ = c .before .args .n} {m₁ = c .before .a
 
 returns-2 : tie.Need-returns-2
 unfolding lengthsOf
-returns-2 c = short-at (lengthsOf (c .before .before .args .n) (c .before .before .args .names) (c .before .before .args .counts) (c .before .before .args .means) (c .before .before .args .terms) (c .before .before .args .pulls) (c .before .before .args .coords) (c .before .before .args .room) (c .before .before .args .vectors) (c .before .before .args .rows)) 0 (omega arith) (lt-ltb (c .before .before .args .names) (c .before .before .args .n) (c .if2 .taken))
+returns-2 c =
+    let args = c .before .before .args in
+    short-at (lengthsOf (args .n) (args .names) (args .counts) (args .means) (args .terms) (args .pulls) (args .coords) (args .room) (args .vectors) (args .rows)) 0 (omega arith) (lt-ltb (args .names) (args .n) (c .if2 .taken))
 
 returns-3 : tie.Need-returns-3
 unfolding lengthsOf
-returns-3 c = short-at (lengthsOf (c .before .before .before .args .n) (c .before .before .before .args .names) (c .before .before .before .args .counts) (c .before .before .before .args .means) (c .before .before .before .args .terms) (c .before .before .before .args .pulls) (c .before .before .before .args .coords) (c .before .before .before .args .room) (c .before .before .before .args .vectors) (c .before .before .before .args .rows)) 1 (omega arith) (lt-ltb (c .before .before .before .args .counts) (c .before .before .before .args .n) (c .if3 .taken))
+returns-3 c =
+    let args = c .before .before .before .args in
+    short-at (lengthsOf (args .n) (args .names) (args .counts) (args .means) (args .terms) (args .pulls) (args .coords) (args .room) (args .vectors) (args .rows)) 1 (omega arith) (lt-ltb (args .counts) (args .n) (c .if3 .taken))
 
 returns-4 : tie.Need-returns-4
 unfolding lengthsOf
-returns-4 c = short-at (lengthsOf (c .before .before .before .before .args .n) (c .before .before .before .before .args .names) (c .before .before .before .before .args .counts) (c .before .before .before .before .args .means) (c .before .before .before .before .args .terms) (c .before .before .before .before .args .pulls) (c .before .before .before .before .args .coords) (c .before .before .before .before .args .room) (c .before .before .before .before .args .vectors) (c .before .before .before .before .args .rows)) 2 (omega arith) (lt-ltb (c .before .before .before .before .args .means) (c .before .before .before .before .args .n) (c .if4 .taken))
+returns-4 c =
+    let args = c .before .before .before .before .args in
+    short-at (lengthsOf (args .n) (args .names) (args .counts) (args .means) (args .terms) (args .pulls) (args .coords) (args .room) (args .vectors) (args .rows)) 2 (omega arith) (lt-ltb (args .means) (args .n) (c .if4 .taken))
 
 returns-5 : tie.Need-returns-5
 unfolding lengthsOf
-returns-5 c = short-at (lengthsOf (c .before .before .before .before .before .args .n) (c .before .before .before .before .before .args .names) (c .before .before .before .before .before .args .counts) (c .before .before .before .before .before .args .means) (c .before .before .before .before .before .args .terms) (c .before .before .before .before .before .args .pulls) (c .before .before .before .before .before .args .coords) (c .before .before .before .before .before .args .room) (c .before .before .before .before .before .args .vectors) (c .before .before .before .before .before .args .rows)) 3 (omega arith) (lt-ltb (c .before .before .before .before .before .args .terms) (c .before .before .before .before .before .args .n * c .before .before .before .before .before .args .n) (c .if5 .taken))
+returns-5 c =
+    let args = c .before .before .before .before .before .args in
+    short-at (lengthsOf (args .n) (args .names) (args .counts) (args .means) (args .terms) (args .pulls) (args .coords) (args .room) (args .vectors) (args .rows)) 3 (omega arith) (lt-ltb (args .terms) (args .n * args .n) (c .if5 .taken))
 
 returns-6 : tie.Need-returns-6
 unfolding lengthsOf
-returns-6 c = short-at (lengthsOf (c .before .before .before .before .before .before .args .n) (c .before .before .before .before .before .before .args .names) (c .before .before .before .before .before .before .args .counts) (c .before .before .before .before .before .before .args .means) (c .before .before .before .before .before .before .args .terms) (c .before .before .before .before .before .before .args .pulls) (c .before .before .before .before .before .before .args .coords) (c .before .before .before .before .before .before .args .room) (c .before .before .before .before .before .before .args .vectors) (c .before .before .before .before .before .before .args .rows)) 4 (omega arith) (lt-ltb (c .before .before .before .before .before .before .args .pulls) (c .before .before .before .before .before .before .args .n * c .before .before .before .before .before .before .args .n) (c .if6 .taken))
+returns-6 c =
+    let args = c .before .before .before .before .before .before .args in
+    short-at (lengthsOf (args .n) (args .names) (args .counts) (args .means) (args .terms) (args .pulls) (args .coords) (args .room) (args .vectors) (args .rows)) 4 (omega arith) (lt-ltb (args .pulls) (args .n * args .n) (c .if6 .taken))
 
 mul-if7 : tie.Need-mul-if7
 mul-if7 c = search needs
@@ -48,22 +58,37 @@ add-if7 c = search needs
 
 returns-7 : tie.Need-returns-7
 unfolding lengthsOf
-returns-7 c = short-at (lengthsOf (c .before .before .before .before .before .before .before .args .n) (c .before .before .before .before .before .before .before .args .names) (c .before .before .before .before .before .before .before .args .counts) (c .before .before .before .before .before .before .before .args .means) (c .before .before .before .before .before .before .before .args .terms) (c .before .before .before .before .before .before .before .args .pulls) (c .before .before .before .before .before .before .before .args .coords) (c .before .before .before .before .before .before .before .args .room) (c .before .before .before .before .before .before .before .args .vectors) (c .before .before .before .before .before .before .before .args .rows)) 5 (omega arith) (lt-ltb (c .before .before .before .before .before .before .before .args .coords) (16 + 8 * c .before .before .before .before .before .before .before .args .n) (c .if7 .taken))
+returns-7 c =
+    let args = c .before .before .before .before .before .before .before .args in
+    short-at (lengthsOf (args .n) (args .names) (args .counts) (args .means) (args .terms) (args .pulls) (args .coords) (args .room) (args .vectors) (args .rows)) 5 (omega arith) (lt-ltb (args .coords) (16 + 8 * args .n) (c .if7 .taken))
 
 add-if8 : tie.Need-add-if8
-add-if8 c = let most = mul-le-mul {n₁ = c .before .before .before .before .before .before .before .args .n} {m₁ = c .before .before .before .before .before .before .before .args .n} {n₂ = 4294967295} {m₂ = 4294967295} (omega arith) (omega arith) in omega arith
+add-if8 c =
+    let args = c .before .before .before .before .before .before .before .args in
+    let most = mul-le-mul {n₁ = args .n} {m₁ = args .n} {n₂ = 4294967295} {m₂ = 4294967295} (omega arith) (omega arith) in omega arith
 
 returns-8 : tie.Need-returns-8
 unfolding lengthsOf
-returns-8 c = short-at (lengthsOf (c .before .before .before .before .before .before .before .before .args .n) (c .before .before .before .before .before .before .before .before .args .names) (c .before .before .before .before .before .before .before .before .args .counts) (c .before .before .before .before .before .before .before .before .args .means) (c .before .before .before .before .before .before .before .before .args .terms) (c .before .before .before .before .before .before .before .before .args .pulls) (c .before .before .before .before .before .before .before .before .args .coords) (c .before .before .before .before .before .before .before .before .args .room) (c .before .before .before .before .before .before .before .before .args .vectors) (c .before .before .before .before .before .before .before .before .args .rows)) 6 (omega arith) (lt-ltb (c .before .before .before .before .before .before .before .before .args .room) (c .before .before .before .before .before .before .before .before .args .n + c .before .before .before .before .before .before .before .before .args .n * c .before .before .before .before .before .before .before .before .args .n) (c .if8 .taken))
+returns-8 c =
+    let args = c .before .before .before .before .before .before .before .before .args in
+    short-at (lengthsOf (args .n) (args .names) (args .counts) (args .means) (args .terms) (args .pulls) (args .coords) (args .room) (args .vectors) (args .rows)) 6 (omega arith) (lt-ltb (args .room) (args .n + args .n * args .n) (c .if8 .taken))
 
 returns-9 : tie.Need-returns-9
 unfolding lengthsOf
-returns-9 c = short-at (lengthsOf (c .before .before .before .before .before .before .before .before .before .args .n) (c .before .before .before .before .before .before .before .before .before .args .names) (c .before .before .before .before .before .before .before .before .before .args .counts) (c .before .before .before .before .before .before .before .before .before .args .means) (c .before .before .before .before .before .before .before .before .before .args .terms) (c .before .before .before .before .before .before .before .before .before .args .pulls) (c .before .before .before .before .before .before .before .before .before .args .coords) (c .before .before .before .before .before .before .before .before .before .args .room) (c .before .before .before .before .before .before .before .before .before .args .vectors) (c .before .before .before .before .before .before .before .before .before .args .rows)) 7 (omega arith) (lt-ltb (c .before .before .before .before .before .before .before .before .before .args .vectors) (c .before .before .before .before .before .before .before .before .before .args .n * c .before .before .before .before .before .before .before .before .before .args .n) (c .if9 .taken))
+returns-9 c =
+    let args = c .before .before .before .before .before .before .before .before .before .args in
+    short-at (lengthsOf (args .n) (args .names) (args .counts) (args .means) (args .terms) (args .pulls) (args .coords) (args .room) (args .vectors) (args .rows)) 7 (omega arith) (lt-ltb (args .vectors) (args .n * args .n) (c .if9 .taken))
 
 returns-10 : tie.Need-returns-10
 unfolding lengthsOf short any
-returns-10 c = not-here (ltb (c .before .before .before .before .before .before .before .before .before .args .names) (c .before .before .before .before .before .before .before .before .before .args .n)) _ _ (le-ltb (c .before .before .before .before .before .before .before .before .before .args .names) (c .before .before .before .before .before .before .before .before .before .args .n) (c .before .before .before .before .before .before .before .if2 .left)) (not-here (ltb (c .before .before .before .before .before .before .before .before .before .args .counts) (c .before .before .before .before .before .before .before .before .before .args .n)) _ _ (le-ltb (c .before .before .before .before .before .before .before .before .before .args .counts) (c .before .before .before .before .before .before .before .before .before .args .n) (c .before .before .before .before .before .before .if3 .left)) (not-here (ltb (c .before .before .before .before .before .before .before .before .before .args .means) (c .before .before .before .before .before .before .before .before .before .args .n)) _ _ (le-ltb (c .before .before .before .before .before .before .before .before .before .args .means) (c .before .before .before .before .before .before .before .before .before .args .n) (c .before .before .before .before .before .if4 .left)) (not-here (ltb (c .before .before .before .before .before .before .before .before .before .args .terms) (c .before .before .before .before .before .before .before .before .before .args .n * c .before .before .before .before .before .before .before .before .before .args .n)) _ _ (le-ltb (c .before .before .before .before .before .before .before .before .before .args .terms) (c .before .before .before .before .before .before .before .before .before .args .n * c .before .before .before .before .before .before .before .before .before .args .n) (c .before .before .before .before .if5 .left)) (not-here (ltb (c .before .before .before .before .before .before .before .before .before .args .pulls) (c .before .before .before .before .before .before .before .before .before .args .n * c .before .before .before .before .before .before .before .before .before .args .n)) _ _ (le-ltb (c .before .before .before .before .before .before .before .before .before .args .pulls) (c .before .before .before .before .before .before .before .before .before .args .n * c .before .before .before .before .before .before .before .before .before .args .n) (c .before .before .before .if6 .left)) (not-here (ltb (c .before .before .before .before .before .before .before .before .before .args .coords) (16 + 8 * c .before .before .before .before .before .before .before .before .before .args .n)) _ _ (le-ltb (c .before .before .before .before .before .before .before .before .before .args .coords) (16 + 8 * c .before .before .before .before .before .before .before .before .before .args .n) (c .before .before .if7 .left)) (not-here (ltb (c .before .before .before .before .before .before .before .before .before .args .room) (c .before .before .before .before .before .before .before .before .before .args .n + c .before .before .before .before .before .before .before .before .before .args .n * c .before .before .before .before .before .before .before .before .before .args .n)) _ _ (le-ltb (c .before .before .before .before .before .before .before .before .before .args .room) (c .before .before .before .before .before .before .before .before .before .args .n + c .before .before .before .before .before .before .before .before .before .args .n * c .before .before .before .before .before .before .before .before .before .args .n) (c .before .if8 .left)) (not-here (ltb (c .before .before .before .before .before .before .before .before .before .args .vectors) (c .before .before .before .before .before .before .before .before .before .args .n * c .before .before .before .before .before .before .before .before .before .args .n)) _ _ (le-ltb (c .before .before .before .before .before .before .before .before .before .args .vectors) (c .before .before .before .before .before .before .before .before .before .args .n * c .before .before .before .before .before .before .before .before .before .args .n) (c .if9 .left)) (last-short _))))))))
+returns-10 c =
+    let at-if6 = c .before .before .before in
+    let at-if5 = at-if6 .before in
+    let at-if4 = at-if5 .before in
+    let at-if3 = at-if4 .before in
+    let at-if2 = at-if3 .before in
+    let start = at-if2 .before .before in
+    not-here (ltb (start .args .names) (start .args .n)) _ _ (le-ltb (start .args .names) (start .args .n) (at-if2 .if2 .left)) (not-here (ltb (start .args .counts) (start .args .n)) _ _ (le-ltb (start .args .counts) (start .args .n) (at-if3 .if3 .left)) (not-here (ltb (start .args .means) (start .args .n)) _ _ (le-ltb (start .args .means) (start .args .n) (at-if4 .if4 .left)) (not-here (ltb (start .args .terms) (start .args .n * start .args .n)) _ _ (le-ltb (start .args .terms) (start .args .n * start .args .n) (at-if5 .if5 .left)) (not-here (ltb (start .args .pulls) (start .args .n * start .args .n)) _ _ (le-ltb (start .args .pulls) (start .args .n * start .args .n) (at-if6 .if6 .left)) (not-here (ltb (start .args .coords) (16 + 8 * start .args .n)) _ _ (le-ltb (start .args .coords) (16 + 8 * start .args .n) (c .before .before .if7 .left)) (not-here (ltb (start .args .room) (start .args .n + start .args .n * start .args .n)) _ _ (le-ltb (start .args .room) (start .args .n + start .args .n * start .args .n) (c .before .if8 .left)) (not-here (ltb (start .args .vectors) (start .args .n * start .args .n)) _ _ (le-ltb (start .args .vectors) (start .args .n * start .args .n) (c .if9 .left)) (last-short _))))))))
 
 pub too-short-spec : {M : Type 1} → statement M
 too-short-spec =

@@ -25,7 +25,11 @@ same-length-3 : tie.Need-same-length-3
 same-length-3 c = search needs
 
 returns : tie.Need-returns
-returns c = cleared-all _ _ _ (c .before .before .before .before .before .before .before .before .before .before .before .before .before .before .before .pre) (c .before .before .before .before .before .before .before .before .before .before .clear-u16 .ensures) (c .before .before .before .before .before .before .clear-u162 .ensures) (c .before .before .clear .ensures)
+returns c =
+    let after-clear-u162 = c .before .before .before .before .before .before in
+    let after-clear-u16 = after-clear-u162 .before .before .before .before in
+    let start = after-clear-u16 .before .before .before .before .before in
+    cleared-all _ _ _ (start .pre) (after-clear-u16 .clear-u16 .ensures) (after-clear-u162 .clear-u162 .ensures) (c .before .before .clear .ensures)
 
 pub clear-all-spec : {M : Type 1} → statement M
 clear-all-spec =

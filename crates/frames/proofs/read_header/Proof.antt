@@ -20,14 +20,21 @@ returns-2 c = too-many (c .before .before .before .before .before .line-at .ensu
 
 returns-3 : tie.Need-returns-3
 unfolding OpenedBy
-returns-3 c = not-a-flag (c .before .before .before .before .before .before .before .line-at .ensures) (c .before .before .before .before .if1 .left) (c .before .before .if2 .left) (c .if3 .taken)
+returns-3 c =
+    let at-if1 = c .before .before .before .before in
+    let after-line-at = at-if1 .before .before .before in
+    not-a-flag (after-line-at .line-at .ensures) (at-if1 .if1 .left) (c .before .before .if2 .left) (c .if3 .taken)
 
 cast-t5 : tie.Need-cast-t5
 cast-t5 c = search needs
 
 returns-4 : tie.Need-returns-4
 unfolding OpenedBy
-returns-4 c = is-header (c .before .before .before .before .before .before .before .before .before .line-at .ensures) (c .before .before .before .before .before .before .if1 .left) (c .before .before .before .before .if2 .left) (c .before .before .if3 .left)
+returns-4 c =
+    let at-if2 = c .before .before .before .before in
+    let at-if1 = at-if2 .before .before in
+    let after-line-at = at-if1 .before .before .before in
+    is-header (after-line-at .line-at .ensures) (at-if1 .if1 .left) (at-if2 .if2 .left) (c .before .before .if3 .left)
 
 pub read-header-spec : {M : Type 1} → statement M
 read-header-spec =

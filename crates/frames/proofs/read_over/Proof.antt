@@ -23,7 +23,11 @@ unfolding ReadBy
 returns c = no-header _ (unopened _ (c .before .before .read-header .ensures) (c .enum-told .given .1))
 
 read-samples-requires : tie.Need-read-samples-requires
-read-samples-requires c κs = (few _ (opened _ (c .before .before .before .before .before .read-header .ensures) (c .before .before .before .n .given .1)), c .before .before .before .before .before .before .before .before .before .before .before .pre .0 .labels, c .before .before .before .before .before .before .before .before .before .before .before .pre .0 .strata)
+read-samples-requires c κs =
+    let after-n = c .before .before .before in
+    let after-read-header = after-n .before .before in
+    let start = after-read-header .before .before .before .before .before .before in
+    (few _ (opened _ (after-read-header .read-header .ensures) (after-n .n .given .1)), start .pre .0 .labels, start .pre .0 .strata)
 
 enum-known-at : tie.Need-enum-known-at
 enum-known-at c = search needs
@@ -39,10 +43,18 @@ same-length-2 c = search needs
 
 returns-2 : tie.Need-returns-2
 unfolding ReadBy
-returns-2 c = no-samples _ (opened _ (c .before .before .before .before .before .before .before .before .before .before .before .before .read-header .ensures) (c .before .before .before .before .before .before .before .before .before .before .n .given .1)) (unreached _ _ _ (c .before .before .before .before .before .before .read-samples .ensures) (c .enum-told2 .given .1))
+returns-2 c =
+    let after-read-samples = c .before .before .before .before .before .before in
+    let after-n = after-read-samples .before .before .before .before in
+    let after-read-header = after-n .before .before in
+    no-samples _ (opened _ (after-read-header .read-header .ensures) (after-n .n .given .1)) (unreached _ _ _ (after-read-samples .read-samples .ensures) (c .enum-told2 .given .1))
 
 read-pairs-requires : tie.Need-read-pairs-requires
-read-pairs-requires c κs = (few _ (opened _ (c .before .before .before .before .before .before .before .before .before .before .before .before .before .before .before .read-header .ensures) (c .before .before .before .before .before .before .before .before .before .before .before .before .before .n .given .1)), c .before .before .before .before .before .before .before .before .before .before .before .before .before .before .before .before .before .before .before .before .before .pre .0 .distances, c .before .before .before .before .before .before .before .before .before .before .before .before .before .before .before .before .before .before .before .before .before .pre .1)
+read-pairs-requires c κs =
+    let after-n = c .before .before .before .before .before .before .before .before .before .before .before .before .before in
+    let after-read-header = after-n .before .before in
+    let start = after-read-header .before .before .before .before .before .before in
+    (few _ (opened _ (after-read-header .read-header .ensures) (after-n .n .given .1)), start .pre .0 .distances, start .pre .1)
 
 enum-known-last : tie.Need-enum-known-last
 enum-known-last c = search needs
@@ -64,7 +76,13 @@ same-length-6 c = search needs
 
 returns-3 : tie.Need-returns-3
 unfolding ReadBy
-returns-3 c = no-pairs _ (opened _ (c .before .before .before .before .before .before .before .before .before .before .before .before .before .before .before .before .before .before .before .before .before .before .read-header .ensures) (c .before .before .before .before .before .before .before .before .before .before .before .before .before .before .before .before .before .before .before .before .n .given .1)) _ (reached _ _ _ (c .before .before .before .before .before .before .before .before .before .before .before .before .before .before .before .before .read-samples .ensures) (c .before .before .before .before .before .before .before .before .before .before .at .given .1)) (unreached _ _ _ (c .before .before .before .before .before .before .read-pairs .ensures) (c .enum-told3 .given .1))
+returns-3 c =
+    let after-read-pairs = c .before .before .before .before .before .before in
+    let after-at = after-read-pairs .before .before .before .before in
+    let after-read-samples = after-at .before .before .before .before .before .before in
+    let after-n = after-read-samples .before .before .before .before in
+    let after-read-header = after-n .before .before in
+    no-pairs _ (opened _ (after-read-header .read-header .ensures) (after-n .n .given .1)) _ (reached _ _ _ (after-read-samples .read-samples .ensures) (after-at .at .given .1)) (unreached _ _ _ (after-read-pairs .read-pairs .ensures) (c .enum-told3 .given .1))
 
 ends-at-requires : tie.Need-ends-at-requires
 ends-at-requires c κs = search needs
@@ -83,7 +101,14 @@ same-length-10 c = search needs
 
 returns-4 : tie.Need-returns-4
 unfolding ReadBy
-returns-4 c = reads _ _ _ (opened _ (c .before .before .before .before .before .before .before .before .before .before .before .before .before .before .before .before .before .before .before .before .before .before .before .before .before .read-header .ensures) (c .before .before .before .before .before .before .before .before .before .before .before .before .before .before .before .before .before .before .before .before .before .before .before .n .given .1)) (reached _ _ _ (c .before .before .before .before .before .before .before .before .before .before .before .before .before .before .before .before .before .before .before .read-samples .ensures) (c .before .before .before .before .before .before .before .before .before .before .before .before .before .at .given .1)) (reached _ _ _ (c .before .before .before .before .before .before .before .before .before .read-pairs .ensures) (c .before .before .before .last .given .1)) (sym (c .if1 .taken) ∙ c .before .ends-at .ensures)
+returns-4 c =
+    let after-last = c .before .before .before in
+    let after-read-pairs = after-last .before .before .before .before .before .before in
+    let after-at = after-read-pairs .before .before .before .before in
+    let after-read-samples = after-at .before .before .before .before .before .before in
+    let after-n = after-read-samples .before .before .before .before in
+    let after-read-header = after-n .before .before in
+    reads _ _ _ (opened _ (after-read-header .read-header .ensures) (after-n .n .given .1)) (reached _ _ _ (after-read-samples .read-samples .ensures) (after-at .at .given .1)) (reached _ _ _ (after-read-pairs .read-pairs .ensures) (after-last .last .given .1)) (sym (c .if1 .taken) ∙ c .before .ends-at .ensures)
 
 same-length-11 : tie.Need-same-length-11
 same-length-11 c = search needs
@@ -99,7 +124,14 @@ same-length-14 c = search needs
 
 returns-5 : tie.Need-returns-5
 unfolding ReadBy
-returns-5 c = by-end _ (opened _ (c .before .before .before .before .before .before .before .before .before .before .before .before .before .before .before .before .before .before .before .before .before .before .before .before .before .read-header .ensures) (c .before .before .before .before .before .before .before .before .before .before .before .before .before .before .before .before .before .before .before .before .before .before .before .n .given .1)) _ (reached _ _ _ (c .before .before .before .before .before .before .before .before .before .before .before .before .before .before .before .before .before .before .before .read-samples .ensures) (c .before .before .before .before .before .before .before .before .before .before .before .before .before .at .given .1)) _ (reached _ _ _ (c .before .before .before .before .before .before .before .before .before .read-pairs .ensures) (c .before .before .before .last .given .1)) false (sym (c .if1 .left) ∙ c .before .ends-at .ensures)
+returns-5 c =
+    let after-last = c .before .before .before in
+    let after-read-pairs = after-last .before .before .before .before .before .before in
+    let after-at = after-read-pairs .before .before .before .before in
+    let after-read-samples = after-at .before .before .before .before .before .before in
+    let after-n = after-read-samples .before .before .before .before in
+    let after-read-header = after-n .before .before in
+    by-end _ (opened _ (after-read-header .read-header .ensures) (after-n .n .given .1)) _ (reached _ _ _ (after-read-samples .read-samples .ensures) (after-at .at .given .1)) _ (reached _ _ _ (after-read-pairs .read-pairs .ensures) (after-last .last .given .1)) false (sym (c .if1 .left) ∙ c .before .ends-at .ensures)
 
 pub read-over-spec : {M : Type 1} → statement M
 read-over-spec =

@@ -33,26 +33,51 @@ line-at-requires : tie.Need-line-at-requires Inv-loop μ-loop
 line-at-requires c κs = search needs
 
 put-pair-requires : tie.Need-put-pair-requires Inv-loop μ-loop
-put-pair-requires c κs = (c .before .before .before .before .before .before .before .before .before .pre .0, marked-room (c .before .before .before .before .before .loop .inv .holds) .0, marked-room (c .before .before .before .before .before .loop .inv .holds) .1)
+put-pair-requires c κs =
+    let at-loop = c .before .before .before .before .before in
+    let start = at-loop .before .before .before .before in
+    (start .pre .0, marked-room (at-loop .loop .inv .holds) .0, marked-room (at-loop .loop .inv .holds) .1)
 
 same-length : tie.Need-same-length Inv-loop μ-loop
-same-length c = c .before .before .before .before .before .put-pair .kept .1 .1 .0 ∙ c .before .before .before .before .before .before .before .before .before .before .before .loop .inv .holds .long ∙ sym (ap length (c .before .before .before .before .before .before .before .before .before .before .before .before .before .before .before .pre .1))
+same-length c =
+    let after-put-pair = c .before .before .before .before .before in
+    let at-loop = after-put-pair .before .before .before .before .before .before in
+    let start = at-loop .before .before .before .before in
+    after-put-pair .put-pair .kept .1 .1 .0 ∙ at-loop .loop .inv .holds .long ∙ sym (ap length (start .pre .1))
 
 same-length-2 : tie.Need-same-length-2 Inv-loop μ-loop
-same-length-2 c = c .before .before .before .before .before .put-pair .kept .1 .1 .1 .0 ∙ marked-room (c .before .before .before .before .before .before .before .before .before .before .before .loop .inv .holds) .1 ∙ sym (ap length (c .before .before .before .before .before .before .before .before .before .before .before .before .before .before .before .pre .2) ∙ length-replicate {A = ℕ} 1024 0)
+same-length-2 c =
+    let after-put-pair = c .before .before .before .before .before in
+    let at-loop = after-put-pair .before .before .before .before .before .before in
+    let start = at-loop .before .before .before .before in
+    after-put-pair .put-pair .kept .1 .1 .1 .0 ∙ marked-room (at-loop .loop .inv .holds) .1 ∙ sym (ap length (start .pre .2) ∙ length-replicate {A = ℕ} 1024 0)
 
 returns : tie.Need-returns Inv-loop μ-loop
 unfolding ReachedBy
-returns c = taking-other _ _ _ _ (c .before .before .before .before .before .before .before .before .before .before .before .loop .inv) (c .before .before .before .before .before .before .before .before .before .line-at .ensures) (c .before .before .before .before .before .before .before .before .before .before .loop-test .taken) (put-other _ (c .before .before .before .before .before .before .before .before .before .before .before .loop .inv .holds) (c .before .before .before .before .before .put-pair .ensures) (not-true _ (c .if1 .taken)))
+returns c =
+    let after-put-pair = c .before .before .before .before .before in
+    let after-line-at = after-put-pair .before .before .before .before in
+    let in-loop = after-line-at .before in
+    let at-loop = in-loop .before in
+    taking-other _ _ _ _ (at-loop .loop .inv) (after-line-at .line-at .ensures) (in-loop .loop-test .taken) (put-other _ (at-loop .loop .inv .holds) (after-put-pair .put-pair .ensures) (not-true _ (c .if1 .taken)))
 
 add-k : tie.Need-add-k Inv-loop μ-loop
-add-k c = let a = all-cells (c .before .before .before .before .before .before .before .before .before .before .before .before .before .before .before .args .n) (c .before .before .before .before .before .before .before .before .before .before .before .before .before .before .before .pre .0) in omega (arith, a .0, a .1)
+add-k c =
+    let args = c .before .before .before .before .before .before .before .before .before .before .before .before .before .before .before .args in
+    let pre = c .before .before .before .before .before .before .before .before .before .before .before .before .before .before .before .pre in
+    let a = all-cells (args .n) (pre .0) in omega (arith, a .0, a .1)
 
 loop-less : tie.Need-loop-less Inv-loop μ-loop
 loop-less c = omega arith
 
 loop-again : tie.Need-loop-again Inv-loop μ-loop
-loop-again c = taking-next _ _ _ _ (c .before .before .before .before .before .before .before .before .before .before .before .loop .inv) (c .before .before .before .before .before .before .before .before .before .line-at .ensures) (c .before .before .before .before .before .before .before .before .before .before .loop-test .taken) _ (put-pair _ (c .before .before .before .before .before .before .before .before .before .before .before .loop .inv .holds) (c .before .before .before .before .before .put-pair .ensures) (not-false _ (c .if1 .left))) (put-next _ (c .before .before .before .before .before .before .before .before .before .before .before .loop .inv .holds) (c .before .before .before .before .before .put-pair .ensures) (c .before .before .before .before .before .before .before .before .before .before .before .before .before .before .before .pre .0) (not-false _ (c .if1 .left)))
+loop-again c =
+    let after-put-pair = c .before .before .before .before .before in
+    let after-line-at = after-put-pair .before .before .before .before in
+    let in-loop = after-line-at .before in
+    let at-loop = in-loop .before in
+    let start = at-loop .before .before .before .before in
+    taking-next _ _ _ _ (at-loop .loop .inv) (after-line-at .line-at .ensures) (in-loop .loop-test .taken) _ (put-pair _ (at-loop .loop .inv .holds) (after-put-pair .put-pair .ensures) (not-false _ (c .if1 .left))) (put-next _ (at-loop .loop .inv .holds) (after-put-pair .put-pair .ensures) (start .pre .0) (not-false _ (c .if1 .left)))
 
 same-length-3 : tie.Need-same-length-3 Inv-loop μ-loop
 same-length-3 c = c .before .loop .inv .holds .long ∙ sym (ap length (c .before .before .before .before .before .pre .1))

@@ -23,39 +23,65 @@ line-at-requires : tie.Need-line-at-requires Inv-loop μ-loop
 line-at-requires c κs = search needs
 
 same-length : tie.Need-same-length Inv-loop μ-loop
-same-length c = c .before .before .before .before .before .loop .inv .holds .labels ∙ sym (blank (c .before .before .before .before .before .before .before .before .before .pre .1))
+same-length c =
+    let at-loop = c .before .before .before .before .before in
+    let start = at-loop .before .before .before .before in
+    at-loop .loop .inv .holds .labels ∙ sym (blank (start .pre .1))
 
 same-length-2 : tie.Need-same-length-2 Inv-loop μ-loop
-same-length-2 c = c .before .before .before .before .before .loop .inv .holds .strata ∙ sym (blank (c .before .before .before .before .before .before .before .before .before .pre .2))
+same-length-2 c =
+    let at-loop = c .before .before .before .before .before in
+    let start = at-loop .before .before .before .before in
+    at-loop .loop .inv .holds .strata ∙ sym (blank (start .pre .2))
 
 returns : tie.Need-returns Inv-loop μ-loop
 unfolding ReachedBy
-returns c = taking-other _ _ _ _ (c .before .before .before .before .before .loop .inv) (c .before .before .before .line-at .ensures) (c .before .before .before .before .loop-test .taken) (not-a2 _ _ (c .if1 .taken))
+returns c =
+    let after-line-at = c .before .before .before in
+    let in-loop = after-line-at .before in
+    let at-loop = in-loop .before in
+    taking-other _ _ _ _ (at-loop .loop .inv) (after-line-at .line-at .ensures) (in-loop .loop-test .taken) (not-a2 _ _ (c .if1 .taken))
 
 cast-if2 : tie.Need-cast-if2 Inv-loop μ-loop
 cast-if2 c = omega arith
 
 same-length-3 : tie.Need-same-length-3 Inv-loop μ-loop
-same-length-3 c = c .before .before .before .before .before .before .before .loop .inv .holds .labels ∙ sym (blank (c .before .before .before .before .before .before .before .before .before .before .before .pre .1))
+same-length-3 c =
+    let at-loop = c .before .before .before .before .before .before .before in
+    let start = at-loop .before .before .before .before in
+    at-loop .loop .inv .holds .labels ∙ sym (blank (start .pre .1))
 
 same-length-4 : tie.Need-same-length-4 Inv-loop μ-loop
-same-length-4 c = c .before .before .before .before .before .before .before .loop .inv .holds .strata ∙ sym (blank (c .before .before .before .before .before .before .before .before .before .before .before .pre .2))
+same-length-4 c =
+    let at-loop = c .before .before .before .before .before .before .before in
+    let start = at-loop .before .before .before .before in
+    at-loop .loop .inv .holds .strata ∙ sym (blank (start .pre .2))
 
 returns-2 : tie.Need-returns-2 Inv-loop μ-loop
 unfolding ReachedBy
-returns-2 c = taking-other _ _ _ _ (c .before .before .before .before .before .before .before .loop .inv) (c .before .before .before .before .before .line-at .ensures) (c .before .before .before .before .before .before .loop-test .taken) (out-of-order _ _ (c .before .before .before .before .before .before .before .loop .inv .many) (c .before .before .if1 .left) (c .if2 .taken))
+returns-2 c =
+    let after-line-at = c .before .before .before .before .before in
+    let in-loop = after-line-at .before in
+    let at-loop = in-loop .before in
+    taking-other _ _ _ _ (at-loop .loop .inv) (after-line-at .line-at .ensures) (in-loop .loop-test .taken) (out-of-order _ _ (at-loop .loop .inv .many) (c .before .before .if1 .left) (c .if2 .taken))
 
 mul-labels : tie.Need-mul-labels Inv-loop μ-loop
 mul-labels c = omega arith
 
 slice-write-labels : tie.Need-slice-write-labels Inv-loop μ-loop
-slice-write-labels c = omega (arith, c .before .before .before .before .before .before .before .loop .inv .holds .labels, c .before .before .before .before .before .before .before .before .before .before .before .pre .0)
+slice-write-labels c =
+    let turn = c .before .before .before .before .before .before .before .loop in
+    let pre = c .before .before .before .before .before .before .before .before .before .before .before .pre in
+    omega (arith, turn .inv .holds .labels, pre .0)
 
 mul-strata : tie.Need-mul-strata Inv-loop μ-loop
 mul-strata c = omega arith
 
 slice-write-strata : tie.Need-slice-write-strata Inv-loop μ-loop
-slice-write-strata c = omega (arith, c .before .before .before .before .before .before .before .loop .inv .holds .strata, c .before .before .before .before .before .before .before .before .before .before .before .pre .0)
+slice-write-strata c =
+    let turn = c .before .before .before .before .before .before .before .loop in
+    let pre = c .before .before .before .before .before .before .before .before .before .before .before .pre in
+    omega (arith, turn .inv .holds .strata, pre .0)
 
 add-k : tie.Need-add-k Inv-loop μ-loop
 add-k c = omega arith
@@ -64,7 +90,12 @@ loop-less : tie.Need-loop-less Inv-loop μ-loop
 loop-less c = omega arith
 
 loop-again : tie.Need-loop-again Inv-loop μ-loop
-loop-again c = taking-next _ _ _ _ (c .before .before .before .before .before .before .before .loop .inv) (c .before .before .before .before .before .line-at .ensures) (c .before .before .before .before .before .before .loop-test .taken) _ (is-sample _ _ (c .before .before .before .before .before .before .before .loop .inv .many) (c .before .before .if1 .left) (c .if2 .left)) (sampled-next _ _ (c .before .before .before .before .before .before .before .loop .inv .many) (omega (arith, c .before .before .before .before .before .before .before .before .before .before .before .pre .0)) (c .before .before .before .before .before .before .before .loop .inv .holds))
+loop-again c =
+    let line-at = c .before .before .before .before .before .line-at in
+    let loop-test = c .before .before .before .before .before .before .loop-test in
+    let turn = c .before .before .before .before .before .before .before .loop in
+    let pre = c .before .before .before .before .before .before .before .before .before .before .before .pre in
+    taking-next _ _ _ _ (turn .inv) (line-at .ensures) (loop-test .taken) _ (is-sample _ _ (turn .inv .many) (c .before .before .if1 .left) (c .if2 .left)) (sampled-next _ _ (turn .inv .many) (omega (arith, pre .0)) (turn .inv .holds))
 
 same-length-5 : tie.Need-same-length-5 Inv-loop μ-loop
 same-length-5 c = c .before .loop .inv .holds .labels ∙ sym (blank (c .before .before .before .before .before .pre .1))

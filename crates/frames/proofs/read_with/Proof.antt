@@ -10,13 +10,19 @@ clear-all-requires : tie.Need-clear-all-requires
 clear-all-requires c κs = c .before .before .before .before .before .before .before .before .pre .0
 
 read-over-requires : tie.Need-read-over-requires
-read-over-requires c κs = (c .before .before .before .before .before .before .before .before .before .before .clear-all .ensures, c .before .before .before .before .before .before .before .before .before .before .before .before .before .before .before .before .before .before .before .pre .1)
+read-over-requires c κs =
+    let after-clear-all = c .before .before .before .before .before .before .before .before .before .before in
+    let start = after-clear-all .before .before .before .before .before .before .before .before .before in
+    (after-clear-all .clear-all .ensures, start .pre .1)
 
 enum-told : tie.Need-enum-told
 enum-told c = search needs
 
 clear-all-requires-2 : tie.Need-clear-all-requires-2
-clear-all-requires-2 c κs = room-kept (c .before .before .before .before .before .before .before .before .before .before .before .before .before .before .before .before .before .before .before .before .before .before .before .before .clear-all .ensures) (c .before .before .before .before .before .before .before .before .before .before .before .before .before .read-over .kept .1 .0) (c .before .before .before .before .before .before .before .before .before .before .before .before .before .read-over .kept .1 .1 .0) (c .before .before .before .before .before .before .before .before .before .before .before .before .before .read-over .kept .1 .1 .1 .0)
+clear-all-requires-2 c κs =
+    let after-read-over = c .before .before .before .before .before .before .before .before .before .before .before .before .before in
+    let after-clear-all = after-read-over .before .before .before .before .before .before .before .before .before .before .before in
+    room-kept (after-clear-all .clear-all .ensures) (after-read-over .read-over .kept .1 .0) (after-read-over .read-over .kept .1 .1 .0) (after-read-over .read-over .kept .1 .1 .1 .0)
 
 enum-told-2 : tie.Need-enum-told-2
 enum-told-2 c = search needs
@@ -34,7 +40,11 @@ same-length-4 : tie.Need-same-length-4
 same-length-4 c = search needs
 
 returns : tie.Need-returns
-returns c = whole-refused _ _ _ _ (c .before .before .before .before .before .before .before .before .before .before .before .before .before .before .before .before .before .before .before .before .read-over .ensures) (c .before .before .before .before .before .before .before .before .before .before .enum-told .given .1) (c .before .before .before .before .before .before .clear-all2 .ensures)
+returns c =
+    let after-clear-all2 = c .before .before .before .before .before .before in
+    let after-enum-told = after-clear-all2 .before .before .before .before in
+    let after-read-over = after-enum-told .before .before .before .before .before .before .before .before .before .before in
+    whole-refused _ _ _ _ (after-read-over .read-over .ensures) (after-enum-told .enum-told .given .1) (after-clear-all2 .clear-all2 .ensures)
 
 same-length-5 : tie.Need-same-length-5
 same-length-5 c = search needs

@@ -16,7 +16,9 @@ leading-requires : tie.Need-leading-requires
 leading-requires c κs = search needs
 
 is-lacking-requires : tie.Need-is-lacking-requires
-is-lacking-requires c κs = omega (arith, c .leading .ensures, min-le-right (c .before .before .before .before .before .before .before .before .before .args .components) (c .before .before .before .before .before .before .before .before .before .args .n))
+is-lacking-requires c κs =
+    let args = c .before .before .before .before .before .before .before .before .before .args in
+    omega (arith, c .leading .ensures, min-le-right (args .components) (args .n))
 
 bad-components-requires : tie.Need-bad-components-requires
 bad-components-requires c κs = search needs
@@ -31,22 +33,34 @@ ordinate-sets-requires c κs =
     ((omega (arith, at-leading .leading .ensures, min-le-right (a .components) (a .n)), λ e. asked (a .components) (a .n) (sym (at-bad-components .bad-components .ensures) ∙ e) (at-leading .leading .ensures) .most), λ e. lent (at-leading .leading .result) (a .n) (length (a .out .now)) (length (a .b .now)) (length (a .w .now)) (length (a .m .now)) (length (a .v .now)) (length (a .words .now)) (sym (at-is-lacking .is-lacking .ensures) ∙ e))
 
 same-length : tie.Need-same-length
-same-length c = c .before .before .before .before .before .before .before .before .before .before .before .before .ordinate-sets .kept .1 .1 .1 .1 .1 .1 .0
+same-length c =
+    let after-ordinate-sets = c .before .before .before .before .before .before .before .before .before .before .before .before in
+    after-ordinate-sets .ordinate-sets .kept .1 .1 .1 .1 .1 .1 .0
 
 same-length-2 : tie.Need-same-length-2
-same-length-2 c = c .before .before .before .before .before .before .before .before .before .before .before .before .ordinate-sets .kept .1 .1 .1 .1 .1 .1 .1 .0
+same-length-2 c =
+    let after-ordinate-sets = c .before .before .before .before .before .before .before .before .before .before .before .before in
+    after-ordinate-sets .ordinate-sets .kept .1 .1 .1 .1 .1 .1 .1 .0
 
 same-length-3 : tie.Need-same-length-3
-same-length-3 c = c .before .before .before .before .before .before .before .before .before .before .before .before .ordinate-sets .kept .1 .1 .1 .1 .1 .1 .1 .1 .0
+same-length-3 c =
+    let after-ordinate-sets = c .before .before .before .before .before .before .before .before .before .before .before .before in
+    after-ordinate-sets .ordinate-sets .kept .1 .1 .1 .1 .1 .1 .1 .1 .0
 
 same-length-4 : tie.Need-same-length-4
-same-length-4 c = c .before .before .before .before .before .before .before .before .before .before .before .before .ordinate-sets .kept .1 .1 .1 .1 .1 .1 .1 .1 .1 .0
+same-length-4 c =
+    let after-ordinate-sets = c .before .before .before .before .before .before .before .before .before .before .before .before in
+    after-ordinate-sets .ordinate-sets .kept .1 .1 .1 .1 .1 .1 .1 .1 .1 .0
 
 same-length-5 : tie.Need-same-length-5
-same-length-5 c = c .before .before .before .before .before .before .before .before .before .before .before .before .ordinate-sets .kept .1 .1 .1 .1 .1 .1 .1 .1 .1 .1 .0
+same-length-5 c =
+    let after-ordinate-sets = c .before .before .before .before .before .before .before .before .before .before .before .before in
+    after-ordinate-sets .ordinate-sets .kept .1 .1 .1 .1 .1 .1 .1 .1 .1 .1 .0
 
 same-length-6 : tie.Need-same-length-6
-same-length-6 c = c .before .before .before .before .before .before .before .before .before .before .before .before .ordinate-sets .kept .1 .1 .1 .1 .1 .1 .1 .1 .1 .1 .1 .0
+same-length-6 c =
+    let after-ordinate-sets = c .before .before .before .before .before .before .before .before .before .before .before .before in
+    after-ordinate-sets .ordinate-sets .kept .1 .1 .1 .1 .1 .1 .1 .1 .1 .1 .1 .0
 
 returns : tie.Need-returns
 returns c =

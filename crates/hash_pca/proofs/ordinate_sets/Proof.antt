@@ -48,22 +48,35 @@ enum-told-2 : tie.Need-enum-told-2
 enum-told-2 c = search needs
 
 same-length-3 : tie.Need-same-length-3
-same-length-3 c = c .before .before .before .before .before .before .before .before .before .before .before .before .before .settle .kept .1 .1 .0
+same-length-3 c =
+    let after-settle = c .before .before .before .before .before .before .before .before .before .before .before .before .before in
+    after-settle .settle .kept .1 .1 .0
 
 same-length-4 : tie.Need-same-length-4
-same-length-4 c = c .before .before .before .before .before .before .before .before .before .before .before .before .before .settle .kept .1 .1 .1 .0 ∙ c .before .before .before .before .before .before .before .before .before .before .before .before .before .before .before .before .before .before .before .before .before .before .before .before .before .before .matrix .kept .0
+same-length-4 c =
+    let after-settle = c .before .before .before .before .before .before .before .before .before .before .before .before .before in
+    let after-matrix = after-settle .before .before .before .before .before .before .before .before .before .before .before .before .before in
+    after-settle .settle .kept .1 .1 .1 .0 ∙ after-matrix .matrix .kept .0
 
 same-length-5 : tie.Need-same-length-5
-same-length-5 c = c .before .before .before .before .before .before .before .before .before .before .before .before .before .settle .kept .1 .1 .1 .1 .0
+same-length-5 c =
+    let after-settle = c .before .before .before .before .before .before .before .before .before .before .before .before .before in
+    after-settle .settle .kept .1 .1 .1 .1 .0
 
 same-length-6 : tie.Need-same-length-6
-same-length-6 c = c .before .before .before .before .before .before .before .before .before .before .before .before .before .settle .kept .1 .1 .1 .1 .1 .0
+same-length-6 c =
+    let after-settle = c .before .before .before .before .before .before .before .before .before .before .before .before .before in
+    after-settle .settle .kept .1 .1 .1 .1 .1 .0
 
 same-length-7 : tie.Need-same-length-7
-same-length-7 c = c .before .before .before .before .before .before .before .before .before .before .before .before .before .settle .kept .1 .1 .1 .1 .1 .1 .0
+same-length-7 c =
+    let after-settle = c .before .before .before .before .before .before .before .before .before .before .before .before .before in
+    after-settle .settle .kept .1 .1 .1 .1 .1 .1 .0
 
 same-length-8 : tie.Need-same-length-8
-same-length-8 c = c .before .before .before .before .before .before .before .before .before .before .before .before .before .before .before .before .before .before .before .before .before .before .before .before .before .before .matrix .kept .1 .0
+same-length-8 c =
+    let after-matrix = c .before .before .before .before .before .before .before .before .before .before .before .before .before .before .before .before .before .before .before .before .before .before .before .before .before .before in
+    after-matrix .matrix .kept .1 .0
 
 returns-2 : tie.Need-returns-2
 returns-2 c =
@@ -75,22 +88,35 @@ returns-2 c =
     sets-settled (at-start .args .k) (at-start .args .n) (at-start .args .hashes .now) (at-start .args .offsets .now) (at-start .args .short) (at-start .args .beyond) (at-start .args .out .now) (at-start .args .b .now) (at-start .args .w .now) (at-start .args .m .now) (at-start .args .v .now) (at-start .args .words .now) (at-matrix .matrix .result) (at-matrix .matrix .ensures) (at-a .a .given .0 .0) (at-a .a .given .1) (answer.Refused (at-c .c .given .0 .0)) (at-matrix .matrix .kept .0) (at-settle .settle .ensures) (said-refused (at-a .a .given .0 .0) (at-c .c .given .0 .0) (at-c .c .given .1))
 
 same-length-9 : tie.Need-same-length-9
-same-length-9 c = c .before .before .before .before .before .before .before .before .before .before .before .before .settle .kept .1 .1 .0
+same-length-9 c =
+    let after-settle = c .before .before .before .before .before .before .before .before .before .before .before .before in
+    after-settle .settle .kept .1 .1 .0
 
 same-length-10 : tie.Need-same-length-10
-same-length-10 c = c .before .before .before .before .before .before .before .before .before .before .before .before .settle .kept .1 .1 .1 .0 ∙ c .before .before .before .before .before .before .before .before .before .before .before .before .before .before .before .before .before .before .before .before .before .before .before .before .before .matrix .kept .0
+same-length-10 c =
+    let after-settle = c .before .before .before .before .before .before .before .before .before .before .before .before in
+    let after-matrix = after-settle .before .before .before .before .before .before .before .before .before .before .before .before .before in
+    after-settle .settle .kept .1 .1 .1 .0 ∙ after-matrix .matrix .kept .0
 
 same-length-11 : tie.Need-same-length-11
-same-length-11 c = c .before .before .before .before .before .before .before .before .before .before .before .before .settle .kept .1 .1 .1 .1 .0
+same-length-11 c =
+    let after-settle = c .before .before .before .before .before .before .before .before .before .before .before .before in
+    after-settle .settle .kept .1 .1 .1 .1 .0
 
 same-length-12 : tie.Need-same-length-12
-same-length-12 c = c .before .before .before .before .before .before .before .before .before .before .before .before .settle .kept .1 .1 .1 .1 .1 .0
+same-length-12 c =
+    let after-settle = c .before .before .before .before .before .before .before .before .before .before .before .before in
+    after-settle .settle .kept .1 .1 .1 .1 .1 .0
 
 same-length-13 : tie.Need-same-length-13
-same-length-13 c = c .before .before .before .before .before .before .before .before .before .before .before .before .settle .kept .1 .1 .1 .1 .1 .1 .0
+same-length-13 c =
+    let after-settle = c .before .before .before .before .before .before .before .before .before .before .before .before in
+    after-settle .settle .kept .1 .1 .1 .1 .1 .1 .0
 
 same-length-14 : tie.Need-same-length-14
-same-length-14 c = c .before .before .before .before .before .before .before .before .before .before .before .before .before .before .before .before .before .before .before .before .before .before .before .before .before .matrix .kept .1 .0
+same-length-14 c =
+    let after-matrix = c .before .before .before .before .before .before .before .before .before .before .before .before .before .before .before .before .before .before .before .before .before .before .before .before .before in
+    after-matrix .matrix .kept .1 .0
 
 returns-3 : tie.Need-returns-3
 returns-3 c =

@@ -47,7 +47,9 @@ loop-less : tie.Need-loop-less Inv-loop μ-loop
 loop-less c = omega arith
 
 loop-again : tie.Need-loop-again Inv-loop μ-loop
-loop-again c = (omega arith, length-set (c .before .before .loop .out) (c .before .before .before .before .args .at + c .before .before .loop .i) (c .digit-of .result) ∙ c .before .before .loop .inv .1, sym (hex-next _ _ _ _ _ _ (c .before .loop-test .taken) (c .digit-of .ensures)) ∙ c .before .before .loop .inv .2)
+loop-again c =
+    let turn = c .before .before .loop in
+    (omega arith, length-set (turn .out) (c .before .before .before .before .args .at + turn .i) (c .digit-of .result) ∙ turn .inv .1, sym (hex-next _ _ _ _ _ _ (c .before .loop-test .taken) (c .digit-of .ensures)) ∙ turn .inv .2)
 
 add-result : tie.Need-add-result Inv-loop μ-loop
 add-result c = omega arith

@@ -15,7 +15,9 @@ slice-aggregate-count-with : tie.Need-slice-aggregate-count-with
 slice-aggregate-count-with c = sym (length-take-le _ _ (omega (arith, c .before .before .before .before .before .before .before .before .before .before .before .pre .0 .kept)))
 
 count-with-requires : tie.Need-count-with-requires
-count-with-requires c κs = (c .before .before .before .before .before .before .before .before .before .before .before .before .pre .0, (c .before .before .before .before .before .before .before .before .before .before .before .before .pre .1, length-take-le _ _ (omega (arith, c .before .before .before .before .before .before .before .before .before .before .before .before .pre .0 .kept))))
+count-with-requires c κs =
+    let pre = c .before .before .before .before .before .before .before .before .before .before .before .before .pre in
+    (pre .0, (pre .1, length-take-le _ _ (omega (arith, pre .0 .kept))))
 
 same-length : tie.Need-same-length
 same-length c = search needs

@@ -25,7 +25,10 @@ same-length-4 : tie.Need-same-length-4
 same-length-4 c = search needs
 
 returns : tie.Need-returns
-returns c = judged-text (c .before .before .before .before .before .before .before .before .before .before .before .before .before .before .before .before .before .before .before .args .text .now) (c .before .before .before .before .before .before .before .before .before .before .before .before .before .before .before .before .before .before .before .args .out .now) (c .before .before .before .before .before .before .before .before .before .before .judge-text .ensures) (c .before .before .print-into .ensures)
+returns c =
+    let after-judge-text = c .before .before .before .before .before .before .before .before .before .before in
+    let start = after-judge-text .before .before .before .before .before .before .before .before .before in
+    judged-text (start .args .text .now) (start .args .out .now) (after-judge-text .judge-text .ensures) (c .before .before .print-into .ensures)
 
 pub judge-into-spec : {M : Type 1} → statement M
 judge-into-spec =

@@ -14,7 +14,11 @@ enum-known-a : tie.Need-enum-known-a
 enum-known-a c = search needs
 
 judge-front-requires : tie.Need-judge-front-requires
-judge-front-requires c κs = (record { labels = c .before .before .before .before .before .before .before .before .before .before .before .before .read-into .kept .1 .0 ∙ c .before .before .before .before .before .before .before .before .before .before .before .before .before .before .before .before .before .before .before .before .pre .labels; strata = c .before .before .before .before .before .before .before .before .before .before .before .before .read-into .kept .1 .1 .0 ∙ c .before .before .before .before .before .before .before .before .before .before .before .before .before .before .before .before .before .before .before .before .pre .strata; distances = c .before .before .before .before .before .before .before .before .before .before .before .before .read-into .kept .1 .1 .1 .0 ∙ c .before .before .before .before .before .before .before .before .before .before .before .before .before .before .before .before .before .before .before .before .pre .distances }, fits-front (c .before .before .before .before .before .before .before .before .before .before .before .before .before .before .before .before .before .before .before .before .args .text .now) (c .before .before .before .before .before .before .before .before .before .before .before .before .read-into .result) (c .before .before .before .before .before .before .before .before .before .before .before .before .read-into .ensures) (c .before .before .before .before .a .given .1))
+judge-front-requires c κs =
+    let after-a = c .before .before .before .before in
+    let after-read-into = after-a .before .before .before .before .before .before .before .before in
+    let start = after-read-into .before .before .before .before .before .before .before .before in
+    (record { labels = after-read-into .read-into .kept .1 .0 ∙ start .pre .labels; strata = after-read-into .read-into .kept .1 .1 .0 ∙ start .pre .strata; distances = after-read-into .read-into .kept .1 .1 .1 .0 ∙ start .pre .distances }, fits-front (start .args .text .now) (after-read-into .read-into .result) (after-read-into .read-into .ensures) (after-a .a .given .1))
 
 enum-known-a-2 : tie.Need-enum-known-a-2
 enum-known-a-2 c = search needs
@@ -29,7 +33,11 @@ same-length-3 : tie.Need-same-length-3
 same-length-3 c = search needs
 
 returns : tie.Need-returns
-returns c = of-lot (c .before .before .before .before .before .before .before .before .before .before .before .before .before .before .before .before .before .before .before .before .before .args .text .now) (c .before .before .before .before .before .before .before .before .before .before .before .before .before .read-into .result) (c .before .before .before .before .before .before .before .before .before .before .before .before .before .read-into .ensures) (c .before .before .before .before .before .a .given .1) (c .judge-front .ensures)
+returns c =
+    let after-a = c .before .before .before .before .before in
+    let after-read-into = after-a .before .before .before .before .before .before .before .before in
+    let start = after-read-into .before .before .before .before .before .before .before .before in
+    of-lot (start .args .text .now) (after-read-into .read-into .result) (after-read-into .read-into .ensures) (after-a .a .given .1) (c .judge-front .ensures)
 
 same-length-4 : tie.Need-same-length-4
 same-length-4 c = search needs
@@ -41,7 +49,10 @@ same-length-6 : tie.Need-same-length-6
 same-length-6 c = search needs
 
 returns-2 : tie.Need-returns-2
-returns-2 c = of-refusal (c .before .before .before .before .before .before .before .before .before .before .before .before .before .before .before .before .before .args .text .now) (c .before .before .before .before .before .before .before .before .before .read-into .result) (c .before .before .before .before .before .before .before .before .before .read-into .ensures) (c .before .a2 .given .1)
+returns-2 c =
+    let after-read-into = c .before .before .before .before .before .before .before .before .before in
+    let start = after-read-into .before .before .before .before .before .before .before .before in
+    of-refusal (start .args .text .now) (after-read-into .read-into .result) (after-read-into .read-into .ensures) (c .before .a2 .given .1)
 
 pub judge-text-spec : {M : Type 1} → statement M
 judge-text-spec =

@@ -39,7 +39,10 @@ exhaustive-requires : tie.Need-exhaustive-requires
 exhaustive-requires c κs = search needs
 
 returns : tie.Need-returns
-returns c = judged-by (lotOf (c .before .before .before .before .before .before .before .before .before .before .before .before .before .before .before .before .before .before .before .before .before .before .before .args .n) (c .before .before .before .before .before .before .before .before .before .before .before .before .before .before .before .before .before .before .before .before .before .before .before .args .distances .now) (c .before .before .before .before .before .before .before .before .before .before .before .before .before .before .before .before .before .before .before .before .before .before .before .args .labels .now) (c .before .before .before .before .before .before .before .before .before .before .before .before .before .before .before .before .before .before .before .before .before .before .before .args .stratified) (c .before .before .before .before .before .before .before .before .before .before .before .before .before .before .before .before .before .before .before .before .before .before .before .args .strata .now) false (c .before .before .before .before .before .before .before .before .before .before .before .before .before .before .before .before .before .before .before .before .before .before .before .args .weights .now)) (c .before .before .before .before .before .before .before .before .before .exhaustive .result) (c .before .before .before .before .before .before .before .before .before .before .before .before .before .before .before .before .before .before .before .before .before .before .before .pre) (c .before .before .before .before .before .before .before .before .before .exhaustive .ensures)
+returns c =
+    let after-exhaustive = c .before .before .before .before .before .before .before .before .before in
+    let start = after-exhaustive .before .before .before .before .before .before .before .before .before .before .before .before .before .before in
+    judged-by (lotOf (start .args .n) (start .args .distances .now) (start .args .labels .now) (start .args .stratified) (start .args .strata .now) false (start .args .weights .now)) (after-exhaustive .exhaustive .result) (start .pre) (after-exhaustive .exhaustive .ensures)
 
 pub judge-lot-spec : {M : Type 1} → statement M
 judge-lot-spec =

@@ -25,7 +25,9 @@ add-t6 c = omega (arith, mul-le-mul (c .before .if1 .left) (c .if2 .left))
 
 returns-3 : tie.Need-returns-3
 unfolding dapcLengths
-returns-3 c = within (dapcLengths (c .before .before .before .args .n) (c .before .before .before .args .columns)) (c .before .before .before .args .lengths .now) (rw (le-ltb 256 (c .before .before .before .args .n) (c .before .before .if1 .left)) (le-ltb 16 (c .before .before .before .args .columns) (c .before .if2 .left)))
+returns-3 c =
+    let args = c .before .before .before .args in
+    within (dapcLengths (args .n) (args .columns)) (args .lengths .now) (rw (le-ltb 256 (args .n) (c .before .before .if1 .left)) (le-ltb 16 (args .columns) (c .before .if2 .left)))
 
 pub dapc-lengths-spec : {M : Type 1} → statement M
 dapc-lengths-spec = tie.close (tie.spec returns returns-2 mul-t5 add-t6 returns-3)

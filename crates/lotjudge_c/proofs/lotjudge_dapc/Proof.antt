@@ -18,7 +18,10 @@ same-length-2 : tie.Need-same-length-2
 same-length-2 c = c .before .before .before .before .before .before .dapc .kept .1 .1 .1 .1 .1 .0
 
 returns : tie.Need-returns
-returns c = dapc-returns (c .before .before .before .before .before .before .dapc .result) (c .before .before .before .before .before .before .before .before .before .before .before .before .before .args .numbers .now) (c .before .before .before .before .before .before .dapc .ensures) (c .lay-scores .ensures)
+returns c =
+    let after-dapc = c .before .before .before .before .before .before in
+    let start = after-dapc .before .before .before .before .before .before .before in
+    dapc-returns (after-dapc .dapc .result) (start .args .numbers .now) (after-dapc .dapc .ensures) (c .lay-scores .ensures)
 
 pub lotjudge-dapc-spec : {M : Type 1} → statement M
 lotjudge-dapc-spec = tie.close (tie.spec dapc-requires lay-scores-requires same-length same-length-2 returns)

@@ -12,25 +12,40 @@ lay-selected-requires : tie.Need-lay-selected-requires
 lay-selected-requires c κs = search needs
 
 same-length : tie.Need-same-length
-same-length c = c .before .before .before .before .before .before .before .before .before .before .before .before .before .before .hash-pca .kept .1 .1 .1 .1 .0
+same-length c =
+    let after-hash-pca = c .before .before .before .before .before .before .before .before .before .before .before .before .before .before in
+    after-hash-pca .hash-pca .kept .1 .1 .1 .1 .0
 
 same-length-2 : tie.Need-same-length-2
-same-length-2 c = c .before .before .before .before .before .before .before .before .before .before .before .before .before .before .hash-pca .kept .1 .1 .1 .1 .1 .0
+same-length-2 c =
+    let after-hash-pca = c .before .before .before .before .before .before .before .before .before .before .before .before .before .before in
+    after-hash-pca .hash-pca .kept .1 .1 .1 .1 .1 .0
 
 same-length-3 : tie.Need-same-length-3
-same-length-3 c = c .before .before .before .before .before .before .before .before .before .before .before .before .before .before .hash-pca .kept .1 .1 .1 .1 .1 .1 .0
+same-length-3 c =
+    let after-hash-pca = c .before .before .before .before .before .before .before .before .before .before .before .before .before .before in
+    after-hash-pca .hash-pca .kept .1 .1 .1 .1 .1 .1 .0
 
 same-length-4 : tie.Need-same-length-4
-same-length-4 c = c .before .before .before .before .before .before .before .before .before .before .before .before .before .before .hash-pca .kept .1 .1 .1 .1 .1 .1 .1 .0
+same-length-4 c =
+    let after-hash-pca = c .before .before .before .before .before .before .before .before .before .before .before .before .before .before in
+    after-hash-pca .hash-pca .kept .1 .1 .1 .1 .1 .1 .1 .0
 
 same-length-5 : tie.Need-same-length-5
-same-length-5 c = c .before .before .before .before .before .before .before .before .before .before .before .before .before .before .hash-pca .kept .1 .1 .1 .1 .1 .1 .1 .1 .0
+same-length-5 c =
+    let after-hash-pca = c .before .before .before .before .before .before .before .before .before .before .before .before .before .before in
+    after-hash-pca .hash-pca .kept .1 .1 .1 .1 .1 .1 .1 .1 .0
 
 same-length-6 : tie.Need-same-length-6
-same-length-6 c = c .before .before .before .before .before .before .before .before .before .before .before .before .before .before .hash-pca .kept .1 .1 .1 .1 .1 .1 .1 .1 .1 .0
+same-length-6 c =
+    let after-hash-pca = c .before .before .before .before .before .before .before .before .before .before .before .before .before .before in
+    after-hash-pca .hash-pca .kept .1 .1 .1 .1 .1 .1 .1 .1 .1 .0
 
 returns : tie.Need-returns
-returns c = hash-pca-returns (c .before .before .before .before .before .before .before .before .before .before .before .before .before .before .hash-pca .result) (c .before .before .before .before .before .before .before .before .before .before .before .before .before .before .before .before .before .before .before .before .before .before .before .before .before .before .before .before .before .args .selected .now) (c .before .before .before .before .before .before .before .before .before .before .before .before .before .before .hash-pca .ensures) (c .lay-selected .ensures)
+returns c =
+    let after-hash-pca = c .before .before .before .before .before .before .before .before .before .before .before .before .before .before in
+    let start = after-hash-pca .before .before .before .before .before .before .before .before .before .before .before .before .before .before .before in
+    hash-pca-returns (after-hash-pca .hash-pca .result) (start .args .selected .now) (after-hash-pca .hash-pca .ensures) (c .lay-selected .ensures)
 
 pub lotjudge-hash-pca-spec : {M : Type 1} → statement M
 lotjudge-hash-pca-spec = tie.close (tie.spec hash-pca-requires lay-selected-requires same-length same-length-2 same-length-3 same-length-4 same-length-5 same-length-6 returns)

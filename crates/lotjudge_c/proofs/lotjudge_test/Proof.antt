@@ -13,22 +13,35 @@ lay-test-requires : tie.Need-lay-test-requires
 lay-test-requires c κs = search needs
 
 same-length : tie.Need-same-length
-same-length c = c .before .before .before .before .before .before .before .before .before .before .before .before .before .test .kept .1 .1 .1 .1 .1 .1 .1 .1 .1 .0
+same-length c =
+    let after-test = c .before .before .before .before .before .before .before .before .before .before .before .before .before in
+    after-test .test .kept .1 .1 .1 .1 .1 .1 .1 .1 .1 .0
 
 same-length-2 : tie.Need-same-length-2
-same-length-2 c = c .before .before .before .before .before .before .before .before .before .before .before .before .before .test .kept .1 .1 .1 .1 .1 .1 .1 .1 .1 .1 .0
+same-length-2 c =
+    let after-test = c .before .before .before .before .before .before .before .before .before .before .before .before .before in
+    after-test .test .kept .1 .1 .1 .1 .1 .1 .1 .1 .1 .1 .0
 
 same-length-3 : tie.Need-same-length-3
-same-length-3 c = c .before .before .before .before .before .before .before .before .before .before .before .before .before .test .kept .1 .1 .1 .1 .1 .1 .1 .1 .1 .1 .1 .0
+same-length-3 c =
+    let after-test = c .before .before .before .before .before .before .before .before .before .before .before .before .before in
+    after-test .test .kept .1 .1 .1 .1 .1 .1 .1 .1 .1 .1 .1 .0
 
 same-length-4 : tie.Need-same-length-4
-same-length-4 c = c .before .before .before .before .before .before .before .before .before .before .before .before .before .test .kept .1 .1 .1 .1 .1 .1 .1 .1 .1 .1 .1 .1 .0
+same-length-4 c =
+    let after-test = c .before .before .before .before .before .before .before .before .before .before .before .before .before in
+    after-test .test .kept .1 .1 .1 .1 .1 .1 .1 .1 .1 .1 .1 .1 .0
 
 same-length-5 : tie.Need-same-length-5
-same-length-5 c = c .before .before .before .before .before .before .before .before .before .before .before .before .before .test .kept .1 .1 .1 .1 .1 .1 .1 .1 .1 .1 .1 .1 .1 .0
+same-length-5 c =
+    let after-test = c .before .before .before .before .before .before .before .before .before .before .before .before .before in
+    after-test .test .kept .1 .1 .1 .1 .1 .1 .1 .1 .1 .1 .1 .1 .1 .0
 
 returns : tie.Need-returns
-returns c = test-returns (c .before .before .before .before .before .before .before .before .before .before .before .before .before .test .result) (arrays (c .before .before .before .before .before .before .before .before .before .before .before .before .before .before .before .before .before .before .before .before .before .before .before .before .before .before .before .before .args .values .now) (c .before .before .before .before .before .before .before .before .before .before .before .before .before .before .before .before .before .before .before .before .before .before .before .before .before .before .before .before .args .numbers .now)) (c .before .before .before .before .before .before .before .before .before .before .before .before .before .test .ensures) (c .lay-test .ensures)
+returns c =
+    let after-test = c .before .before .before .before .before .before .before .before .before .before .before .before .before in
+    let start = after-test .before .before .before .before .before .before .before .before .before .before .before .before .before .before .before in
+    test-returns (after-test .test .result) (arrays (start .args .values .now) (start .args .numbers .now)) (after-test .test .ensures) (c .lay-test .ensures)
 
 pub lotjudge-test-spec : {M : Type 1} → statement M
 lotjudge-test-spec = tie.close (tie.spec test-requires lay-test-requires same-length same-length-2 same-length-3 same-length-4 same-length-5 returns)

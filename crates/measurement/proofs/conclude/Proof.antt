@@ -30,11 +30,19 @@ together-of-requires : tie.Need-together-of-requires
 together-of-requires c κs = search needs
 
 add-t18 : tie.Need-add-t18
-add-t18 c = record { fits = warnings-fit (c .before .before .before .before .before .left-out .result) (c .before .before .before .before .uninformed .result) (c .before .before .before .few-inform .result) (c .before .before .some-small .result) (c .before .before .before .before .before .before .before .before .before .args .x .negative) (c .before .before .before .before .before .before .before .before .before .args .counts .now) (c .before .before .before .before .before .before .before .before .before .args .x .location) (c .before .before .before .before .before .before .before .before .before .args .x .dispersion) (c .before .warning .ensures) (c .together-of .ensures) }
+add-t18 c =
+    let after-few-inform = c .before .before .before in
+    let after-uninformed = after-few-inform .before in
+    let after-left-out = after-uninformed .before in
+    let start = after-left-out .before .before .before .before in
+    record { fits = warnings-fit (after-left-out .left-out .result) (after-uninformed .uninformed .result) (after-few-inform .few-inform .result) (c .before .before .some-small .result) (start .args .x .negative) (start .args .counts .now) (start .args .x .location) (start .args .x .dispersion) (c .before .warning .ensures) (c .together-of .ensures) }
 
 returns : tie.Need-returns
 unfolding concluded
-returns c = rw (c .together-of .ensures, c .before .warning .ensures, c .before .before .some-small .ensures, c .before .before .before .few-inform .ensures, c .before .before .before .before .uninformed .ensures, c .before .before .before .before .before .left-out .ensures, c .before .before .before .before .before .before .fraction .ensures)
+returns c =
+    let left-out = c .before .before .before .before .before .left-out in
+    let fraction = c .before .before .before .before .before .before .fraction in
+    rw (c .together-of .ensures, c .before .warning .ensures, c .before .before .some-small .ensures, c .before .before .before .few-inform .ensures, c .before .before .before .before .uninformed .ensures, left-out .ensures, fraction .ensures)
 
 pub conclude-spec : {M : Type 1} → statement M
 conclude-spec =

@@ -23,15 +23,24 @@ statistic-of-requires-2 : tie.Need-statistic-of-requires-2
 statistic-of-requires-2 c κs = search needs
 
 draw-requires : tie.Need-draw-requires
-draw-requires c κs = (c .before .before .before .before .before .before .before .before .before .before .before .before .before .before .before .before .before .before .before .before .before .pre .0 .terms, c .before .before .before .before .before .before .before .before .before .before .before .before .before .before .before .before .before .before .before .before .before .pre .0 .weights, c .before .before .before .before .before .before .before .before .before .observe .kept .1 .1 .1 .1 .1 .1 .0 ∙ c .before .before .before .before .before .before .before .before .before .before .before .before .before .before .before .before .before .before .before .before .before .pre .4, c .before .before .before .before .before .before .before .before .before .before .before .before .before .before .before .before .before .before .before .before .before .pre .0 .labels, c .before .before .before .before .before .before .before .before .before .before .before .before .before .before .before .before .before .before .before .before .before .pre .0 .groups, c .before .before .before .before .before .before .before .before .before .before .before .before .before .before .before .before .before .before .before .before .before .pre .0 .some, c .before .before .before .before .before .before .before .before .before .before .before .before .before .before .before .before .before .before .before .before .before .pre .0 .enough, c .before .before .before .before .before .before .before .before .before .before .before .before .before .before .before .before .before .before .before .before .before .pre .0 .few, c .before .before .before .before .before .before .before .before .before .before .before .before .before .before .before .before .before .before .before .before .before .pre .1, c .before .before .before .before .before .before .before .before .before .before .before .before .before .before .before .before .before .before .before .before .before .pre .2, c .before .before .before .before .before .before .before .before .before .before .before .before .before .before .before .before .before .before .before .before .before .pre .3)
+draw-requires c κs =
+    let after-observe = c .before .before .before .before .before .before .before .before .before in
+    let start = after-observe .before .before .before .before .before .before .before .before .before .before .before .before in
+    (start .pre .0 .terms, start .pre .0 .weights, after-observe .observe .kept .1 .1 .1 .1 .1 .1 .0 ∙ start .pre .4, start .pre .0 .labels, start .pre .0 .groups, start .pre .0 .some, start .pre .0 .enough, start .pre .0 .few, start .pre .1, start .pre .2, start .pre .3)
 
 chance-of-requires : tie.Need-chance-of-requires
 unfolding drawn
-chance-of-requires c κs = (omega (arith, hits-few _ (c .before .before .before .before .before .before .before .before .before .before .before .before .before .before .before .before .before .before .before .before .before .before .args .n) (ap (λ (h : Hits). h .location) (c .draw .ensures)), c .before .before .before .before .before .before .before .before .before .before .before .before .before .before .before .before .before .before .before .before .before .before .pre .3), c .before .before .before .before .before .before .before .before .before .before .before .before .before .before .before .before .before .before .before .before .before .before .pre .3)
+chance-of-requires c κs =
+    let args = c .before .before .before .before .before .before .before .before .before .before .before .before .before .before .before .before .before .before .before .before .before .before .args in
+    let pre = c .before .before .before .before .before .before .before .before .before .before .before .before .before .before .before .before .before .before .before .before .before .before .pre in
+    (omega (arith, hits-few _ (args .n) (ap (λ (h : Hits). h .location) (c .draw .ensures)), pre .3), pre .3)
 
 chance-of-requires-2 : tie.Need-chance-of-requires-2
 unfolding drawn
-chance-of-requires-2 c κs = (omega (arith, hits-few _ (c .before .before .before .before .before .before .before .before .before .before .before .before .before .before .before .before .before .before .before .before .before .before .before .args .n) (ap (λ (h : Hits). h .dispersion) (c .before .draw .ensures)), c .before .before .before .before .before .before .before .before .before .before .before .before .before .before .before .before .before .before .before .before .before .before .before .pre .3), c .before .before .before .before .before .before .before .before .before .before .before .before .before .before .before .before .before .before .before .before .before .before .before .pre .3)
+chance-of-requires-2 c κs =
+    let args = c .before .before .before .before .before .before .before .before .before .before .before .before .before .before .before .before .before .before .before .before .before .before .before .args in
+    let pre = c .before .before .before .before .before .before .before .before .before .before .before .before .before .before .before .before .before .before .before .before .before .before .before .pre in
+    (omega (arith, hits-few _ (args .n) (ap (λ (h : Hits). h .dispersion) (c .before .draw .ensures)), pre .3), pre .3)
 
 same-length : tie.Need-same-length
 same-length c = search needs
@@ -44,7 +53,10 @@ same-length-3 c = search needs
 
 returns : tie.Need-returns
 unfolding measured
-returns c = (rw (c .before .chance-of .ensures, c .chance-of2 .ensures, c .before .before .draw .ensures, c .before .before .before .before .before .statistic-of .ensures, c .before .before .before .before .statistic-of2 .ensures, c .before .before .before .before .before .before .before .before .before .before .before .before .observe .ensures .0, c .before .before .before .before .before .before .before .before .before .before .before .before .observe .ensures .1), c .before .before .before .before .before .before .before .before .before .before .before .before .observe .ensures .2, c .before .before .before .before .before .before .before .before .before .before .before .before .observe .ensures .3)
+returns c =
+    let statistic-of = c .before .before .before .before .before .statistic-of in
+    let observe = c .before .before .before .before .before .before .before .before .before .before .before .before .observe in
+    (rw (c .before .chance-of .ensures, c .chance-of2 .ensures, c .before .before .draw .ensures, statistic-of .ensures, c .before .before .before .before .statistic-of2 .ensures, observe .ensures .0, observe .ensures .1), observe .ensures .2, observe .ensures .3)
 
 pub measure-spec : {M : Type 1} → statement M
 measure-spec =

@@ -12,13 +12,22 @@ use Rattle.moments.proofs.fill.Statement.{statement}
 use Rattle.moments.proofs.fill.Tie as tie
 
 mul-k : tie.Need-mul-k
-mul-k c = omega (arith, mul-le-mul {n₁ = c .before .before .before .before .before .before .args .g} {m₁ = c .before .before .before .before .before .before .args .p} {n₂ = 128} {m₂ = 16} (c .before .before .before .before .before .before .pre .1 .3) (c .before .before .before .before .before .before .pre .1 .2))
+mul-k c =
+    let args = c .before .before .before .before .before .before .args in
+    let pre = c .before .before .before .before .before .before .pre in
+    omega (arith, mul-le-mul {n₁ = args .g} {m₁ = args .p} {n₂ = 128} {m₂ = 16} (pre .1 .3) (pre .1 .2))
 
 array-borrow-prefix-mu : tie.Need-array-borrow-prefix-mu
-array-borrow-prefix-mu c = omega (arith, mul-le-mul {n₁ = c .before .before .before .before .before .before .before .before .before .before .args .g} {m₁ = c .before .before .before .before .before .before .before .before .before .before .args .p} {n₂ = 128} {m₂ = 16} (c .before .before .before .before .before .before .before .before .before .before .pre .1 .3) (c .before .before .before .before .before .before .before .before .before .before .pre .1 .2))
+array-borrow-prefix-mu c =
+    let args = c .before .before .before .before .before .before .before .before .before .before .args in
+    let pre = c .before .before .before .before .before .before .before .before .before .before .pre in
+    omega (arith, mul-le-mul {n₁ = args .g} {m₁ = args .p} {n₂ = 128} {m₂ = 16} (pre .1 .3) (pre .1 .2))
 
 slice-aggregate-fill-in : tie.Need-slice-aggregate-fill-in
-slice-aggregate-fill-in c = sym (length-take-le _ _ (omega (arith, mul-le-mul {n₁ = c .before .before .before .before .before .before .before .before .before .before .before .args .g} {m₁ = c .before .before .before .before .before .before .before .before .before .before .before .args .p} {n₂ = 128} {m₂ = 16} (c .before .before .before .before .before .before .before .before .before .before .before .pre .1 .3) (c .before .before .before .before .before .before .before .before .before .before .before .pre .1 .2))))
+slice-aggregate-fill-in c =
+    let args = c .before .before .before .before .before .before .before .before .before .before .before .args in
+    let pre = c .before .before .before .before .before .before .before .before .before .before .before .pre in
+    sym (length-take-le _ _ (omega (arith, mul-le-mul {n₁ = args .g} {m₁ = args .p} {n₂ = 128} {m₂ = 16} (pre .1 .3) (pre .1 .2))))
 
 array-borrow-prefix-d : tie.Need-array-borrow-prefix-d
 array-borrow-prefix-d c = omega arith
@@ -33,10 +42,12 @@ slice-aggregate-fill-in-3 : tie.Need-slice-aggregate-fill-in-3
 slice-aggregate-fill-in-3 c = sym (length-take-le _ _ (omega arith))
 
 fill-in-requires : tie.Need-fill-in-requires
-fill-in-requires c κs = (
-  (c .before .before .before .before .before .before .before .before .before .before .before .before .before .pre .0 .0, c .before .before .before .before .before .before .before .before .before .before .before .before .before .pre .0 .1, c .before .before .before .before .before .before .before .before .before .before .before .before .before .pre .0 .2, c .before .before .before .before .before .before .before .before .before .before .before .before .before .pre .0 .3, take-replicate (c .before .before .before .before .before .before .before .before .before .before .before .before .before .args .g * c .before .before .before .before .before .before .before .before .before .before .before .before .before .args .p) 2048 zero⁺ (omega (arith, mul-le-mul {n₁ = c .before .before .before .before .before .before .before .before .before .before .before .before .before .args .g} {m₁ = c .before .before .before .before .before .before .before .before .before .before .before .before .before .args .p} {n₂ = 128} {m₂ = 16} (c .before .before .before .before .before .before .before .before .before .before .before .before .before .pre .1 .3) (c .before .before .before .before .before .before .before .before .before .before .before .before .before .pre .1 .2))), length-take-le _ _ (omega arith), length-take-le _ _ (omega arith)),
-  c .before .before .before .before .before .before .before .before .before .before .before .before .before .pre .1,
-)
+fill-in-requires c κs =
+    let args = c .before .before .before .before .before .before .before .before .before .before .before .before .before .args in
+    let pre = c .before .before .before .before .before .before .before .before .before .before .before .before .before .pre in (
+      (pre .0 .0, pre .0 .1, pre .0 .2, pre .0 .3, take-replicate (args .g * args .p) 2048 zero⁺ (omega (arith, mul-le-mul {n₁ = args .g} {m₁ = args .p} {n₂ = 128} {m₂ = 16} (pre .1 .3) (pre .1 .2))), length-take-le _ _ (omega arith), length-take-le _ _ (omega arith)),
+      pre .1,
+    )
 
 same-length : tie.Need-same-length
 same-length c = c .before .before .before .before .before .before .before .before .before .before .before .fill-in .kept .0

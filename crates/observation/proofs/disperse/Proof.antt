@@ -13,7 +13,10 @@ fill-z-requires : tie.Need-fill-z-requires
 fill-z-requires c κs = search needs
 
 anova-f-requires : tie.Need-anova-f-requires
-anova-f-requires c κs = ((c .before .before .before .before .before .before .before .before .fill-z .kept .1 .1 .1 .1 .1 .1 .1 .1 .1 .1 .0 ∙ c .before .before .before .before .before .before .before .before .before .before .before .before .before .before .before .before .before .before .before .before .before .pre .1 .4, c .before .before .before .before .before .before .before .before .before .before .before .before .before .before .before .before .before .before .before .before .before .pre .0 .3, c .before .before .before .before .before .before .before .before .before .before .before .before .before .before .before .before .before .before .before .before .before .pre .0 .4, c .before .before .before .before .before .before .before .before .before .before .before .before .before .before .before .before .before .before .before .before .before .pre .1 .0, c .before .before .before .before .before .before .before .before .before .before .before .before .before .before .before .before .before .before .before .before .before .pre .1 .1), (omega (arith, c .before .before .before .before .before .before .before .before .fill-z .kept .1 .1 .1 .1 .1 .1 .1 .1 .0), c .before .before .before .before .before .before .before .before .before .before .before .before .before .before .before .before .before .before .before .before .before .pre .1 .5, c .before .before .before .before .before .before .before .before .before .before .before .before .before .before .before .before .before .before .before .before .before .pre .1 .6, c .before .before .before .before .before .before .before .before .before .before .before .before .before .before .before .before .before .before .before .before .before .pre .1 .7))
+anova-f-requires c κs =
+    let fill-z = c .before .before .before .before .before .before .before .before .fill-z in
+    let pre = c .before .before .before .before .before .before .before .before .before .before .before .before .before .before .before .before .before .before .before .before .before .pre in
+    ((fill-z .kept .1 .1 .1 .1 .1 .1 .1 .1 .1 .1 .0 ∙ pre .1 .4, pre .0 .3, pre .0 .4, pre .1 .0, pre .1 .1), (omega (arith, fill-z .kept .1 .1 .1 .1 .1 .1 .1 .1 .0), pre .1 .5, pre .1 .6, pre .1 .7))
 
 same-length : tie.Need-same-length
 same-length c = search needs
@@ -26,7 +29,9 @@ same-length-3 c = search needs
 
 returns : tie.Need-returns
 unfolding spread
-returns c = (rw (c .before .before .anova-f .ensures, c .before .before .before .before .before .before .before .before .before .before .before .fill-z .ensures .0, c .before .before .before .before .before .before .before .before .before .before .before .fill-z .ensures .1), c .before .before .before .before .before .before .before .before .before .before .before .fill-z .ensures .1)
+returns c =
+    let fill-z = c .before .before .before .before .before .before .before .before .before .before .before .fill-z in
+    (rw (c .before .before .anova-f .ensures, fill-z .ensures .0, fill-z .ensures .1), fill-z .ensures .1)
 
 pub disperse-spec : {M : Type 1} → statement M
 disperse-spec =

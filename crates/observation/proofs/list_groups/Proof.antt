@@ -28,7 +28,10 @@ same-length-2 c = search needs
 
 returns : tie.Need-returns
 unfolding sizes meanZ
-returns c = (c .before .before .before .before .before .before .fill-sizes .ensures ∙ ap (λ (l : List ℕ). over l (c .before .before .before .before .before .before .before .before .before .before .before .before .before .before .args .counts .now)) (on-members _ _ _ _ _ (c .before .before .before .before .before .before .before .before .before .before .before .before .before .before .pre .1) (λ k. length)), c .before .before .fill-means .ensures ∙ ap (λ (l : List Float). over l (c .before .before .before .before .before .before .before .before .before .before .before .before .before .before .args .means .now)) (on-members _ _ _ _ _ (c .before .before .before .before .before .before .before .before .before .before .before .before .before .before .pre .1) (λ k. meanOf (c .before .before .before .before .before .before .before .before .before .before .before .before .before .before .args .z .now))))
+returns c =
+    let after-fill-sizes = c .before .before .before .before .before .before in
+    let start = after-fill-sizes .before .before .before .before .before .before .before .before in
+    (after-fill-sizes .fill-sizes .ensures ∙ ap (λ (l : List ℕ). over l (start .args .counts .now)) (on-members _ _ _ _ _ (start .pre .1) (λ k. length)), c .before .before .fill-means .ensures ∙ ap (λ (l : List Float). over l (start .args .means .now)) (on-members _ _ _ _ _ (start .pre .1) (λ k. meanOf (start .args .z .now))))
 
 pub list-groups-spec : {M : Type 1} → statement M
 list-groups-spec =

@@ -20,7 +20,9 @@ slice-aggregate-observe-with-4 : tie.Need-slice-aggregate-observe-with-4
 slice-aggregate-observe-with-4 c = search needs
 
 observe-with-requires : tie.Need-observe-with-requires
-observe-with-requires c κs = ((c .before .before .before .before .before .before .before .before .before .before .before .before .before .before .pre .0, c .before .before .before .before .before .before .before .before .before .before .before .before .before .before .pre .1, c .before .before .before .before .before .before .before .before .before .before .before .before .before .before .pre .2, c .before .before .before .before .before .before .before .before .before .before .before .before .before .before .pre .3), (omega (arith, c .before .before .before .before .before .before .before .before .before .before .before .before .before .before .pre .0 .enough, c .before .before .before .before .before .before .before .before .before .before .before .before .before .before .pre .0 .few), search needs, omega (arith, c .before .before .before .before .before .before .before .before .before .before .before .before .before .before .pre .0 .enough, c .before .before .before .before .before .before .before .before .before .before .before .before .before .before .pre .0 .few), omega (arith, c .before .before .before .before .before .before .before .before .before .before .before .before .before .before .pre .0 .enough, c .before .before .before .before .before .before .before .before .before .before .before .before .before .before .pre .0 .few)))
+observe-with-requires c κs =
+    let pre = c .before .before .before .before .before .before .before .before .before .before .before .before .before .before .pre in
+    ((pre .0, pre .1, pre .2, pre .3), (omega (arith, pre .0 .enough, pre .0 .few), search needs, omega (arith, pre .0 .enough, pre .0 .few), omega (arith, pre .0 .enough, pre .0 .few)))
 
 same-length : tie.Need-same-length
 same-length c = search needs

@@ -23,10 +23,17 @@ locate-requires : tie.Need-locate-requires
 locate-requires c κs = search needs
 
 disperse-requires : tie.Need-disperse-requires
-disperse-requires c κs = ((c .before .before .before .before .before .before .before .before .before .before .before .before .before .before .before .before .before .before .before .before .before .before .before .before .before .before .pre .0 .0 .pulls, c .before .before .before .before .before .before .before .before .before .before .before .before .before .before .before .before .before .before .before .before .before .before .before .before .before .before .pre .0 .0 .terms, c .before .before .before .before .before .before .before .before .before .before .before .before .before .before .before .before .before .before .before .before .before .before .before .before .before .before .pre .0 .0 .weights, c .before .before .before .before .before .before .before .before .before .before .before .before .before .before .before .before .before .before .before .before .before .before .before .before .before .before .pre .0 .0 .labels, c .before .before .before .before .before .before .before .before .before .before .before .before .before .before .before .before .before .before .before .before .before .before .before .before .before .before .pre .0 .0 .groups), (c .before .before .before .before .before .before .before .before .before .before .before .before .group .ensures, omega (arith, c .before .before .before .before .before .before .before .before .before .before .before .before .group .kept .1 .1 .1 .1 .0, c .before .before .before .before .before .before .before .before .before .before .before .before .before .before .before .before .before .before .before .before .before .before .before .before .before .before .pre .1 .1), c .before .before .before .before .before .before .before .before .before .before .before .before .before .before .before .before .before .before .before .before .before .before .before .before .before .before .pre .1 .2, c .before .before .before .before .before .before .before .before .before .before .before .before .before .before .before .before .before .before .before .before .before .before .before .before .before .before .pre .1 .3, c .before .before .before .before .before .before .before .before .before .before .before .before .before .before .before .before .before .before .before .before .before .before .before .before .before .before .pre .0 .1, c .before .before .before .before .before .before .before .before .before .before .before .before .before .before .before .before .before .before .before .before .before .before .before .before .before .before .pre .0 .0 .some, c .before .before .before .before .before .before .before .before .before .before .before .before .before .before .before .before .before .before .before .before .before .before .before .before .before .before .pre .0 .0 .enough, c .before .before .before .before .before .before .before .before .before .before .before .before .before .before .before .before .before .before .before .before .before .before .before .before .before .before .pre .0 .0 .few))
+disperse-requires c κs =
+    let group = c .before .before .before .before .before .before .before .before .before .before .before .before .group in
+    let pre = c .before .before .before .before .before .before .before .before .before .before .before .before .before .before .before .before .before .before .before .before .before .before .before .before .before .before .pre in
+    ((pre .0 .0 .pulls, pre .0 .0 .terms, pre .0 .0 .weights, pre .0 .0 .labels, pre .0 .0 .groups), (group .ensures, omega (arith, group .kept .1 .1 .1 .1 .0, pre .1 .1), pre .1 .2, pre .1 .3, pre .0 .1, pre .0 .0 .some, pre .0 .0 .enough, pre .0 .0 .few))
 
 list-groups-requires : tie.Need-list-groups-requires
-list-groups-requires c κs = (c .before .before .before .before .before .before .before .before .before .before .before .disperse .kept .1 .1 .1 .1 .1 .1 .1 .1 .1 .1 .0 ∙ c .before .before .before .before .before .before .before .before .before .before .before .before .before .before .before .before .before .before .before .before .before .before .before .before .before .before .before .before .before .before .before .before .before .before .before .before .before .before .pre .0 .1, c .before .before .before .before .before .before .before .before .before .before .before .before .before .before .before .before .before .before .before .before .before .before .before .before .group .ensures, omega (arith, c .before .before .before .before .before .before .before .before .before .before .before .before .before .before .before .before .before .before .before .before .before .before .before .before .group .kept .1 .1 .1 .1 .0, c .before .before .before .before .before .before .before .before .before .before .before .before .before .before .before .before .before .before .before .before .before .before .before .before .before .before .before .before .before .before .before .before .before .before .before .before .before .before .pre .1 .1), c .before .before .before .before .before .before .before .before .before .before .before .before .before .before .before .before .before .before .before .before .before .before .before .before .before .before .before .before .before .before .before .before .before .before .before .before .before .before .pre .0 .2, c .before .before .before .before .before .before .before .before .before .before .before .before .before .before .before .before .before .before .before .before .before .before .before .before .before .before .before .before .before .before .before .before .before .before .before .before .before .before .pre .0 .3)
+list-groups-requires c κs =
+    let disperse = c .before .before .before .before .before .before .before .before .before .before .before .disperse in
+    let group = c .before .before .before .before .before .before .before .before .before .before .before .before .before .before .before .before .before .before .before .before .before .before .before .before .group in
+    let pre = c .before .before .before .before .before .before .before .before .before .before .before .before .before .before .before .before .before .before .before .before .before .before .before .before .before .before .before .before .before .before .before .before .before .before .before .before .before .before .pre in
+    (disperse .kept .1 .1 .1 .1 .1 .1 .1 .1 .1 .1 .0 ∙ pre .0 .1, group .ensures, omega (arith, group .kept .1 .1 .1 .1 .0, pre .1 .1), pre .0 .2, pre .0 .3)
 
 same-length : tie.Need-same-length
 same-length c = search needs
@@ -38,10 +45,14 @@ same-length-3 : tie.Need-same-length-3
 same-length-3 c = search needs
 
 same-length-4 : tie.Need-same-length-4
-same-length-4 c = c .before .before .before .before .before .before .before .before .before .before .before .before .before .before .before .before .before .before .before .before .before .before .before .before .before .before .before .before .before .group .kept .1 .1 .1 .0
+same-length-4 c =
+    let after-group = c .before .before .before .before .before .before .before .before .before .before .before .before .before .before .before .before .before .before .before .before .before .before .before .before .before .before .before .before .before in
+    after-group .group .kept .1 .1 .1 .0
 
 same-length-5 : tie.Need-same-length-5
-same-length-5 c = c .before .before .before .before .before .before .before .before .before .before .before .before .before .before .before .before .before .before .before .before .before .before .before .before .before .before .before .before .before .group .kept .1 .1 .1 .1 .0
+same-length-5 c =
+    let after-group = c .before .before .before .before .before .before .before .before .before .before .before .before .before .before .before .before .before .before .before .before .before .before .before .before .before .before .before .before .before in
+    after-group .group .kept .1 .1 .1 .1 .0
 
 same-length-6 : tie.Need-same-length-6
 same-length-6 c = search needs
@@ -51,12 +62,16 @@ same-length-7 c = search needs
 
 returns : tie.Need-returns
 unfolding observed
-returns c = (
-  ap₂ (λ (l : Located) (d : Spread). record { total = l .total; f = l .f; r2 = l .r2; «disp_f» = d .f; negative = d .negative }) (c .before .before .before .before .before .before .before .before .before .before .before .before .before .before .before .before .before .before .before .before .before .before .locate .ensures) (c .before .before .before .before .before .before .before .before .before .before .before .before .before .before .before .before .disperse .ensures .0),
-  c .before .before .before .before .before .before .before .before .before .before .before .before .before .before .before .before .disperse .ensures .1,
-  c .before .before .before .before .list-groups .ensures .0,
-  c .before .before .before .before .list-groups .ensures .1 ∙ ap (λ (l : List Float). over (meanZ l (c .before .before .before .before .before .before .before .before .before .before .before .before .before .before .before .before .before .before .before .before .before .before .before .before .before .before .before .before .before .before .before .before .before .before .before .before .before .before .before .before .before .before .before .args .gs .now) (c .before .before .before .before .before .before .before .before .before .before .before .before .before .before .before .before .before .before .before .before .before .before .before .before .before .before .before .before .before .before .before .before .before .before .before .before .before .before .before .before .before .before .before .args .m) (c .before .before .before .before .before .before .before .before .before .before .before .before .before .before .before .before .before .before .before .before .before .before .before .before .before .before .before .before .before .before .before .before .before .before .before .before .before .before .before .before .before .before .before .args .g)) (c .before .before .before .before .before .before .before .before .before .before .before .before .before .before .before .before .before .before .before .before .before .before .before .before .before .before .before .before .before .before .before .before .before .before .before .before .before .before .before .before .before .before .before .args .means .now)) (c .before .before .before .before .before .before .before .before .before .before .before .before .before .before .before .before .disperse .ensures .1),
-)
+returns c =
+    let after-list-groups = c .before .before .before .before in
+    let after-disperse = after-list-groups .before .before .before .before .before .before .before .before .before .before .before .before in
+    let after-locate = after-disperse .before .before .before .before .before .before in
+    let start = after-locate .before .before .before .before .before .before .before .before .before .before .before .before .before .before .before .before .before .before .before .before .before in (
+      ap₂ (λ (l : Located) (d : Spread). record { total = l .total; f = l .f; r2 = l .r2; «disp_f» = d .f; negative = d .negative }) (after-locate .locate .ensures) (after-disperse .disperse .ensures .0),
+      after-disperse .disperse .ensures .1,
+      after-list-groups .list-groups .ensures .0,
+      after-list-groups .list-groups .ensures .1 ∙ ap (λ (l : List Float). over (meanZ l (start .args .gs .now) (start .args .m) (start .args .g)) (start .args .means .now)) (after-disperse .disperse .ensures .1),
+    )
 
 pub observe-with-spec : {M : Type 1} → statement M
 observe-with-spec =

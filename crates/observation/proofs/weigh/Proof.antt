@@ -12,13 +12,21 @@ use Rattle.observation.proofs.weigh.Statement.{statement}
 use Rattle.observation.proofs.weigh.Tie as tie
 
 fill-weights-requires : tie.Need-fill-weights-requires
-fill-weights-requires c κs = (omega arith, λ e x h. omega (arith, c .before .before .before .before .before .before .before .pre .0 .3 e, c .before .before .before .before .before .before .before .pre .0 .2 x h))
+fill-weights-requires c κs =
+    let pre = c .before .before .before .before .before .before .before .pre in
+    (omega arith, λ e x h. omega (arith, pre .0 .3 e, pre .0 .2 x h))
 
 fill-terms-requires : tie.Need-fill-terms-requires
-fill-terms-requires c κs = (c .before .before .before .before .before .before .before .before .before .before .before .before .pre .1 .1, c .before .before .before .before .before .before .before .before .before .before .before .before .pre .0 .1, c .before .before .before .before .fill-weights .kept .0 ∙ c .before .before .before .before .before .before .before .before .before .before .before .before .pre .1 .0, c .before .before .before .before .before .before .before .before .before .before .before .before .pre .0 .0, c .before .before .before .before .before .before .before .before .before .before .before .before .pre .0 .2)
+fill-terms-requires c κs =
+    let after-fill-weights = c .before .before .before .before in
+    let start = after-fill-weights .before .before .before .before .before .before .before .before in
+    (start .pre .1 .1, start .pre .0 .1, after-fill-weights .fill-weights .kept .0 ∙ start .pre .1 .0, start .pre .0 .0, start .pre .0 .2)
 
 fill-pulls-requires : tie.Need-fill-pulls-requires
-fill-pulls-requires c κs = (c .before .before .before .before .before .before .before .before .before .before .before .before .before .before .before .before .before .pre .1 .2, c .before .before .before .before .before .before .before .before .before .before .before .before .before .before .before .before .before .pre .0 .1, c .before .before .before .before .before .before .before .before .before .fill-weights .kept .0 ∙ c .before .before .before .before .before .before .before .before .before .before .before .before .before .before .before .before .before .pre .1 .0, c .before .before .before .before .before .before .before .before .before .before .before .before .before .before .before .before .before .pre .0 .0, c .before .before .before .before .before .before .before .before .before .before .before .before .before .before .before .before .before .pre .0 .2)
+fill-pulls-requires c κs =
+    let after-fill-weights = c .before .before .before .before .before .before .before .before .before in
+    let start = after-fill-weights .before .before .before .before .before .before .before .before in
+    (start .pre .1 .2, start .pre .0 .1, after-fill-weights .fill-weights .kept .0 ∙ start .pre .1 .0, start .pre .0 .0, start .pre .0 .2)
 
 same-length : tie.Need-same-length
 same-length c = search needs
@@ -30,7 +38,11 @@ same-length-3 : tie.Need-same-length-3
 same-length-3 c = search needs
 
 returns : tie.Need-returns
-returns c = (c .before .before .before .before .before .before .before .before .before .before .before .before .fill-weights .ensures, c .before .before .before .before .before .before .before .fill-terms .ensures ∙ ap (λ (l : List Float). terms (c .before .before .before .before .before .before .before .before .before .before .before .before .before .before .before .before .before .before .before .before .args .d .now) (c .before .before .before .before .before .before .before .before .before .before .before .before .before .before .before .before .before .before .before .before .args .n) (c .before .before .before .before .before .before .before .before .before .before .before .before .before .before .before .before .before .before .before .before .args .ks .now) l (c .before .before .before .before .before .before .before .before .before .before .before .before .before .before .before .before .before .before .before .before .args .m)) (c .before .before .before .before .before .before .before .before .before .before .before .before .fill-weights .ensures), c .before .before .fill-pulls .ensures ∙ ap (λ (l : List Float). pulls (c .before .before .before .before .before .before .before .before .before .before .before .before .before .before .before .before .before .before .before .before .args .d .now) (c .before .before .before .before .before .before .before .before .before .before .before .before .before .before .before .before .before .before .before .before .args .n) (c .before .before .before .before .before .before .before .before .before .before .before .before .before .before .before .before .before .before .before .before .args .ks .now) l (c .before .before .before .before .before .before .before .before .before .before .before .before .before .before .before .before .before .before .before .before .args .m)) (c .before .before .before .before .before .before .before .before .before .before .before .before .fill-weights .ensures))
+returns c =
+    let after-fill-terms = c .before .before .before .before .before .before .before in
+    let after-fill-weights = after-fill-terms .before .before .before .before .before in
+    let start = after-fill-weights .before .before .before .before .before .before .before .before in
+    (after-fill-weights .fill-weights .ensures, after-fill-terms .fill-terms .ensures ∙ ap (λ (l : List Float). terms (start .args .d .now) (start .args .n) (start .args .ks .now) l (start .args .m)) (after-fill-weights .fill-weights .ensures), c .before .before .fill-pulls .ensures ∙ ap (λ (l : List Float). pulls (start .args .d .now) (start .args .n) (start .args .ks .now) l (start .args .m)) (after-fill-weights .fill-weights .ensures))
 
 pub weigh-spec : {M : Type 1} → statement M
 weigh-spec =

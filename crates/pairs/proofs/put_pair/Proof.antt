@@ -24,40 +24,70 @@ returns-3 : tie.Need-returns-3
 returns-3 c = put-none _ _ _ _ (not-inside _ _ _ (c .before .before .before .before .if1 .left) (c .before .if2 .left) (c .if3 .taken))
 
 mul-p : tie.Need-mul-p
-mul-p c = omega (arith, cell-lt (c .before .before .before .before .before .before .before .before .args .n) (c .before .before .before .before .before .before .before .before .args .f .first) (c .before .before .before .before .before .before .before .before .args .f .second) (c .before .before .before .before .before .before .before .before .pre .0) (omega arith) (omega arith))
+mul-p c =
+    let args = c .before .before .before .before .before .before .before .before .args in
+    let pre = c .before .before .before .before .before .before .before .before .pre in
+    omega (arith, cell-lt (args .n) (args .f .first) (args .f .second) (pre .0) (omega arith) (omega arith))
 
 add-p : tie.Need-add-p
-add-p c = omega (arith, cell-lt (c .before .before .before .before .before .before .before .before .args .n) (c .before .before .before .before .before .before .before .before .args .f .first) (c .before .before .before .before .before .before .before .before .args .f .second) (c .before .before .before .before .before .before .before .before .pre .0) (omega arith) (omega arith))
+add-p c =
+    let args = c .before .before .before .before .before .before .before .before .args in
+    let pre = c .before .before .before .before .before .before .before .before .pre in
+    omega (arith, cell-lt (args .n) (args .f .first) (args .f .second) (pre .0) (omega arith) (omega arith))
 
 slice-read-if4 : tie.Need-slice-read-if4
-slice-read-if4 c = omega (arith, cell-lt (c .before .before .before .before .before .before .before .before .before .args .n) (c .before .before .before .before .before .before .before .before .before .args .f .first) (c .before .before .before .before .before .before .before .before .before .args .f .second) (c .before .before .before .before .before .before .before .before .before .pre .0) (omega arith) (omega arith))
+slice-read-if4 c =
+    let args = c .before .before .before .before .before .before .before .before .before .args in
+    let pre = c .before .before .before .before .before .before .before .before .before .pre in
+    omega (arith, cell-lt (args .n) (args .f .first) (args .f .second) (pre .0) (omega arith) (omega arith))
 
 returns-4 : tie.Need-returns-4
 returns-4 c = put-none _ _ _ _ (was-seen _ _ _ (c .before .before .before .before .before .before .if1 .left) (c .before .before .before .if2 .left) (c .before .before .if3 .left) (c .if4 .taken))
 
 mul-q : tie.Need-mul-q
-mul-q c = omega (arith, cell-lt (c .before .before .before .before .before .before .before .before .before .before .args .n) (c .before .before .before .before .before .before .before .before .before .before .args .f .second) (c .before .before .before .before .before .before .before .before .before .before .args .f .first) (c .before .before .before .before .before .before .before .before .before .before .pre .0) (omega arith) (omega arith))
+mul-q c =
+    let args = c .before .before .before .before .before .before .before .before .before .before .args in
+    let pre = c .before .before .before .before .before .before .before .before .before .before .pre in
+    omega (arith, cell-lt (args .n) (args .f .second) (args .f .first) (pre .0) (omega arith) (omega arith))
 
 add-q : tie.Need-add-q
-add-q c = omega (arith, cell-lt (c .before .before .before .before .before .before .before .before .before .before .args .n) (c .before .before .before .before .before .before .before .before .before .before .args .f .second) (c .before .before .before .before .before .before .before .before .before .before .args .f .first) (c .before .before .before .before .before .before .before .before .before .before .pre .0) (omega arith) (omega arith))
+add-q c =
+    let args = c .before .before .before .before .before .before .before .before .before .before .args in
+    let pre = c .before .before .before .before .before .before .before .before .before .before .pre in
+    omega (arith, cell-lt (args .n) (args .f .second) (args .f .first) (pre .0) (omega arith) (omega arith))
 
 float-of-requires : tie.Need-float-of-requires
 float-of-requires c κs = search needs
 
 slice-write-seen : tie.Need-slice-write-seen
-slice-write-seen c = omega (arith, cell-lt (c .before .before .before .before .before .before .before .before .before .before .before .args .n) (c .before .before .before .before .before .before .before .before .before .before .before .args .f .first) (c .before .before .before .before .before .before .before .before .before .before .before .args .f .second) (c .before .before .before .before .before .before .before .before .before .before .before .pre .0) (omega arith) (omega arith))
+slice-write-seen c =
+    let args = c .before .before .before .before .before .before .before .before .before .before .before .args in
+    let pre = c .before .before .before .before .before .before .before .before .before .before .before .pre in
+    omega (arith, cell-lt (args .n) (args .f .first) (args .f .second) (pre .0) (omega arith) (omega arith))
 
 mul-distances : tie.Need-mul-distances
-mul-distances c = omega (arith, cell-lt (c .before .before .before .before .before .before .before .before .before .before .before .args .n) (c .before .before .before .before .before .before .before .before .before .before .before .args .f .first) (c .before .before .before .before .before .before .before .before .before .before .before .args .f .second) (c .before .before .before .before .before .before .before .before .before .before .before .pre .0) (omega arith) (omega arith))
+mul-distances c =
+    let args = c .before .before .before .before .before .before .before .before .before .before .before .args in
+    let pre = c .before .before .before .before .before .before .before .before .before .before .before .pre in
+    omega (arith, cell-lt (args .n) (args .f .first) (args .f .second) (pre .0) (omega arith) (omega arith))
 
 slice-write-distances : tie.Need-slice-write-distances
-slice-write-distances c = omega (arith, cell-lt (c .before .before .before .before .before .before .before .before .before .before .before .args .n) (c .before .before .before .before .before .before .before .before .before .before .before .args .f .first) (c .before .before .before .before .before .before .before .before .before .before .before .args .f .second) (c .before .before .before .before .before .before .before .before .before .before .before .pre .0) (omega arith) (omega arith))
+slice-write-distances c =
+    let args = c .before .before .before .before .before .before .before .before .before .before .before .args in
+    let pre = c .before .before .before .before .before .before .before .before .before .before .before .pre in
+    omega (arith, cell-lt (args .n) (args .f .first) (args .f .second) (pre .0) (omega arith) (omega arith))
 
 mul-distances-2 : tie.Need-mul-distances-2
-mul-distances-2 c = omega (arith, cell-lt (c .before .before .before .before .before .before .before .before .before .before .before .args .n) (c .before .before .before .before .before .before .before .before .before .before .before .args .f .second) (c .before .before .before .before .before .before .before .before .before .before .before .args .f .first) (c .before .before .before .before .before .before .before .before .before .before .before .pre .0) (omega arith) (omega arith))
+mul-distances-2 c =
+    let args = c .before .before .before .before .before .before .before .before .before .before .before .args in
+    let pre = c .before .before .before .before .before .before .before .before .before .before .before .pre in
+    omega (arith, cell-lt (args .n) (args .f .second) (args .f .first) (pre .0) (omega arith) (omega arith))
 
 slice-write-distances-2 : tie.Need-slice-write-distances-2
-slice-write-distances-2 c = rw length-set (omega (arith, cell-lt (c .before .before .before .before .before .before .before .before .before .before .before .args .n) (c .before .before .before .before .before .before .before .before .before .before .before .args .f .second) (c .before .before .before .before .before .before .before .before .before .before .before .args .f .first) (c .before .before .before .before .before .before .before .before .before .before .before .pre .0) (omega arith) (omega arith)))
+slice-write-distances-2 c =
+    let args = c .before .before .before .before .before .before .before .before .before .before .before .args in
+    let pre = c .before .before .before .before .before .before .before .before .before .before .before .pre in
+    rw length-set (omega (arith, cell-lt (args .n) (args .f .second) (args .f .first) (pre .0) (omega arith) (omega arith)))
 
 same-length : tie.Need-same-length
 same-length c = search needs
@@ -66,7 +96,11 @@ same-length-2 : tie.Need-same-length-2
 same-length-2 c = search needs
 
 returns-5 : tie.Need-returns-5
-returns-5 c = put-one _ _ _ _ (is-new _ _ _ (c .before .before .before .before .before .before .before .if1 .left) (c .before .before .before .before .if2 .left) (c .before .before .before .if3 .left) (c .before .if4 .left)) (c .float-of .ensures)
+returns-5 c =
+    let at-if3 = c .before .before .before in
+    let at-if2 = at-if3 .before in
+    let at-if1 = at-if2 .before .before .before in
+    put-one _ _ _ _ (is-new _ _ _ (at-if1 .if1 .left) (at-if2 .if2 .left) (at-if3 .if3 .left) (c .before .if4 .left)) (c .float-of .ensures)
 
 pub put-pair-spec : {M : Type 1} → statement M
 put-pair-spec =

@@ -21,7 +21,9 @@ same-length : tie.Need-same-length
 same-length c = c .before .before .before .before .before .before .before .before .ordinate .kept .1 .1 .1 .0
 
 same-length-2 : tie.Need-same-length-2
-same-length-2 c = c .before .before .before .before .before .before .before .before .before .before .before .before .before .before .before .before .centre .kept .0
+same-length-2 c =
+    let after-centre = c .before .before .before .before .before .before .before .before .before .before .before .before .before .before .before .before in
+    after-centre .centre .kept .0
 
 same-length-3 : tie.Need-same-length-3
 same-length-3 c = c .before .before .before .before .before .before .before .before .ordinate .kept .1 .1 .1 .1 .0

@@ -27,16 +27,24 @@ same-length : tie.Need-same-length
 same-length c = c .before .before .lay .kept .0
 
 same-length-2 : tie.Need-same-length-2
-same-length-2 c = c .before .before .before .before .before .before .before .before .before .before .before .before .before .before .before .top-pairs .kept .1 .1 .1 .0
+same-length-2 c =
+    let after-top-pairs = c .before .before .before .before .before .before .before .before .before .before .before .before .before .before .before in
+    after-top-pairs .top-pairs .kept .1 .1 .1 .0
 
 same-length-3 : tie.Need-same-length-3
-same-length-3 c = c .before .before .before .before .before .before .before .before .before .before .before .before .before .before .before .top-pairs .kept .1 .1 .1 .1 .0
+same-length-3 c =
+    let after-top-pairs = c .before .before .before .before .before .before .before .before .before .before .before .before .before .before .before in
+    after-top-pairs .top-pairs .kept .1 .1 .1 .1 .0
 
 same-length-4 : tie.Need-same-length-4
-same-length-4 c = c .before .before .before .before .before .before .before .before .before .before .before .before .before .before .before .top-pairs .kept .1 .1 .1 .1 .1 .0
+same-length-4 c =
+    let after-top-pairs = c .before .before .before .before .before .before .before .before .before .before .before .before .before .before .before in
+    after-top-pairs .top-pairs .kept .1 .1 .1 .1 .1 .0
 
 same-length-5 : tie.Need-same-length-5
-same-length-5 c = c .before .before .before .before .before .before .before .before .before .before .before .before .before .before .before .top-pairs .kept .1 .1 .1 .1 .1 .1 .0
+same-length-5 c =
+    let after-top-pairs = c .before .before .before .before .before .before .before .before .before .before .before .before .before .before .before in
+    after-top-pairs .top-pairs .kept .1 .1 .1 .1 .1 .1 .0
 
 returns : tie.Need-returns
 returns c =
@@ -57,16 +65,24 @@ same-length-6 : tie.Need-same-length-6
 same-length-6 c = c .before .before .lay2 .kept .0
 
 same-length-7 : tie.Need-same-length-7
-same-length-7 c = c .before .before .before .before .before .before .before .before .before .before .before .before .before .before .before .top-pairs .kept .1 .1 .1 .0
+same-length-7 c =
+    let after-top-pairs = c .before .before .before .before .before .before .before .before .before .before .before .before .before .before .before in
+    after-top-pairs .top-pairs .kept .1 .1 .1 .0
 
 same-length-8 : tie.Need-same-length-8
-same-length-8 c = c .before .before .before .before .before .before .before .before .before .before .before .before .before .before .before .top-pairs .kept .1 .1 .1 .1 .0
+same-length-8 c =
+    let after-top-pairs = c .before .before .before .before .before .before .before .before .before .before .before .before .before .before .before in
+    after-top-pairs .top-pairs .kept .1 .1 .1 .1 .0
 
 same-length-9 : tie.Need-same-length-9
-same-length-9 c = c .before .before .before .before .before .before .before .before .before .before .before .before .before .before .before .top-pairs .kept .1 .1 .1 .1 .1 .0
+same-length-9 c =
+    let after-top-pairs = c .before .before .before .before .before .before .before .before .before .before .before .before .before .before .before in
+    after-top-pairs .top-pairs .kept .1 .1 .1 .1 .1 .0
 
 same-length-10 : tie.Need-same-length-10
-same-length-10 c = c .before .before .before .before .before .before .before .before .before .before .before .before .before .before .before .top-pairs .kept .1 .1 .1 .1 .1 .1 .0
+same-length-10 c =
+    let after-top-pairs = c .before .before .before .before .before .before .before .before .before .before .before .before .before .before .before in
+    after-top-pairs .top-pairs .kept .1 .1 .1 .1 .1 .1 .0
 
 returns-2 : tie.Need-returns-2
 returns-2 c =

@@ -15,7 +15,9 @@ slice-aggregate-run-lot-3 : tie.Need-slice-aggregate-run-lot-3
 slice-aggregate-run-lot-3 c = search needs
 
 run-lot-requires : tie.Need-run-lot-requires
-run-lot-requires c κs = (c .before .before .before .before .before .before .before .before .before .before .before .before .before .before .before .before .before .pre, (search needs, search needs, search needs))
+run-lot-requires c κs =
+    let pre = c .before .before .before .before .before .before .before .before .before .before .before .before .before .before .before .before .before .pre in
+    (pre, (search needs, search needs, search needs))
 
 same-length : tie.Need-same-length
 same-length c = search needs

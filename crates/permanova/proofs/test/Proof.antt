@@ -25,10 +25,21 @@ enum-told : tie.Need-enum-told
 enum-told c = search needs
 
 run-requires : tie.Need-run-requires
-run-requires c κs = let args = c .before .before .before .before .before .before .before .before .before .before .before .before .before .before .before .before .before .before .before .args in sym (checked (lotOf (args .n) (args .distances .now) (args .labels .now) (args .stratified) (args .strata .now) (args .weighted) (args .weights .now)) (args .seed) (args .n-perm) (slicesOf (args .names .now) (args .counts .now) (args .means .now) (args .terms .now) (args .pulls .now)) (c .before .before .before .before .before .before .before .before .before .too-short .ensures) (c .before .before .before .before .before .before .before .before .too-many .ensures) (c .before .before .before .before .before .before .before .check-lot .ensures)) ∙ c .before .before .before .before .before .enum-told .given .1
+run-requires c κs =
+    let after-enum-told = c .before .before .before .before .before in
+    let after-check-lot = after-enum-told .before .before in
+    let after-too-many = after-check-lot .before in
+    let after-too-short = after-too-many .before in
+    let start = after-too-short .before .before .before .before .before .before .before .before .before .before in
+    let args = start .args in sym (checked (lotOf (args .n) (args .distances .now) (args .labels .now) (args .stratified) (args .strata .now) (args .weighted) (args .weights .now)) (args .seed) (args .n-perm) (slicesOf (args .names .now) (args .counts .now) (args .means .now) (args .terms .now) (args .pulls .now)) (after-too-short .too-short .ensures) (after-too-many .too-many .ensures) (after-check-lot .check-lot .ensures)) ∙ after-enum-told .enum-told .given .1
 
 returns : tie.Need-returns
-returns c = let args = c .before .before .before .before .before .before .before .before .before .before .before .before .before .before .before .args in call-refused (lotOf (args .n) (args .distances .now) (args .labels .now) (args .stratified) (args .strata .now) (args .weighted) (args .weights .now)) (args .seed) (args .n-perm) (slicesOf (args .names .now) (args .counts .now) (args .means .now) (args .terms .now) (args .pulls .now)) (sym (c .before .c .given .1) ∙ checked (lotOf (args .n) (args .distances .now) (args .labels .now) (args .stratified) (args .strata .now) (args .weighted) (args .weights .now)) (args .seed) (args .n-perm) (slicesOf (args .names .now) (args .counts .now) (args .means .now) (args .terms .now) (args .pulls .now)) (c .before .before .before .before .before .too-short .ensures) (c .before .before .before .before .too-many .ensures) (c .before .before .before .check-lot .ensures))
+returns c =
+    let after-check-lot = c .before .before .before in
+    let after-too-many = after-check-lot .before in
+    let after-too-short = after-too-many .before in
+    let start = after-too-short .before .before .before .before .before .before .before .before .before .before in
+    let args = start .args in call-refused (lotOf (args .n) (args .distances .now) (args .labels .now) (args .stratified) (args .strata .now) (args .weighted) (args .weights .now)) (args .seed) (args .n-perm) (slicesOf (args .names .now) (args .counts .now) (args .means .now) (args .terms .now) (args .pulls .now)) (sym (c .before .c .given .1) ∙ checked (lotOf (args .n) (args .distances .now) (args .labels .now) (args .stratified) (args .strata .now) (args .weighted) (args .weights .now)) (args .seed) (args .n-perm) (slicesOf (args .names .now) (args .counts .now) (args .means .now) (args .terms .now) (args .pulls .now)) (after-too-short .too-short .ensures) (after-too-many .too-many .ensures) (after-check-lot .check-lot .ensures))
 
 same-length : tie.Need-same-length
 same-length c = search needs
@@ -46,7 +57,14 @@ same-length-5 : tie.Need-same-length-5
 same-length-5 c = search needs
 
 returns-2 : tie.Need-returns-2
-returns-2 c = let args = c .before .before .before .before .before .before .before .before .before .before .before .before .before .before .before .before .before .before .before .before .before .before .before .before .before .before .before .before .before .before .args in call-passed (lotOf (args .n) (args .distances .now) (args .labels .now) (args .stratified) (args .strata .now) (args .weighted) (args .weights .now)) (args .seed) (args .n-perm) (slicesOf (args .names .now) (args .counts .now) (args .means .now) (args .terms .now) (args .pulls .now)) (sym (c .before .before .before .before .before .before .before .before .before .before .before .before .before .before .before .before .enum-told .given .1) ∙ checked (lotOf (args .n) (args .distances .now) (args .labels .now) (args .stratified) (args .strata .now) (args .weighted) (args .weights .now)) (args .seed) (args .n-perm) (slicesOf (args .names .now) (args .counts .now) (args .means .now) (args .terms .now) (args .pulls .now)) (c .before .before .before .before .before .before .before .before .before .before .before .before .before .before .before .before .before .before .before .before .too-short .ensures) (c .before .before .before .before .before .before .before .before .before .before .before .before .before .before .before .before .before .before .before .too-many .ensures) (c .before .before .before .before .before .before .before .before .before .before .before .before .before .before .before .before .before .before .check-lot .ensures)) (c .before .before .before .before .before .before .before .before .before .before .run .ensures)
+returns-2 c =
+    let after-run = c .before .before .before .before .before .before .before .before .before .before in
+    let after-enum-told = after-run .before .before .before .before .before .before in
+    let after-check-lot = after-enum-told .before .before in
+    let after-too-many = after-check-lot .before in
+    let after-too-short = after-too-many .before in
+    let start = after-too-short .before .before .before .before .before .before .before .before .before .before in
+    let args = start .args in call-passed (lotOf (args .n) (args .distances .now) (args .labels .now) (args .stratified) (args .strata .now) (args .weighted) (args .weights .now)) (args .seed) (args .n-perm) (slicesOf (args .names .now) (args .counts .now) (args .means .now) (args .terms .now) (args .pulls .now)) (sym (after-enum-told .enum-told .given .1) ∙ checked (lotOf (args .n) (args .distances .now) (args .labels .now) (args .stratified) (args .strata .now) (args .weighted) (args .weights .now)) (args .seed) (args .n-perm) (slicesOf (args .names .now) (args .counts .now) (args .means .now) (args .terms .now) (args .pulls .now)) (after-too-short .too-short .ensures) (after-too-many .too-many .ensures) (after-check-lot .check-lot .ensures)) (after-run .run .ensures)
 
 pub test-spec : {M : Type 1} → statement M
 test-spec =

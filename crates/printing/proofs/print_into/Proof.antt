@@ -23,7 +23,10 @@ same-length : tie.Need-same-length
 same-length c = search needs
 
 returns : tie.Need-returns
-returns c = printed-judged _ (c .before .before .before .before .before .a .given .1) (c .before .before .before .before .before .before .before .before .pre) (c .before .before .print-verdict .ensures)
+returns c =
+    let after-a = c .before .before .before .before .before in
+    let start = after-a .before .before .before in
+    printed-judged _ (after-a .a .given .1) (start .pre) (c .before .before .print-verdict .ensures)
 
 same-length-2 : tie.Need-same-length-2
 same-length-2 c = search needs

@@ -30,7 +30,12 @@ same-length c = search needs
 
 returns : tie.Need-returns
 unfolding verdictLines
-returns c = wrote-then (wrote-then (wrote-then (wrote-then (c .before .before .before .before .before .before .before .before .before .before .before .before .before .before .before .before .before .before .before .put-line .ensures) (c .before .before .before .before .before .before .before .before .before .before .before .before .before .before .before .put-tested .ensures)) (c .before .before .before .before .before .before .before .before .before .before .before .put-tested2 .ensures)) (c .before .before .before .before .before .before .put-short .ensures)) (c .before .before .put-assigned .ensures)
+returns c =
+    let after-put-short = c .before .before .before .before .before .before in
+    let after-put-tested2 = after-put-short .before .before .before .before .before in
+    let after-put-tested = after-put-tested2 .before .before .before .before in
+    let after-put-line = after-put-tested .before .before .before .before in
+    wrote-then (wrote-then (wrote-then (wrote-then (after-put-line .put-line .ensures) (after-put-tested .put-tested .ensures)) (after-put-tested2 .put-tested2 .ensures)) (after-put-short .put-short .ensures)) (c .before .before .put-assigned .ensures)
 
 pub print-verdict-spec : {M : Type 1} → statement M
 print-verdict-spec =

@@ -24,7 +24,11 @@ same-length c = search needs
 
 returns : tie.Need-returns
 unfolding assignedLine
-returns c = wrote-as (ap₂ (λ (x y : ℕ). hex 2 0xb5 ++ hex 2 x ++ hex 2 y ++ hex 8 (c .before .before .before .before .before .before .before .args .t .hits) ++ feed) (c .before .before .before .before .given-of .ensures) (c .before .before .before .right-of .ensures)) (c .before .before .put-line .ensures)
+returns c =
+    let after-right-of = c .before .before .before in
+    let after-given-of = after-right-of .before in
+    let start = after-given-of .before .before .before in
+    wrote-as (ap₂ (λ (x y : ℕ). hex 2 0xb5 ++ hex 2 x ++ hex 2 y ++ hex 8 (start .args .t .hits) ++ feed) (after-given-of .given-of .ensures) (after-right-of .right-of .ensures)) (c .before .before .put-line .ensures)
 
 pub put-assigned-spec : {M : Type 1} → statement M
 put-assigned-spec =

@@ -25,7 +25,12 @@ same-length : tie.Need-same-length
 same-length c = search needs
 
 returns : tie.Need-returns
-returns c = wrote-then (wrote-then (wrote-then (wrote-then (c .before .before .before .before .before .before .before .before .before .before .before .before .before .before .before .before .before .before .put-hex .ensures) (c .before .before .before .before .before .before .before .before .before .before .before .before .before .before .put-hex2 .ensures)) (c .before .before .before .before .before .before .before .before .before .before .put-hex3 .ensures)) (c .before .before .before .before .before .before .put-hex4 .ensures)) (c .before .before .put-feed .ensures)
+returns c =
+    let after-put-hex4 = c .before .before .before .before .before .before in
+    let after-put-hex3 = after-put-hex4 .before .before .before .before in
+    let after-put-hex2 = after-put-hex3 .before .before .before .before in
+    let after-put-hex = after-put-hex2 .before .before .before .before in
+    wrote-then (wrote-then (wrote-then (wrote-then (after-put-hex .put-hex .ensures) (after-put-hex2 .put-hex2 .ensures)) (after-put-hex3 .put-hex3 .ensures)) (after-put-hex4 .put-hex4 .ensures)) (c .before .before .put-feed .ensures)
 
 pub put-line-spec : {M : Type 1} → statement M
 put-line-spec =

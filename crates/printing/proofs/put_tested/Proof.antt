@@ -24,7 +24,11 @@ same-length c = search needs
 
 returns : tie.Need-returns
 unfolding testedLine
-returns c = wrote-as (ap₂ (λ (x y : ℕ). hex 2 (c .before .before .before .before .before .before .before .args .kind) ++ hex 2 x ++ hex 16 y ++ hex 8 (c .before .before .before .before .before .before .before .args .t .hits) ++ feed) (c .before .before .before .before .state-of .ensures) (c .before .before .before .pattern-of .ensures)) (c .before .before .put-line .ensures)
+returns c =
+    let after-pattern-of = c .before .before .before in
+    let after-state-of = after-pattern-of .before in
+    let start = after-state-of .before .before .before in
+    wrote-as (ap₂ (λ (x y : ℕ). hex 2 (start .args .kind) ++ hex 2 x ++ hex 16 y ++ hex 8 (start .args .t .hits) ++ feed) (after-state-of .state-of .ensures) (after-pattern-of .pattern-of .ensures)) (c .before .before .put-line .ensures)
 
 pub put-tested-spec : {M : Type 1} → statement M
 put-tested-spec =

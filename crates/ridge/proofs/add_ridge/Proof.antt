@@ -27,7 +27,11 @@ same-length : tie.Need-same-length
 same-length c = search needs
 
 returns : tie.Need-returns
-returns c = ridged-is (c .before .before .before .before .before .before .before .before .before .args .p) (c .before .before .before .before .before .before .before .before .before .args .sw .now) (c .before .before .before .before .before .before .trace .ensures) (c .before .before .before .before .before .max .ensures) (c .before .before .raise .ensures)
+returns c =
+    let after-max = c .before .before .before .before .before in
+    let after-trace = after-max .before in
+    let start = after-trace .before .before .before in
+    ridged-is (start .args .p) (start .args .sw .now) (after-trace .trace .ensures) (after-max .max .ensures) (c .before .before .raise .ensures)
 
 pub add-ridge-spec : {M : Type 1} → statement M
 add-ridge-spec =

@@ -34,28 +34,46 @@ mul-sw : tie.Need-mul-sw Inv-loop μ-loop
 mul-sw c = omega (arith, cell-below (c .before .before .args .p) (c .before .before .args .p) (c .before .loop .a) (c .before .loop .a) (c .loop-test .taken) (c .loop-test .taken), c .before .loop .inv .long)
 
 slice-read-sw : tie.Need-slice-read-sw Inv-loop μ-loop
-slice-read-sw c = omega (arith, cell-below (c .before .before .before .args .p) (c .before .before .before .args .p) (c .before .before .loop .a) (c .before .before .loop .a) (c .before .loop-test .taken) (c .before .loop-test .taken), c .before .before .loop .inv .long)
+slice-read-sw c =
+    let turn = c .before .before .loop in
+    let args = c .before .before .before .args in
+    omega (arith, cell-below (args .p) (args .p) (turn .a) (turn .a) (c .before .loop-test .taken) (c .before .loop-test .taken), turn .inv .long)
 
 mul-sw-2 : tie.Need-mul-sw-2 Inv-loop μ-loop
-mul-sw-2 c = omega (arith, cell-below (c .before .before .before .args .p) (c .before .before .before .args .p) (c .before .before .loop .a) (c .before .before .loop .a) (c .before .loop-test .taken) (c .before .loop-test .taken), c .before .before .loop .inv .long)
+mul-sw-2 c =
+    let turn = c .before .before .loop in
+    let args = c .before .before .before .args in
+    omega (arith, cell-below (args .p) (args .p) (turn .a) (turn .a) (c .before .loop-test .taken) (c .before .loop-test .taken), turn .inv .long)
 
 slice-write-sw : tie.Need-slice-write-sw Inv-loop μ-loop
-slice-write-sw c = omega (arith, cell-below (c .before .before .before .args .p) (c .before .before .before .args .p) (c .before .before .loop .a) (c .before .before .loop .a) (c .before .loop-test .taken) (c .before .loop-test .taken), c .before .before .loop .inv .long)
+slice-write-sw c =
+    let turn = c .before .before .loop in
+    let args = c .before .before .before .args in
+    omega (arith, cell-below (args .p) (args .p) (turn .a) (turn .a) (c .before .loop-test .taken) (c .before .loop-test .taken), turn .inv .long)
 
 add-a : tie.Need-add-a Inv-loop μ-loop
-add-a c = omega (arith, cell-below (c .before .before .before .args .p) (c .before .before .before .args .p) (c .before .before .loop .a) (c .before .before .loop .a) (c .before .loop-test .taken) (c .before .loop-test .taken), c .before .before .loop .inv .long)
+add-a c =
+    let turn = c .before .before .loop in
+    let args = c .before .before .before .args in
+    omega (arith, cell-below (args .p) (args .p) (turn .a) (turn .a) (c .before .loop-test .taken) (c .before .loop-test .taken), turn .inv .long)
 
 loop-less : tie.Need-loop-less Inv-loop μ-loop
-loop-less c = omega (arith, cell-below (c .before .before .before .args .p) (c .before .before .before .args .p) (c .before .before .loop .a) (c .before .before .loop .a) (c .before .loop-test .taken) (c .before .loop-test .taken), c .before .before .loop .inv .long)
+loop-less c =
+    let turn = c .before .before .loop in
+    let args = c .before .before .before .args in
+    omega (arith, cell-below (args .p) (args .p) (turn .a) (turn .a) (c .before .loop-test .taken) (c .before .loop-test .taken), turn .inv .long)
 
 loop-again : tie.Need-loop-again Inv-loop μ-loop
 unfolding entry
 loop-again c =
-    let old : ℕ → Float = entry (c .before .before .before .args .p) (c .before .before .before .args .sw .now) (c .before .before .loop .a) in
-    reworked-diagonal _ _ _ _ (c .before .before .loop .sw) _ (c .before .before .before .pre) (c .before .before .loop .inv) (c .before .loop-test .taken) (c .before .loop-test .taken)
-    (ap (λ (v : Float). v ⊕ c .before .before .before .args .r) (reworked-entry _ _ _ _ (c .before .before .loop .sw) (c .before .before .loop .inv) (c .before .before .loop .a) (c .before .loop-test .taken))
-    ∙ ap (λ (b : Bool). cond b (old (c .before .before .loop .a) ⊕ c .before .before .before .args .r) (old (c .before .before .loop .a))) (sym (eq-eqb (c .before .before .loop .a) (c .before .before .loop .a) refl)))
-    (λ i ne _. ap (λ (b : Bool). cond b (old i ⊕ c .before .before .before .args .r) (old i)) (sym (ne-eqb (c .before .before .loop .a) i (λ e. ne (sym e)))))
+    let in-loop = c .before in
+    let at-loop = in-loop .before in
+    let start = at-loop .before in
+    let old : ℕ → Float = entry (start .args .p) (start .args .sw .now) (at-loop .loop .a) in
+    reworked-diagonal _ _ _ _ (at-loop .loop .sw) _ (start .pre) (at-loop .loop .inv) (in-loop .loop-test .taken) (in-loop .loop-test .taken)
+    (ap (λ (v : Float). v ⊕ start .args .r) (reworked-entry _ _ _ _ (at-loop .loop .sw) (at-loop .loop .inv) (at-loop .loop .a) (in-loop .loop-test .taken))
+    ∙ ap (λ (b : Bool). cond b (old (at-loop .loop .a) ⊕ start .args .r) (old (at-loop .loop .a))) (sym (eq-eqb (at-loop .loop .a) (at-loop .loop .a) refl)))
+    (λ i ne _. ap (λ (b : Bool). cond b (old i ⊕ start .args .r) (old i)) (sym (ne-eqb (at-loop .loop .a) i (λ e. ne (sym e)))))
 
 same-length : tie.Need-same-length Inv-loop μ-loop
 same-length c = c .before .loop .inv .long

@@ -19,7 +19,10 @@ pseudo-f-requires : tie.Need-pseudo-f-requires
 pseudo-f-requires c κs = search needs
 
 anova-f-requires : tie.Need-anova-f-requires
-anova-f-requires c κs = ((c .before .before .before .before .before .before .before .before .before .before .before .before .before .before .before .before .before .before .before .before .before .pre .0 .2, c .before .before .before .before .before .before .before .before .before .before .before .before .before .before .before .before .before .before .before .before .before .pre .0 .3, c .before .before .before .before .before .before .before .before .before .before .before .before .before .before .before .before .before .before .before .before .before .pre .0 .4, c .before .before .before .before .before .before .before .before .before .before .before .group .ensures, omega (arith, c .before .before .before .before .before .before .before .before .before .before .before .group .kept .1 .1 .1 .1 .0)), (c .before .before .before .before .before .before .before .before .before .before .before .before .before .before .before .before .before .before .before .before .before .pre .1 .3, c .before .before .before .before .before .before .before .before .before .before .before .before .before .before .before .before .before .before .before .before .before .pre .1 .4, c .before .before .before .before .before .before .before .before .before .before .before .before .before .before .before .before .before .before .before .before .before .pre .1 .5, c .before .before .before .before .before .before .before .before .before .before .before .before .before .before .before .before .before .before .before .before .before .pre .1 .6))
+anova-f-requires c κs =
+    let group = c .before .before .before .before .before .before .before .before .before .before .before .group in
+    let pre = c .before .before .before .before .before .before .before .before .before .before .before .before .before .before .before .before .before .before .before .before .before .pre in
+    ((pre .0 .2, pre .0 .3, pre .0 .4, group .ensures, omega (arith, group .kept .1 .1 .1 .1 .0)), (pre .1 .3, pre .1 .4, pre .1 .5, pre .1 .6))
 
 same-length : tie.Need-same-length
 same-length c = search needs
@@ -31,7 +34,11 @@ same-length-3 : tie.Need-same-length-3
 same-length-3 c = search needs
 
 returns : tie.Need-returns
-returns c = (c .before .before .before .before .before .before .pseudo-f .ensures ∙ ap (λ (x : Float). pseudoF (c .before .before .before .before .before .before .before .before .before .before .before .before .before .before .before .before .before .before .before .before .before .before .before .before .args .total) x (c .before .before .before .before .before .before .before .before .before .before .before .before .before .before .before .before .before .before .before .before .before .before .before .before .args .m) (c .before .before .before .before .before .before .before .before .before .before .before .before .before .before .before .before .before .before .before .before .before .before .before .before .args .g)) (c .before .before .before .before .before .before .before .within .ensures), c .before .before .anova-f .ensures)
+returns c =
+    let after-pseudo-f = c .before .before .before .before .before .before in
+    let after-within = after-pseudo-f .before in
+    let start = after-within .before .before .before .before .before .before .before .before .before .before .before .before .before .before .before .before .before in
+    (after-pseudo-f .pseudo-f .ensures ∙ ap (λ (x : Float). pseudoF (start .args .total) x (start .args .m) (start .args .g)) (after-within .within .ensures), c .before .before .anova-f .ensures)
 
 pub both-f-spec : {M : Type 1} → statement M
 both-f-spec =

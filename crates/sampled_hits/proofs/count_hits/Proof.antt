@@ -29,13 +29,20 @@ loop-holds : tie.Need-loop-holds Inv-loop μ-loop
 loop-holds c = (omega arith, omega arith, omega arith, c .before .before .before .before .before .before .before .before .before .before .pre .1, refl, refl, refl, refl, zero-add _, zero-add _)
 
 shuffle-found-requires : tie.Need-shuffle-found-requires Inv-loop μ-loop
-shuffle-found-requires c κs = (c .before .before .before .before .before .before .before .before .before .before .before .before .before .before .before .before .pre .0, c .before .before .before .before .before .loop .inv .3)
+shuffle-found-requires c κs =
+    let at-loop = c .before .before .before .before .before in
+    let start = at-loop .before .before .before .before .before .before .before .before .before .before .before in
+    (start .pre .0, at-loop .loop .inv .3)
 
 counted-requires : tie.Need-counted-requires Inv-loop μ-loop
-counted-requires c κs = omega (arith, c .before .before .before .before .before .before .before .before .before .before .before .before .before .before .loop .inv .1)
+counted-requires c κs =
+    let turn = c .before .before .before .before .before .before .before .before .before .before .before .before .before .before .loop in
+    omega (arith, turn .inv .1)
 
 counted-requires-2 : tie.Need-counted-requires-2 Inv-loop μ-loop
-counted-requires-2 c κs = omega (arith, c .before .before .before .before .before .before .before .before .before .before .before .before .before .before .before .loop .inv .2)
+counted-requires-2 c κs =
+    let turn = c .before .before .before .before .before .before .before .before .before .before .before .before .before .before .before .loop in
+    omega (arith, turn .inv .2)
 
 add-i : tie.Need-add-i Inv-loop μ-loop
 add-i c = omega arith
@@ -70,7 +77,9 @@ same-length-4 : tie.Need-same-length-4 Inv-loop μ-loop
 same-length-4 c = c .before .loop .inv .7
 
 returns : tie.Need-returns Inv-loop μ-loop
-returns c = (count-end (λ i. shuffleHit (c .before .before .before .before .before .before .before .before .before .before .before .before .args .seen .location) (pseudoF (c .before .before .before .before .before .before .before .before .before .before .before .before .args .total) (within (c .before .before .before .before .before .before .before .before .before .before .before .before .args .t .now) (c .before .before .before .before .before .before .before .before .before .before .before .before .args .w .now) (shuffledBy (c .before .before .before .before .before .before .before .before .before .before .before .before .args .sn .now) (c .before .before .before .before .before .before .before .before .before .before .before .before .args .sm .now) (c .before .before .before .before .before .before .before .before .before .before .before .before .args .s) (c .before .before .before .before .before .before .before .before .before .before .before .before .args .gs .now) (c .before .before .before .before .before .before .before .before .before .before .before .before .args .seed) i) (c .before .before .before .before .before .before .before .before .before .before .before .before .args .m) (c .before .before .before .before .before .before .before .before .before .before .before .before .args .g)) (c .before .before .before .before .before .before .before .before .before .before .before .before .args .m) (c .before .before .before .before .before .before .before .before .before .before .before .before .args .g))) (c .before .loop .i) (c .before .before .before .before .before .before .before .before .before .before .before .before .args .n) (c .before .loop .a) (omega arith) (c .before .loop .inv .8), count-end (λ i. shuffleHit (c .before .before .before .before .before .before .before .before .before .before .before .before .args .seen .dispersion) (anovaF (c .before .before .before .before .before .before .before .before .before .before .before .before .args .z .now) (shuffledBy (c .before .before .before .before .before .before .before .before .before .before .before .before .args .sn .now) (c .before .before .before .before .before .before .before .before .before .before .before .before .args .sm .now) (c .before .before .before .before .before .before .before .before .before .before .before .before .args .s) (c .before .before .before .before .before .before .before .before .before .before .before .before .args .gs .now) (c .before .before .before .before .before .before .before .before .before .before .before .before .args .seed) i) (c .before .before .before .before .before .before .before .before .before .before .before .before .args .m) (c .before .before .before .before .before .before .before .before .before .before .before .before .args .g))) (c .before .loop .i) (c .before .before .before .before .before .before .before .before .before .before .before .before .args .n) (c .before .loop .b) (omega arith) (c .before .loop .inv .9))
+returns c =
+    let args = c .before .before .before .before .before .before .before .before .before .before .before .before .args in
+    (count-end (λ i. shuffleHit (args .seen .location) (pseudoF (args .total) (within (args .t .now) (args .w .now) (shuffledBy (args .sn .now) (args .sm .now) (args .s) (args .gs .now) (args .seed) i) (args .m) (args .g)) (args .m) (args .g))) (c .before .loop .i) (args .n) (c .before .loop .a) (omega arith) (c .before .loop .inv .8), count-end (λ i. shuffleHit (args .seen .dispersion) (anovaF (args .z .now) (shuffledBy (args .sn .now) (args .sm .now) (args .s) (args .gs .now) (args .seed) i) (args .m) (args .g))) (c .before .loop .i) (args .n) (c .before .loop .b) (omega arith) (c .before .loop .inv .9))
 
 pub count-hits-spec : {M : Type 1} → statement M
 count-hits-spec =

@@ -16,13 +16,18 @@ use Rattle.sampled_hits.proofs.shuffle_found.Statement.{statement}
 use Rattle.sampled_hits.proofs.shuffle_found.Tie as tie
 
 shuffle-again-requires : tie.Need-shuffle-again-requires
-shuffle-again-requires c κs = (c .before .before .before .before .before .before .before .before .before .before .before .pre .0 .strata, c .before .before .before .before .before .before .before .before .before .before .before .pre .1 .labels, c .before .before .before .before .before .before .before .before .before .before .before .pre .0 .labels)
+shuffle-again-requires c κs =
+    let start = c .before .before .before .before .before .before .before .before .before .before .before in
+    (start .pre .0 .strata, start .pre .1 .labels, start .pre .0 .labels)
 
 both-f-requires : tie.Need-both-f-requires
 both-f-requires c κs =
-    let f = shuffledBy-fine (c .before .before .before .before .before .before .before .before .before .before .before .before .before .before .before .before .before .before .args .m) (c .before .before .before .before .before .before .before .before .before .before .before .before .before .before .before .before .before .before .args .g) (omega (arith, c .before .before .before .before .before .before .before .before .before .before .before .before .before .before .before .before .before .before .pre .0 .some)) (c .before .before .before .before .before .before .before .before .before .before .before .before .before .before .before .before .before .before .args .sn .now) (c .before .before .before .before .before .before .before .before .before .before .before .before .before .before .before .before .before .before .args .sm .now) (c .before .before .before .before .before .before .before .before .before .before .before .before .before .before .before .before .before .before .args .s) (c .before .before .before .before .before .before .before .before .before .before .before .before .before .before .before .before .before .before .args .gs .now) (c .before .before .before .before .before .before .before .before .before .before .before .before .before .before .before .before .before .before .args .seed) (c .before .before .before .before .before .before .before .before .before .before .before .before .before .before .before .before .before .before .args .i) (record { long = c .before .before .before .before .before .before .before .before .before .before .before .before .before .before .before .before .before .before .pre .0 .labels; below = c .before .before .before .before .before .before .before .before .before .before .before .before .before .before .before .before .before .before .pre .0 .groups }) in (
-      (c .before .before .before .before .before .before .before .before .before .before .before .before .before .before .before .before .before .before .pre .0 .terms, c .before .before .before .before .before .before .before .before .before .before .before .before .before .before .before .before .before .before .pre .0 .weights, c .before .before .before .before .before .before .before .before .before .before .before .before .before .before .before .before .before .before .pre .0 .observed, ap length (c .before .before .before .before .before .before .shuffle-again .ensures) ∙ f .long, subst (Below (c .before .before .before .before .before .before .before .before .before .before .before .before .before .before .before .before .before .before .args .g)) (sym (c .before .before .before .before .before .before .shuffle-again .ensures)) (f .below)),
-      (c .before .before .before .before .before .before .before .before .before .before .before .before .before .before .before .before .before .before .pre .1 .starts, c .before .before .before .before .before .before .before .before .before .before .before .before .before .before .before .before .before .before .pre .1 .members, c .before .before .before .before .before .before .before .before .before .before .before .before .before .before .before .before .before .before .pre .1 .limited, c .before .before .before .before .before .before .before .before .before .before .before .before .before .before .before .before .before .before .pre .1 .room, c .before .before .before .before .before .before .before .before .before .before .before .before .before .before .before .before .before .before .pre .0 .some, c .before .before .before .before .before .before .before .before .before .before .before .before .before .before .before .before .before .before .pre .0 .enough, c .before .before .before .before .before .before .before .before .before .before .before .before .before .before .before .before .before .before .pre .0 .few),
+    let shuffle-again = c .before .before .before .before .before .before .shuffle-again in
+    let args = c .before .before .before .before .before .before .before .before .before .before .before .before .before .before .before .before .before .before .args in
+    let pre = c .before .before .before .before .before .before .before .before .before .before .before .before .before .before .before .before .before .before .pre in
+    let f = shuffledBy-fine (args .m) (args .g) (omega (arith, pre .0 .some)) (args .sn .now) (args .sm .now) (args .s) (args .gs .now) (args .seed) (args .i) (record { long = pre .0 .labels; below = pre .0 .groups }) in (
+      (pre .0 .terms, pre .0 .weights, pre .0 .observed, ap length (shuffle-again .ensures) ∙ f .long, subst (Below (args .g)) (sym (shuffle-again .ensures)) (f .below)),
+      (pre .1 .starts, pre .1 .members, pre .1 .limited, pre .1 .room, pre .0 .some, pre .0 .enough, pre .0 .few),
     )
 
 shuffle-hit-requires : tie.Need-shuffle-hit-requires
@@ -44,10 +49,13 @@ same-length-4 : tie.Need-same-length-4
 same-length-4 c = search needs
 
 returns : tie.Need-returns
-returns c = (
-  c .before .shuffle-hit .ensures ∙ ap (shuffleHit (c .before .before .before .before .before .before .before .before .before .before .before .before .before .before .before .before .before .before .before .before .before .before .before .before .before .before .before .args .seen .location)) (c .before .before .before .before .before .before .before .before .both-f .ensures .0 ∙ ap (λ (l : List ℕ). pseudoF (c .before .before .before .before .before .before .before .before .before .before .before .before .before .before .before .before .before .before .before .before .before .before .before .before .before .before .before .args .total) (within (c .before .before .before .before .before .before .before .before .before .before .before .before .before .before .before .before .before .before .before .before .before .before .before .before .before .before .before .args .t .now) (c .before .before .before .before .before .before .before .before .before .before .before .before .before .before .before .before .before .before .before .before .before .before .before .before .before .before .before .args .w .now) l (c .before .before .before .before .before .before .before .before .before .before .before .before .before .before .before .before .before .before .before .before .before .before .before .before .before .before .before .args .m) (c .before .before .before .before .before .before .before .before .before .before .before .before .before .before .before .before .before .before .before .before .before .before .before .before .before .before .before .args .g)) (c .before .before .before .before .before .before .before .before .before .before .before .before .before .before .before .before .before .before .before .before .before .before .before .before .before .before .before .args .m) (c .before .before .before .before .before .before .before .before .before .before .before .before .before .before .before .before .before .before .before .before .before .before .before .before .before .before .before .args .g)) (c .before .before .before .before .before .before .before .before .before .before .before .before .before .before .before .shuffle-again .ensures)),
-  c .shuffle-hit2 .ensures ∙ ap (shuffleHit (c .before .before .before .before .before .before .before .before .before .before .before .before .before .before .before .before .before .before .before .before .before .before .before .before .before .before .before .args .seen .dispersion)) (c .before .before .before .before .before .before .before .before .both-f .ensures .1 ∙ ap (λ (l : List ℕ). anovaF (c .before .before .before .before .before .before .before .before .before .before .before .before .before .before .before .before .before .before .before .before .before .before .before .before .before .before .before .args .z .now) l (c .before .before .before .before .before .before .before .before .before .before .before .before .before .before .before .before .before .before .before .before .before .before .before .before .before .before .before .args .m) (c .before .before .before .before .before .before .before .before .before .before .before .before .before .before .before .before .before .before .before .before .before .before .before .before .before .before .before .args .g)) (c .before .before .before .before .before .before .before .before .before .before .before .before .before .before .before .shuffle-again .ensures)),
-)
+returns c =
+    let after-both-f = c .before .before .before .before .before .before .before .before in
+    let after-shuffle-again = after-both-f .before .before .before .before .before .before .before in
+    let start = after-shuffle-again .before .before .before .before .before .before .before .before .before .before .before .before in (
+      c .before .shuffle-hit .ensures ∙ ap (shuffleHit (start .args .seen .location)) (after-both-f .both-f .ensures .0 ∙ ap (λ (l : List ℕ). pseudoF (start .args .total) (within (start .args .t .now) (start .args .w .now) l (start .args .m) (start .args .g)) (start .args .m) (start .args .g)) (after-shuffle-again .shuffle-again .ensures)),
+      c .shuffle-hit2 .ensures ∙ ap (shuffleHit (start .args .seen .dispersion)) (after-both-f .both-f .ensures .1 ∙ ap (λ (l : List ℕ). anovaF (start .args .z .now) l (start .args .m) (start .args .g)) (after-shuffle-again .shuffle-again .ensures)),
+    )
 
 pub shuffle-found-spec : {M : Type 1} → statement M
 shuffle-found-spec =

@@ -28,52 +28,145 @@ entry-requires : tie.Need-entry-requires Inv-loop μ-loop
 entry-requires c κs = omega arith
 
 mul-subtract : tie.Need-mul-subtract Inv-loop μ-loop
-mul-subtract c = omega (arith, row-end (c .before .before .before .before .before .before .before .before .before .before .args .columns) (c .before .before .before .before .loop .i) (length (c .before .before .before .before .before .before .before .before .before .before .args .groups .now)) (c .before .before .before .loop-test .taken), row-end (c .before .before .before .before .before .before .before .before .before .before .args .p) (c .before .before .entry .result) (c .before .before .before .before .before .before .before .before .before .before .args .g) (is-numbered (c .before .before .before .before .before .before .before .before .before .before .args .groups .now) (c .before .before .before .before .loop .i) (c .before .before .entry .ensures) (c .before .before .before .before .before .before .before .before .before .before .args .g) (c .before .before .before .before .before .before .before .before .before .before .pre .5) (c .before .before .before .loop-test .taken) (c .before .if1 .taken)))
+mul-subtract c =
+    let entry2 = c .before .before .entry in
+    let loop-test = c .before .before .before .loop-test in
+    let turn = c .before .before .before .before .loop in
+    let args = c .before .before .before .before .before .before .before .before .before .before .args in
+    let pre = c .before .before .before .before .before .before .before .before .before .before .pre in
+    omega (arith, row-end (args .columns) (turn .i) (length (args .groups .now)) (loop-test .taken), row-end (args .p) (entry2 .result) (args .g) (is-numbered (args .groups .now) (turn .i) (entry2 .ensures) (args .g) (pre .5) (loop-test .taken) (c .before .if1 .taken)))
 
 mul-subtract-2 : tie.Need-mul-subtract-2 Inv-loop μ-loop
-mul-subtract-2 c = omega (arith, row-end (c .before .before .before .before .before .before .before .before .before .before .args .columns) (c .before .before .before .before .loop .i) (length (c .before .before .before .before .before .before .before .before .before .before .args .groups .now)) (c .before .before .before .loop-test .taken), row-end (c .before .before .before .before .before .before .before .before .before .before .args .p) (c .before .before .entry .result) (c .before .before .before .before .before .before .before .before .before .before .args .g) (is-numbered (c .before .before .before .before .before .before .before .before .before .before .args .groups .now) (c .before .before .before .before .loop .i) (c .before .before .entry .ensures) (c .before .before .before .before .before .before .before .before .before .before .args .g) (c .before .before .before .before .before .before .before .before .before .before .pre .5) (c .before .before .before .loop-test .taken) (c .before .if1 .taken)))
+mul-subtract-2 c =
+    let entry2 = c .before .before .entry in
+    let loop-test = c .before .before .before .loop-test in
+    let turn = c .before .before .before .before .loop in
+    let args = c .before .before .before .before .before .before .before .before .before .before .args in
+    let pre = c .before .before .before .before .before .before .before .before .before .before .pre in
+    omega (arith, row-end (args .columns) (turn .i) (length (args .groups .now)) (loop-test .taken), row-end (args .p) (entry2 .result) (args .g) (is-numbered (args .groups .now) (turn .i) (entry2 .ensures) (args .g) (pre .5) (loop-test .taken) (c .before .if1 .taken)))
 
 add-subtract : tie.Need-add-subtract Inv-loop μ-loop
-add-subtract c = omega (arith, row-end (c .before .before .before .before .before .before .before .before .before .before .args .columns) (c .before .before .before .before .loop .i) (length (c .before .before .before .before .before .before .before .before .before .before .args .groups .now)) (c .before .before .before .loop-test .taken), row-end (c .before .before .before .before .before .before .before .before .before .before .args .p) (c .before .before .entry .result) (c .before .before .before .before .before .before .before .before .before .before .args .g) (is-numbered (c .before .before .before .before .before .before .before .before .before .before .args .groups .now) (c .before .before .before .before .loop .i) (c .before .before .entry .ensures) (c .before .before .before .before .before .before .before .before .before .before .args .g) (c .before .before .before .before .before .before .before .before .before .before .pre .5) (c .before .before .before .loop-test .taken) (c .before .if1 .taken)))
+add-subtract c =
+    let entry2 = c .before .before .entry in
+    let loop-test = c .before .before .before .loop-test in
+    let turn = c .before .before .before .before .loop in
+    let args = c .before .before .before .before .before .before .before .before .before .before .args in
+    let pre = c .before .before .before .before .before .before .before .before .before .before .pre in
+    omega (arith, row-end (args .columns) (turn .i) (length (args .groups .now)) (loop-test .taken), row-end (args .p) (entry2 .result) (args .g) (is-numbered (args .groups .now) (turn .i) (entry2 .ensures) (args .g) (pre .5) (loop-test .taken) (c .before .if1 .taken)))
 
 mul-subtract-3 : tie.Need-mul-subtract-3 Inv-loop μ-loop
-mul-subtract-3 c = omega (arith, row-end (c .before .before .before .before .before .before .before .before .before .before .args .columns) (c .before .before .before .before .loop .i) (length (c .before .before .before .before .before .before .before .before .before .before .args .groups .now)) (c .before .before .before .loop-test .taken), row-end (c .before .before .before .before .before .before .before .before .before .before .args .p) (c .before .before .entry .result) (c .before .before .before .before .before .before .before .before .before .before .args .g) (is-numbered (c .before .before .before .before .before .before .before .before .before .before .args .groups .now) (c .before .before .before .before .loop .i) (c .before .before .entry .ensures) (c .before .before .before .before .before .before .before .before .before .before .args .g) (c .before .before .before .before .before .before .before .before .before .before .pre .5) (c .before .before .before .loop-test .taken) (c .before .if1 .taken)))
+mul-subtract-3 c =
+    let entry2 = c .before .before .entry in
+    let loop-test = c .before .before .before .loop-test in
+    let turn = c .before .before .before .before .loop in
+    let args = c .before .before .before .before .before .before .before .before .before .before .args in
+    let pre = c .before .before .before .before .before .before .before .before .before .before .pre in
+    omega (arith, row-end (args .columns) (turn .i) (length (args .groups .now)) (loop-test .taken), row-end (args .p) (entry2 .result) (args .g) (is-numbered (args .groups .now) (turn .i) (entry2 .ensures) (args .g) (pre .5) (loop-test .taken) (c .before .if1 .taken)))
 
 sub-subtract : tie.Need-sub-subtract Inv-loop μ-loop
-sub-subtract c = omega (arith, row-end (c .before .before .before .before .before .before .before .before .before .before .args .columns) (c .before .before .before .before .loop .i) (length (c .before .before .before .before .before .before .before .before .before .before .args .groups .now)) (c .before .before .before .loop-test .taken), row-end (c .before .before .before .before .before .before .before .before .before .before .args .p) (c .before .before .entry .result) (c .before .before .before .before .before .before .before .before .before .before .args .g) (is-numbered (c .before .before .before .before .before .before .before .before .before .before .args .groups .now) (c .before .before .before .before .loop .i) (c .before .before .entry .ensures) (c .before .before .before .before .before .before .before .before .before .before .args .g) (c .before .before .before .before .before .before .before .before .before .before .pre .5) (c .before .before .before .loop-test .taken) (c .before .if1 .taken)))
+sub-subtract c =
+    let entry2 = c .before .before .entry in
+    let loop-test = c .before .before .before .loop-test in
+    let turn = c .before .before .before .before .loop in
+    let args = c .before .before .before .before .before .before .before .before .before .before .args in
+    let pre = c .before .before .before .before .before .before .before .before .before .before .pre in
+    omega (arith, row-end (args .columns) (turn .i) (length (args .groups .now)) (loop-test .taken), row-end (args .p) (entry2 .result) (args .g) (is-numbered (args .groups .now) (turn .i) (entry2 .ensures) (args .g) (pre .5) (loop-test .taken) (c .before .if1 .taken)))
 
 part-subtract-start : tie.Need-part-subtract-start Inv-loop μ-loop
-part-subtract-start c = omega (arith, row-end (c .before .before .before .before .before .before .before .before .before .before .args .columns) (c .before .before .before .before .loop .i) (length (c .before .before .before .before .before .before .before .before .before .before .args .groups .now)) (c .before .before .before .loop-test .taken), row-end (c .before .before .before .before .before .before .before .before .before .before .args .p) (c .before .before .entry .result) (c .before .before .before .before .before .before .before .before .before .before .args .g) (is-numbered (c .before .before .before .before .before .before .before .before .before .before .args .groups .now) (c .before .before .before .before .loop .i) (c .before .before .entry .ensures) (c .before .before .before .before .before .before .before .before .before .before .args .g) (c .before .before .before .before .before .before .before .before .before .before .pre .5) (c .before .before .before .loop-test .taken) (c .before .if1 .taken)))
+part-subtract-start c =
+    let entry2 = c .before .before .entry in
+    let loop-test = c .before .before .before .loop-test in
+    let turn = c .before .before .before .before .loop in
+    let args = c .before .before .before .before .before .before .before .before .before .before .args in
+    let pre = c .before .before .before .before .before .before .before .before .before .before .pre in
+    omega (arith, row-end (args .columns) (turn .i) (length (args .groups .now)) (loop-test .taken), row-end (args .p) (entry2 .result) (args .g) (is-numbered (args .groups .now) (turn .i) (entry2 .ensures) (args .g) (pre .5) (loop-test .taken) (c .before .if1 .taken)))
 
 part-subtract-end : tie.Need-part-subtract-end Inv-loop μ-loop
-part-subtract-end c = omega (arith, row-end (c .before .before .before .before .before .before .before .before .before .before .args .columns) (c .before .before .before .before .loop .i) (length (c .before .before .before .before .before .before .before .before .before .before .args .groups .now)) (c .before .before .before .loop-test .taken), row-end (c .before .before .before .before .before .before .before .before .before .before .args .p) (c .before .before .entry .result) (c .before .before .before .before .before .before .before .before .before .before .args .g) (is-numbered (c .before .before .before .before .before .before .before .before .before .before .args .groups .now) (c .before .before .before .before .loop .i) (c .before .before .entry .ensures) (c .before .before .before .before .before .before .before .before .before .before .args .g) (c .before .before .before .before .before .before .before .before .before .before .pre .5) (c .before .before .before .loop-test .taken) (c .before .if1 .taken)))
+part-subtract-end c =
+    let entry2 = c .before .before .entry in
+    let loop-test = c .before .before .before .loop-test in
+    let turn = c .before .before .before .before .loop in
+    let args = c .before .before .before .before .before .before .before .before .before .before .args in
+    let pre = c .before .before .before .before .before .before .before .before .before .before .pre in
+    omega (arith, row-end (args .columns) (turn .i) (length (args .groups .now)) (loop-test .taken), row-end (args .p) (entry2 .result) (args .g) (is-numbered (args .groups .now) (turn .i) (entry2 .ensures) (args .g) (pre .5) (loop-test .taken) (c .before .if1 .taken)))
 
 mul-subtract-4 : tie.Need-mul-subtract-4 Inv-loop μ-loop
-mul-subtract-4 c = omega (arith, row-end (c .before .before .before .before .before .before .before .before .before .before .before .args .columns) (c .before .before .before .before .before .loop .i) (length (c .before .before .before .before .before .before .before .before .before .before .before .args .groups .now)) (c .before .before .before .before .loop-test .taken), row-end (c .before .before .before .before .before .before .before .before .before .before .before .args .p) (c .before .before .before .entry .result) (c .before .before .before .before .before .before .before .before .before .before .before .args .g) (is-numbered (c .before .before .before .before .before .before .before .before .before .before .before .args .groups .now) (c .before .before .before .before .before .loop .i) (c .before .before .before .entry .ensures) (c .before .before .before .before .before .before .before .before .before .before .before .args .g) (c .before .before .before .before .before .before .before .before .before .before .before .pre .5) (c .before .before .before .before .loop-test .taken) (c .before .before .if1 .taken)))
+mul-subtract-4 c =
+    let entry2 = c .before .before .before .entry in
+    let loop-test = c .before .before .before .before .loop-test in
+    let turn = c .before .before .before .before .before .loop in
+    let args = c .before .before .before .before .before .before .before .before .before .before .before .args in
+    let pre = c .before .before .before .before .before .before .before .before .before .before .before .pre in
+    omega (arith, row-end (args .columns) (turn .i) (length (args .groups .now)) (loop-test .taken), row-end (args .p) (entry2 .result) (args .g) (is-numbered (args .groups .now) (turn .i) (entry2 .ensures) (args .g) (pre .5) (loop-test .taken) (c .before .before .if1 .taken)))
 
 mul-subtract-5 : tie.Need-mul-subtract-5 Inv-loop μ-loop
-mul-subtract-5 c = omega (arith, row-end (c .before .before .before .before .before .before .before .before .before .before .before .args .columns) (c .before .before .before .before .before .loop .i) (length (c .before .before .before .before .before .before .before .before .before .before .before .args .groups .now)) (c .before .before .before .before .loop-test .taken), row-end (c .before .before .before .before .before .before .before .before .before .before .before .args .p) (c .before .before .before .entry .result) (c .before .before .before .before .before .before .before .before .before .before .before .args .g) (is-numbered (c .before .before .before .before .before .before .before .before .before .before .before .args .groups .now) (c .before .before .before .before .before .loop .i) (c .before .before .before .entry .ensures) (c .before .before .before .before .before .before .before .before .before .before .before .args .g) (c .before .before .before .before .before .before .before .before .before .before .before .pre .5) (c .before .before .before .before .loop-test .taken) (c .before .before .if1 .taken)))
+mul-subtract-5 c =
+    let entry2 = c .before .before .before .entry in
+    let loop-test = c .before .before .before .before .loop-test in
+    let turn = c .before .before .before .before .before .loop in
+    let args = c .before .before .before .before .before .before .before .before .before .before .before .args in
+    let pre = c .before .before .before .before .before .before .before .before .before .before .before .pre in
+    omega (arith, row-end (args .columns) (turn .i) (length (args .groups .now)) (loop-test .taken), row-end (args .p) (entry2 .result) (args .g) (is-numbered (args .groups .now) (turn .i) (entry2 .ensures) (args .g) (pre .5) (loop-test .taken) (c .before .before .if1 .taken)))
 
 add-subtract-2 : tie.Need-add-subtract-2 Inv-loop μ-loop
-add-subtract-2 c = omega (arith, row-end (c .before .before .before .before .before .before .before .before .before .before .before .args .columns) (c .before .before .before .before .before .loop .i) (length (c .before .before .before .before .before .before .before .before .before .before .before .args .groups .now)) (c .before .before .before .before .loop-test .taken), row-end (c .before .before .before .before .before .before .before .before .before .before .before .args .p) (c .before .before .before .entry .result) (c .before .before .before .before .before .before .before .before .before .before .before .args .g) (is-numbered (c .before .before .before .before .before .before .before .before .before .before .before .args .groups .now) (c .before .before .before .before .before .loop .i) (c .before .before .before .entry .ensures) (c .before .before .before .before .before .before .before .before .before .before .before .args .g) (c .before .before .before .before .before .before .before .before .before .before .before .pre .5) (c .before .before .before .before .loop-test .taken) (c .before .before .if1 .taken)))
+add-subtract-2 c =
+    let entry2 = c .before .before .before .entry in
+    let loop-test = c .before .before .before .before .loop-test in
+    let turn = c .before .before .before .before .before .loop in
+    let args = c .before .before .before .before .before .before .before .before .before .before .before .args in
+    let pre = c .before .before .before .before .before .before .before .before .before .before .before .pre in
+    omega (arith, row-end (args .columns) (turn .i) (length (args .groups .now)) (loop-test .taken), row-end (args .p) (entry2 .result) (args .g) (is-numbered (args .groups .now) (turn .i) (entry2 .ensures) (args .g) (pre .5) (loop-test .taken) (c .before .before .if1 .taken)))
 
 mul-subtract-6 : tie.Need-mul-subtract-6 Inv-loop μ-loop
-mul-subtract-6 c = omega (arith, row-end (c .before .before .before .before .before .before .before .before .before .before .before .args .columns) (c .before .before .before .before .before .loop .i) (length (c .before .before .before .before .before .before .before .before .before .before .before .args .groups .now)) (c .before .before .before .before .loop-test .taken), row-end (c .before .before .before .before .before .before .before .before .before .before .before .args .p) (c .before .before .before .entry .result) (c .before .before .before .before .before .before .before .before .before .before .before .args .g) (is-numbered (c .before .before .before .before .before .before .before .before .before .before .before .args .groups .now) (c .before .before .before .before .before .loop .i) (c .before .before .before .entry .ensures) (c .before .before .before .before .before .before .before .before .before .before .before .args .g) (c .before .before .before .before .before .before .before .before .before .before .before .pre .5) (c .before .before .before .before .loop-test .taken) (c .before .before .if1 .taken)))
+mul-subtract-6 c =
+    let entry2 = c .before .before .before .entry in
+    let loop-test = c .before .before .before .before .loop-test in
+    let turn = c .before .before .before .before .before .loop in
+    let args = c .before .before .before .before .before .before .before .before .before .before .before .args in
+    let pre = c .before .before .before .before .before .before .before .before .before .before .before .pre in
+    omega (arith, row-end (args .columns) (turn .i) (length (args .groups .now)) (loop-test .taken), row-end (args .p) (entry2 .result) (args .g) (is-numbered (args .groups .now) (turn .i) (entry2 .ensures) (args .g) (pre .5) (loop-test .taken) (c .before .before .if1 .taken)))
 
 sub-subtract-2 : tie.Need-sub-subtract-2 Inv-loop μ-loop
-sub-subtract-2 c = omega (arith, row-end (c .before .before .before .before .before .before .before .before .before .before .before .args .columns) (c .before .before .before .before .before .loop .i) (length (c .before .before .before .before .before .before .before .before .before .before .before .args .groups .now)) (c .before .before .before .before .loop-test .taken), row-end (c .before .before .before .before .before .before .before .before .before .before .before .args .p) (c .before .before .before .entry .result) (c .before .before .before .before .before .before .before .before .before .before .before .args .g) (is-numbered (c .before .before .before .before .before .before .before .before .before .before .before .args .groups .now) (c .before .before .before .before .before .loop .i) (c .before .before .before .entry .ensures) (c .before .before .before .before .before .before .before .before .before .before .before .args .g) (c .before .before .before .before .before .before .before .before .before .before .before .pre .5) (c .before .before .before .before .loop-test .taken) (c .before .before .if1 .taken)))
+sub-subtract-2 c =
+    let entry2 = c .before .before .before .entry in
+    let loop-test = c .before .before .before .before .loop-test in
+    let turn = c .before .before .before .before .before .loop in
+    let args = c .before .before .before .before .before .before .before .before .before .before .before .args in
+    let pre = c .before .before .before .before .before .before .before .before .before .before .before .pre in
+    omega (arith, row-end (args .columns) (turn .i) (length (args .groups .now)) (loop-test .taken), row-end (args .p) (entry2 .result) (args .g) (is-numbered (args .groups .now) (turn .i) (entry2 .ensures) (args .g) (pre .5) (loop-test .taken) (c .before .before .if1 .taken)))
 
 part-subtract-start-2 : tie.Need-part-subtract-start-2 Inv-loop μ-loop
-part-subtract-start-2 c = omega (arith, row-end (c .before .before .before .before .before .before .before .before .before .before .before .args .columns) (c .before .before .before .before .before .loop .i) (length (c .before .before .before .before .before .before .before .before .before .before .before .args .groups .now)) (c .before .before .before .before .loop-test .taken), row-end (c .before .before .before .before .before .before .before .before .before .before .before .args .p) (c .before .before .before .entry .result) (c .before .before .before .before .before .before .before .before .before .before .before .args .g) (is-numbered (c .before .before .before .before .before .before .before .before .before .before .before .args .groups .now) (c .before .before .before .before .before .loop .i) (c .before .before .before .entry .ensures) (c .before .before .before .before .before .before .before .before .before .before .before .args .g) (c .before .before .before .before .before .before .before .before .before .before .before .pre .5) (c .before .before .before .before .loop-test .taken) (c .before .before .if1 .taken)))
+part-subtract-start-2 c =
+    let entry2 = c .before .before .before .entry in
+    let loop-test = c .before .before .before .before .loop-test in
+    let turn = c .before .before .before .before .before .loop in
+    let args = c .before .before .before .before .before .before .before .before .before .before .before .args in
+    let pre = c .before .before .before .before .before .before .before .before .before .before .before .pre in
+    omega (arith, row-end (args .columns) (turn .i) (length (args .groups .now)) (loop-test .taken), row-end (args .p) (entry2 .result) (args .g) (is-numbered (args .groups .now) (turn .i) (entry2 .ensures) (args .g) (pre .5) (loop-test .taken) (c .before .before .if1 .taken)))
 
 part-subtract-end-2 : tie.Need-part-subtract-end-2 Inv-loop μ-loop
-part-subtract-end-2 c = omega (arith, row-end (c .before .before .before .before .before .before .before .before .before .before .before .args .columns) (c .before .before .before .before .before .loop .i) (length (c .before .before .before .before .before .before .before .before .before .before .before .args .groups .now)) (c .before .before .before .before .loop-test .taken), row-end (c .before .before .before .before .before .before .before .before .before .before .before .args .p) (c .before .before .before .entry .result) (c .before .before .before .before .before .before .before .before .before .before .before .args .g) (is-numbered (c .before .before .before .before .before .before .before .before .before .before .before .args .groups .now) (c .before .before .before .before .before .loop .i) (c .before .before .before .entry .ensures) (c .before .before .before .before .before .before .before .before .before .before .before .args .g) (c .before .before .before .before .before .before .before .before .before .before .before .pre .5) (c .before .before .before .before .loop-test .taken) (c .before .before .if1 .taken)))
+part-subtract-end-2 c =
+    let entry2 = c .before .before .before .entry in
+    let loop-test = c .before .before .before .before .loop-test in
+    let turn = c .before .before .before .before .before .loop in
+    let args = c .before .before .before .before .before .before .before .before .before .before .before .args in
+    let pre = c .before .before .before .before .before .before .before .before .before .before .before .pre in
+    omega (arith, row-end (args .columns) (turn .i) (length (args .groups .now)) (loop-test .taken), row-end (args .p) (entry2 .result) (args .g) (is-numbered (args .groups .now) (turn .i) (entry2 .ensures) (args .g) (pre .5) (loop-test .taken) (c .before .before .if1 .taken)))
 
 subtract-requires : tie.Need-subtract-requires Inv-loop μ-loop
-subtract-requires c κs = (length-front (c .before .before .before .before .before .before .before .before .before .before .before .before .args .columns) (c .before .before .before .before .before .before .loop .i) (c .before .before .before .before .before .before .before .before .before .before .before .before .args .p) (c .before .before .before .before .before .before .before .before .before .before .before .before .args .x .now) (omega (arith, row-end (c .before .before .before .before .before .before .before .before .before .before .before .before .args .columns) (c .before .before .before .before .before .before .loop .i) (length (c .before .before .before .before .before .before .before .before .before .before .before .before .args .groups .now)) (c .before .before .before .before .before .loop-test .taken))) ∙ sym (c .before .before .before .before .before .before .loop .inv .1), length-front (c .before .before .before .before .before .before .before .before .before .before .before .before .args .p) (c .before .before .before .before .entry .result) (c .before .before .before .before .before .before .before .before .before .before .before .before .args .p) (c .before .before .before .before .before .before .before .before .before .before .before .before .args .mu .now) (omega (arith, row-end (c .before .before .before .before .before .before .before .before .before .before .before .before .args .p) (c .before .before .before .before .entry .result) (c .before .before .before .before .before .before .before .before .before .before .before .before .args .g) (is-numbered (c .before .before .before .before .before .before .before .before .before .before .before .before .args .groups .now) (c .before .before .before .before .before .before .loop .i) (c .before .before .before .before .entry .ensures) (c .before .before .before .before .before .before .before .before .before .before .before .before .args .g) (c .before .before .before .before .before .before .before .before .before .before .before .before .pre .5) (c .before .before .before .before .before .loop-test .taken) (c .before .before .before .if1 .taken)))) ∙ sym (c .before .before .before .before .before .before .loop .inv .1))
+subtract-requires c κs =
+    let entry2 = c .before .before .before .before .entry in
+    let loop-test = c .before .before .before .before .before .loop-test in
+    let turn = c .before .before .before .before .before .before .loop in
+    let args = c .before .before .before .before .before .before .before .before .before .before .before .before .args in
+    let pre = c .before .before .before .before .before .before .before .before .before .before .before .before .pre in
+    (length-front (args .columns) (turn .i) (args .p) (args .x .now) (omega (arith, row-end (args .columns) (turn .i) (length (args .groups .now)) (loop-test .taken))) ∙ sym (turn .inv .1), length-front (args .p) (entry2 .result) (args .p) (args .mu .now) (omega (arith, row-end (args .p) (entry2 .result) (args .g) (is-numbered (args .groups .now) (turn .i) (entry2 .ensures) (args .g) (pre .5) (loop-test .taken) (c .before .before .before .if1 .taken)))) ∙ sym (turn .inv .1))
 
 add-outer-requires : tie.Need-add-outer-requires Inv-loop μ-loop
-add-outer-requires c κs = (c .before .before .before .before .before .before .before .before .before .before .before .loop .inv .0 .long, c .before .before .before .before .subtract .kept .0 ∙ c .before .before .before .before .before .before .before .before .before .before .before .loop .inv .1, c .before .before .before .before .subtract .kept .0 ∙ c .before .before .before .before .before .before .before .before .before .before .before .loop .inv .1)
+add-outer-requires c κs =
+    let after-subtract = c .before .before .before .before in
+    let at-loop = after-subtract .before .before .before .before .before .before .before in
+    (at-loop .loop .inv .0 .long, after-subtract .subtract .kept .0 ∙ at-loop .loop .inv .1, after-subtract .subtract .kept .0 ∙ at-loop .loop .inv .1)
 
 add-i : tie.Need-add-i Inv-loop μ-loop
 add-i c = omega arith
@@ -83,12 +176,16 @@ loop-less c = omega arith
 
 loop-again : tie.Need-loop-again Inv-loop μ-loop
 loop-again c =
+    let after-entry = c .before in
+    let in-loop = after-entry .before in
+    let at-loop = in-loop .before in
+    let start = at-loop .before .before .before .before .before .before in
     ⊎-elim
     (λ w. (
-      within-turn (c .before .before .before .before .before .before .before .before .before .args .p) (c .before .before .before .before .before .before .before .before .before .args .columns) (c .before .before .before .before .before .before .before .before .before .args .x .now) (c .before .before .before .before .before .before .before .before .before .args .groups .now) (c .before .before .before .before .before .before .before .before .before .args .mu .now) _ (c .before .before .before .loop .sw) (c .before .before .before .loop .inv .0) (c .before .before .loop-test .taken) (c .before .entry .ensures) (w .0 .taken) (c .before .before .before .loop .inv .1) (w .4 .ensures) (w .12 ∙ w .9 .ensures),
-      ap length (w .13) ∙ w .4 .kept .0 ∙ c .before .before .before .loop .inv .1,
+      within-turn (start .args .p) (start .args .columns) (start .args .x .now) (start .args .groups .now) (start .args .mu .now) _ (at-loop .loop .sw) (at-loop .loop .inv .0) (in-loop .loop-test .taken) (after-entry .entry .ensures) (w .0 .taken) (at-loop .loop .inv .1) (w .4 .ensures) (w .12 ∙ w .9 .ensures),
+      ap length (w .13) ∙ w .4 .kept .0 ∙ at-loop .loop .inv .1,
     ))
-    (λ w. (within-pass (c .before .before .before .before .before .before .before .before .before .args .p) (c .before .before .before .before .before .before .before .before .before .args .columns) (c .before .before .before .before .before .before .before .before .before .args .x .now) (c .before .before .before .before .before .before .before .before .before .args .groups .now) (c .before .before .before .before .before .before .before .before .before .args .mu .now) _ (c .before .before .before .loop .sw) (c .before .before .before .loop .inv .0) (c .before .before .loop-test .taken) (c .before .entry .ensures) (w .0 .left) (w .1), ap length (w .2) ∙ c .before .before .before .loop .inv .1))
+    (λ w. (within-pass (start .args .p) (start .args .columns) (start .args .x .now) (start .args .groups .now) (start .args .mu .now) _ (at-loop .loop .sw) (at-loop .loop .inv .0) (in-loop .loop-test .taken) (after-entry .entry .ensures) (w .0 .left) (w .1), ap length (w .2) ∙ at-loop .loop .inv .1))
     (c .if1 .came)
 
 same-length : tie.Need-same-length Inv-loop μ-loop
@@ -98,7 +195,9 @@ same-length-2 : tie.Need-same-length-2 Inv-loop μ-loop
 same-length-2 c = c .before .loop .inv .1 ∙ sym (c .before .before .before .before .before .before .before .pre .1)
 
 returns : tie.Need-returns Inv-loop μ-loop
-returns c = within-end (c .before .before .before .before .before .before .before .args .p) (c .before .before .before .before .before .before .before .args .columns) (c .before .before .before .before .before .before .before .args .x .now) (c .before .before .before .before .before .before .before .args .groups .now) (c .before .before .before .before .before .before .before .args .mu .now) _ (c .before .loop .inv .0) (c .loop-test .left)
+returns c =
+    let start = c .before .before .before .before .before .before .before in
+    within-end (start .args .p) (start .args .columns) (start .args .x .now) (start .args .groups .now) (start .args .mu .now) _ (c .before .loop .inv .0) (c .loop-test .left)
 
 pub add-within-spec : {M : Type 1} → statement M
 add-within-spec =

@@ -12,10 +12,14 @@ use Rattle.separation.proofs.decide.Statement.{statement}
 use Rattle.separation.proofs.decide.Tie as tie
 
 factor-requires : tie.Need-factor-requires
-factor-requires c κs = (c .before .before .before .before .before .before .before .before .before .before .before .pre .1 .1 .2, c .before .before .before .before .before .before .before .before .before .before .before .pre .1 .0 .0)
+factor-requires c κs =
+    let start = c .before .before .before .before .before .before .before .before .before .before .before in
+    (start .pre .1 .1 .2, start .pre .1 .0 .0)
 
 refuse-requires : tie.Need-refuse-requires
-refuse-requires c κs = (omega (arith, c .before .before .before .before .before .before .before .before .before .before .before .before .before .before .before .before .before .pre .0 .room), c .before .before .before .before .before .before .before .before .before .before .before .before .before .before .before .before .before .pre .0 .places)
+refuse-requires c κs =
+    let pre = c .before .before .before .before .before .before .before .before .before .before .before .before .before .before .before .before .before .pre in
+    (omega (arith, pre .0 .room), pre .0 .places)
 
 same-length : tie.Need-same-length
 same-length c = c .before .before .before .before .refuse .kept .0
@@ -47,7 +51,9 @@ enum-told-2 : tie.Need-enum-told-2
 enum-told-2 c = search needs
 
 refuse-requires-2 : tie.Need-refuse-requires-2
-refuse-requires-2 c κs = (omega (arith, c .before .before .before .before .before .before .before .before .before .before .before .before .before .before .before .before .before .before .before .before .before .before .before .before .pre .0 .room), c .before .before .before .before .before .before .before .before .before .before .before .before .before .before .before .before .before .before .before .before .before .before .before .before .pre .0 .places)
+refuse-requires-2 c κs =
+    let pre = c .before .before .before .before .before .before .before .before .before .before .before .before .before .before .before .before .before .before .before .before .before .before .before .before .pre in
+    (omega (arith, pre .0 .room), pre .0 .places)
 
 same-length-4 : tie.Need-same-length-4
 same-length-4 c = c .before .before .before .before .refuse2 .kept .0
@@ -56,7 +62,9 @@ same-length-5 : tie.Need-same-length-5
 same-length-5 c = c .before .before .before .before .refuse2 .kept .1 .0
 
 same-length-6 : tie.Need-same-length-6
-same-length-6 c = c .before .before .before .before .before .before .before .before .before .before .before .before .before .before .before .before .before .factor .kept .0
+same-length-6 c =
+    let after-factor = c .before .before .before .before .before .before .before .before .before .before .before .before .before .before .before .before .before in
+    after-factor .factor .kept .0
 
 same-length-7 : tie.Need-same-length-7
 same-length-7 c = c .before .before .before .before .before .before .before .before .before .before .before .eigenpairs .kept .0
@@ -85,10 +93,14 @@ same-length-9 : tie.Need-same-length-9
 same-length-9 c = c .before .before .before .before .place .kept .1 .0
 
 same-length-10 : tie.Need-same-length-10
-same-length-10 c = c .before .before .before .before .before .before .before .before .before .before .before .before .before .before .before .before .before .before .before .factor .kept .0
+same-length-10 c =
+    let after-factor = c .before .before .before .before .before .before .before .before .before .before .before .before .before .before .before .before .before .before .before in
+    after-factor .factor .kept .0
 
 same-length-11 : tie.Need-same-length-11
-same-length-11 c = c .before .before .before .before .before .before .before .before .before .before .before .before .before .eigenpairs .kept .0
+same-length-11 c =
+    let after-eigenpairs = c .before .before .before .before .before .before .before .before .before .before .before .before .before in
+    after-eigenpairs .eigenpairs .kept .0
 
 returns-3 : tie.Need-returns-3
 returns-3 c =

@@ -44,7 +44,11 @@ same-length-6 c = search needs
 
 returns : tie.Need-returns
 unfolding solution
-returns c = ap (λ (s : Solved). s .found) (c .before .before .before .before .before .before .before .before .before .before .eigen .ensures) ∙ ap (jacobi (c .before .before .before .before .before .before .before .before .before .before .before .before .before .before .before .before .before .before .before .before .before .before .before .before .before .before .before .before .before .before .before .before .args .p)) (c .before .before .before .before .before .before .before .before .before .before .before .before .before .before .before .before .before .before .before .before .before .whiten .ensures)
+returns c =
+    let after-eigen = c .before .before .before .before .before .before .before .before .before .before in
+    let after-whiten = after-eigen .before .before .before .before .before .before .before .before .before .before .before in
+    let start = after-whiten .before .before .before .before .before .before .before .before .before .before .before in
+    ap (λ (s : Solved). s .found) (after-eigen .eigen .ensures) ∙ ap (jacobi (start .args .p)) (after-whiten .whiten .ensures)
 
 pub eigen-of-spec : {M : Type 1} → statement M
 eigen-of-spec =

@@ -29,16 +29,24 @@ same-length-2 : tie.Need-same-length-2
 same-length-2 c = c .before .before .before .before .decompose .kept .1 .0
 
 same-length-3 : tie.Need-same-length-3
-same-length-3 c = c .before .before .before .before .before .before .before .before .before .before .before .before .before .before .before .before .before .before .before .fill .kept .0
+same-length-3 c =
+    let after-fill = c .before .before .before .before .before .before .before .before .before .before .before .before .before .before .before .before .before .before .before in
+    after-fill .fill .kept .0
 
 same-length-4 : tie.Need-same-length-4
-same-length-4 c = c .before .before .before .before .before .before .before .before .before .before .before .before .before .before .before .before .before .before .before .fill .kept .1 .0
+same-length-4 c =
+    let after-fill = c .before .before .before .before .before .before .before .before .before .before .before .before .before .before .before .before .before .before .before in
+    after-fill .fill .kept .1 .0
 
 same-length-5 : tie.Need-same-length-5
-same-length-5 c = c .before .before .before .before .before .before .before .before .before .before .before .before .before .before .before .before .before .before .before .fill .kept .1 .1 .0
+same-length-5 c =
+    let after-fill = c .before .before .before .before .before .before .before .before .before .before .before .before .before .before .before .before .before .before .before in
+    after-fill .fill .kept .1 .1 .0
 
 same-length-6 : tie.Need-same-length-6
-same-length-6 c = c .before .before .before .before .before .before .before .before .before .before .before .before .before .before .before .before .before .before .before .fill .kept .1 .1 .1 .0
+same-length-6 c =
+    let after-fill = c .before .before .before .before .before .before .before .before .before .before .before .before .before .before .before .before .before .before .before in
+    after-fill .fill .kept .1 .1 .1 .0
 
 returns : tie.Need-returns
 returns c =

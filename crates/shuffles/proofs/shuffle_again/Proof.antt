@@ -19,14 +19,20 @@ seeded-requires : tie.Need-seeded-requires
 seeded-requires c κs = search needs
 
 shuffle-requires : tie.Need-shuffle-requires
-shuffle-requires c κs = (c .before .before .before .before .before .before .before .before .before .before .pre .0, omega (arith, c .before .before .before .before .copy-u16 .kept .0))
+shuffle-requires c κs =
+    let pre = c .before .before .before .before .before .before .before .before .before .before .pre in
+    (pre .0, omega (arith, c .before .before .before .before .copy-u16 .kept .0))
 
 same-length : tie.Need-same-length
 same-length c = search needs
 
 returns : tie.Need-returns
 unfolding shuffledBy
-returns c = ap (λ (d : Deal). d .labels) (c .before .before .shuffle .ensures ∙ ap₂ (λ (x : ℕ) (l : List ℕ). inTurn (λ k. shuffleStratum (part (c .before .before .before .before .before .before .before .before .before .before .before .before .before .args .next .now) (c .before .before .before .before .before .before .before .before .before .before .before .before .before .args .mem .now) k)) (c .before .before .before .before .before .before .before .before .before .before .before .before .before .args .s) (deal x l)) (c .before .before .before .before .seeded .ensures) (c .before .before .before .before .before .before .before .copy-u16 .ensures))
+returns c =
+    let after-seeded = c .before .before .before .before in
+    let after-copy-u16 = after-seeded .before .before .before in
+    let start = after-copy-u16 .before .before .before .before .before .before in
+    ap (λ (d : Deal). d .labels) (c .before .before .shuffle .ensures ∙ ap₂ (λ (x : ℕ) (l : List ℕ). inTurn (λ k. shuffleStratum (part (start .args .next .now) (start .args .mem .now) k)) (start .args .s) (deal x l)) (after-seeded .seeded .ensures) (after-copy-u16 .copy-u16 .ensures))
 
 pub shuffle-again-spec : {M : Type 1} → statement M
 shuffle-again-spec =

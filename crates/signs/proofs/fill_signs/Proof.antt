@@ -46,19 +46,34 @@ orient-requires : tie.Need-orient-requires Inv-loop μ-loop
 orient-requires c κs = search needs
 
 mul-out : tie.Need-mul-out Inv-loop μ-loop
-mul-out c = omega (arith, row-end (c .before .before .before .before .before .before .args .n) (c .before .before .before .loop .c) (length (c .before .before .before .before .before .before .args .out .now)) (c .before .before .loop-test .taken), c .before .before .before .loop .inv .long)
+mul-out c =
+    let turn = c .before .before .before .loop in
+    let args = c .before .before .before .before .before .before .args in
+    omega (arith, row-end (args .n) (turn .c) (length (args .out .now)) (c .before .before .loop-test .taken), turn .inv .long)
 
 slice-write-out : tie.Need-slice-write-out Inv-loop μ-loop
-slice-write-out c = omega (arith, row-end (c .before .before .before .before .before .before .args .n) (c .before .before .before .loop .c) (length (c .before .before .before .before .before .before .args .out .now)) (c .before .before .loop-test .taken), c .before .before .before .loop .inv .long)
+slice-write-out c =
+    let turn = c .before .before .before .loop in
+    let args = c .before .before .before .before .before .before .args in
+    omega (arith, row-end (args .n) (turn .c) (length (args .out .now)) (c .before .before .loop-test .taken), turn .inv .long)
 
 add-c : tie.Need-add-c Inv-loop μ-loop
-add-c c = omega (arith, row-end (c .before .before .before .before .before .before .args .n) (c .before .before .before .loop .c) (length (c .before .before .before .before .before .before .args .out .now)) (c .before .before .loop-test .taken), c .before .before .before .loop .inv .long)
+add-c c =
+    let turn = c .before .before .before .loop in
+    let args = c .before .before .before .before .before .before .args in
+    omega (arith, row-end (args .n) (turn .c) (length (args .out .now)) (c .before .before .loop-test .taken), turn .inv .long)
 
 loop-less : tie.Need-loop-less Inv-loop μ-loop
-loop-less c = omega (arith, row-end (c .before .before .before .before .before .before .args .n) (c .before .before .before .loop .c) (length (c .before .before .before .before .before .before .args .out .now)) (c .before .before .loop-test .taken), c .before .before .before .loop .inv .long)
+loop-less c =
+    let turn = c .before .before .before .loop in
+    let args = c .before .before .before .before .before .before .args in
+    omega (arith, row-end (args .n) (turn .c) (length (args .out .now)) (c .before .before .loop-test .taken), turn .inv .long)
 
 loop-again : tie.Need-loop-again Inv-loop μ-loop
-loop-again c = writing-next _ _ (c .before .before .before .loop .inv) (c .before .before .loop-test .taken) (c .orient .ensures ∙ ap orient (part-row (c .before .before .before .before .before .before .args .n) (c .before .before .before .loop .c) (c .before .before .before .before .before .before .args .vectors .now)))
+loop-again c =
+    let at-loop = c .before .before .before in
+    let start = at-loop .before .before .before in
+    writing-next _ _ (at-loop .loop .inv) (c .before .before .loop-test .taken) (c .orient .ensures ∙ ap orient (part-row (start .args .n) (at-loop .loop .c) (start .args .vectors .now)))
 
 same-length : tie.Need-same-length Inv-loop μ-loop
 same-length c = c .before .loop .inv .long

@@ -18,7 +18,9 @@ abbrev μ-loop : tie.MeasureT-loop
 
 -- row i lies within the slice
 within : (c : tie.In-loop Inv-loop μ-loop) → c .before .loop .i * c .before .before .before .before .before .args .b + c .before .before .before .before .before .args .b ≤ length (c .before .loop .t)
-within c = omega (arith, row-end (c .before .before .before .before .before .args .b) (c .before .loop .i) (c .before .before .before .before .before .args .b) (c .loop-test .taken), c .before .loop .inv .long)
+within c =
+    let args = c .before .before .before .before .before .args in
+    omega (arith, row-end (args .b) (c .before .loop .i) (args .b) (c .loop-test .taken), c .before .loop .inv .long)
 
 loop-holds : tie.Need-loop-holds Inv-loop μ-loop
 loop-holds c =

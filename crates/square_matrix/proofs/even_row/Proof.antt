@@ -42,7 +42,10 @@ loop-less : tie.Need-loop-less Inv-loop μ-loop
 loop-less c = omega arith
 
 loop-again : tie.Need-loop-again Inv-loop μ-loop
-loop-again c = (omega arith, omega arith, c .before .before .even .kept .0 ∙ c .before .before .before .before .before .loop .inv .2, fromTo-next _ _ _ _ (c .before .before .before .before .before .loop .inv .0) (c .before .before .before .before .before .loop .inv .3) (c .before .before .even .ensures))
+loop-again c =
+    let even = c .before .before .even in
+    let turn = c .before .before .before .before .before .loop in
+    (omega arith, omega arith, even .kept .0 ∙ turn .inv .2, fromTo-next _ _ _ _ (turn .inv .0) (turn .inv .3) (even .ensures))
 
 same-length : tie.Need-same-length Inv-loop μ-loop
 same-length c = c .before .loop .inv .2

@@ -30,13 +30,18 @@ loop-less : tie.Need-loop-less Inv-loop μ-loop
 loop-less c = omega arith
 
 loop-again : tie.Need-loop-again Inv-loop μ-loop
-loop-again c = (omega arith, c .before .before .even-row .kept .0 ∙ c .before .before .before .before .before .loop .inv .1, inTurn-next _ _ _ (c .before .before .before .before .before .loop .inv .2) (c .before .before .even-row .ensures))
+loop-again c =
+    let even-row = c .before .before .even-row in
+    let turn = c .before .before .before .before .before .loop in
+    (omega arith, even-row .kept .0 ∙ turn .inv .1, inTurn-next _ _ _ (turn .inv .2) (even-row .ensures))
 
 same-length : tie.Need-same-length Inv-loop μ-loop
 same-length c = c .before .loop .inv .1
 
 returns : tie.Need-returns Inv-loop μ-loop
-returns c = let e : c .before .loop .i ≡ c .before .before .before .args .p = omega arith in (rw e at (c .before .loop .inv .2)) ∙ evened-all (c .before .before .before .args .p) (c .before .before .before .args .m .now) (c .before .before .before .pre)
+returns c =
+    let args = c .before .before .before .args in
+    let e : c .before .loop .i ≡ args .p = omega arith in (rw e at (c .before .loop .inv .2)) ∙ evened-all (args .p) (args .m .now) (c .before .before .before .pre)
 
 pub symmetrise-spec : {M : Type 1} → statement M
 symmetrise-spec =

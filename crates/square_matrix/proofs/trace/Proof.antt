@@ -33,21 +33,36 @@ mul-s-2 : tie.Need-mul-s-2 Inv-loop μ-loop
 mul-s-2 c = omega (arith, cell-below (c .before .before .args .n) (c .before .before .args .n) (c .before .loop .i) (c .before .loop .i) (c .loop-test .taken) (c .loop-test .taken))
 
 shared-slice-read-s : tie.Need-shared-slice-read-s Inv-loop μ-loop
-shared-slice-read-s c = omega (arith, cell-below (c .before .before .before .args .n) (c .before .before .before .args .n) (c .before .before .loop .i) (c .before .before .loop .i) (c .before .loop-test .taken) (c .before .loop-test .taken))
+shared-slice-read-s c =
+    let turn = c .before .before .loop in
+    let args = c .before .before .before .args in
+    omega (arith, cell-below (args .n) (args .n) (turn .i) (turn .i) (c .before .loop-test .taken) (c .before .loop-test .taken))
 
 add-i : tie.Need-add-i Inv-loop μ-loop
-add-i c = omega (arith, cell-below (c .before .before .before .args .n) (c .before .before .before .args .n) (c .before .before .loop .i) (c .before .before .loop .i) (c .before .loop-test .taken) (c .before .loop-test .taken))
+add-i c =
+    let turn = c .before .before .loop in
+    let args = c .before .before .before .args in
+    omega (arith, cell-below (args .n) (args .n) (turn .i) (turn .i) (c .before .loop-test .taken) (c .before .loop-test .taken))
 
 loop-less : tie.Need-loop-less Inv-loop μ-loop
-loop-less c = omega (arith, cell-below (c .before .before .before .args .n) (c .before .before .before .args .n) (c .before .before .loop .i) (c .before .before .loop .i) (c .before .loop-test .taken) (c .before .loop-test .taken))
+loop-less c =
+    let turn = c .before .before .loop in
+    let args = c .before .before .before .args in
+    omega (arith, cell-below (args .n) (args .n) (turn .i) (turn .i) (c .before .loop-test .taken) (c .before .loop-test .taken))
 
 loop-again : tie.Need-loop-again Inv-loop μ-loop
 unfolding entry
-loop-again c = (omega arith, sum-turn (λ k. entry (c .before .before .before .args .n) (c .before .before .before .args .b .now) k k) (c .before .before .loop .s) (c .before .before .loop .i) (c .before .before .before .args .n) (c .before .loop-test .taken) refl refl (c .before .before .loop .inv .1))
+loop-again c =
+    let turn = c .before .before .loop in
+    let args = c .before .before .before .args in
+    (omega arith, sum-turn (λ k. entry (args .n) (args .b .now) k k) (turn .s) (turn .i) (args .n) (c .before .loop-test .taken) refl refl (turn .inv .1))
 
 returns : tie.Need-returns Inv-loop μ-loop
 unfolding trace
-returns c = sum-end (λ k. entry (c .before .before .args .n) (c .before .before .args .b .now) k k) (c .before .loop .s) (c .before .loop .i) (c .before .before .args .n) (c .loop-test .left) (c .before .loop .inv .1) ∙ sym (sum-table zero⁻ (c .before .before .args .n) (λ k. entry (c .before .before .args .n) (c .before .before .args .b .now) k k))
+returns c =
+    let at-loop = c .before in
+    let start = at-loop .before in
+    sum-end (λ k. entry (start .args .n) (start .args .b .now) k k) (at-loop .loop .s) (at-loop .loop .i) (start .args .n) (c .loop-test .left) (at-loop .loop .inv .1) ∙ sym (sum-table zero⁻ (start .args .n) (λ k. entry (start .args .n) (start .args .b .now) k k))
 
 pub trace-spec : {M : Type 1} → statement M
 trace-spec =

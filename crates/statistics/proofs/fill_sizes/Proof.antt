@@ -21,10 +21,15 @@ loop-holds : tie.Need-loop-holds Inv-loop μ-loop
 loop-holds c = (omega arith, writing-none (λ k. length (part (c .before .before .before .args .next .now) (c .before .before .before .args .mem .now) k)) (c .before .before .before .args .out .now))
 
 part-of-requires : tie.Need-part-of-requires Inv-loop μ-loop
-part-of-requires c κs = part-there (c .before .before .before .before .before .args .m) (c .before .before .before .before .before .args .g) (c .before .loop .k) (c .before .before .before .before .before .args .next .now) (c .before .before .before .before .before .args .mem .now) (c .before .before .before .before .before .pre .0) (omega arith)
+part-of-requires c κs =
+    let args = c .before .before .before .before .before .args in
+    let pre = c .before .before .before .before .before .pre in
+    part-there (args .m) (args .g) (c .before .loop .k) (args .next .now) (args .mem .now) (pre .0) (omega arith)
 
 cast-out : tie.Need-cast-out Inv-loop μ-loop
-cast-out c = omega (arith, ap length (c .part-of .ensures), part-short (c .before .before .before .before .before .before .args .next .now) (c .before .before .before .before .before .before .args .mem .now) (c .before .before .loop .k))
+cast-out c =
+    let args = c .before .before .before .before .before .before .args in
+    omega (arith, ap length (c .part-of .ensures), part-short (args .next .now) (args .mem .now) (c .before .before .loop .k))
 
 mul-out : tie.Need-mul-out Inv-loop μ-loop
 mul-out c = omega (arith, c .before .before .loop .inv .1 .long)
@@ -39,13 +44,17 @@ loop-less : tie.Need-loop-less Inv-loop μ-loop
 loop-less c = omega arith
 
 loop-again : tie.Need-loop-again Inv-loop μ-loop
-loop-again c = (omega arith, writing-next (λ k. length (part (c .before .before .before .before .before .before .args .next .now) (c .before .before .before .before .before .before .args .mem .now) k)) (c .before .before .before .before .before .before .args .out .now) (c .before .before .loop .inv .1) (omega arith) (ap length (c .part-of .ensures)))
+loop-again c =
+    let args = c .before .before .before .before .before .before .args in
+    (omega arith, writing-next (λ k. length (part (args .next .now) (args .mem .now) k)) (args .out .now) (c .before .before .loop .inv .1) (omega arith) (ap length (c .part-of .ensures)))
 
 same-length : tie.Need-same-length Inv-loop μ-loop
 same-length c = c .before .loop .inv .1 .long
 
 returns : tie.Need-returns Inv-loop μ-loop
-returns c = writing-front (λ k. length (part (c .before .before .before .before .before .args .next .now) (c .before .before .before .before .before .args .mem .now) k)) (c .before .before .before .before .before .args .out .now) (c .before .loop .inv .1) (omega arith)
+returns c =
+    let args = c .before .before .before .before .before .args in
+    writing-front (λ k. length (part (args .next .now) (args .mem .now) k)) (args .out .now) (c .before .loop .inv .1) (omega arith)
 
 pub fill-sizes-spec : {M : Type 1} → statement M
 fill-sizes-spec =

@@ -22,19 +22,25 @@ flag-requires-3 : tie.Need-flag-requires-3
 flag-requires-3 c κs = search needs
 
 add-result-2 : tie.Need-add-result-2
-add-result-2 c = omega (arith, c .before .before .flag .ensures, c .before .flag2 .ensures, c .flag3 .ensures, bit-le 1 (c .before .before .before .args .left), bit-le 2 (c .before .before .before .args .uninformed), bit-le 4 (c .before .before .before .args .few))
+add-result-2 c =
+    let args = c .before .before .before .args in
+    omega (arith, c .before .before .flag .ensures, c .before .flag2 .ensures, c .flag3 .ensures, bit-le 1 (args .left), bit-le 2 (args .uninformed), bit-le 4 (args .few))
 
 flag-requires-4 : tie.Need-flag-requires-4
 flag-requires-4 c κs = search needs
 
 add-result-3 : tie.Need-add-result-3
-add-result-3 c = omega (arith, c .before .before .before .flag .ensures, c .before .before .flag2 .ensures, c .before .flag3 .ensures, c .flag4 .ensures, bit-le 1 (c .before .before .before .before .args .left), bit-le 2 (c .before .before .before .before .args .uninformed), bit-le 4 (c .before .before .before .before .args .few), bit-le 8 (c .before .before .before .before .args .small))
+add-result-3 c =
+    let args = c .before .before .before .before .args in
+    omega (arith, c .before .before .before .flag .ensures, c .before .before .flag2 .ensures, c .before .flag3 .ensures, c .flag4 .ensures, bit-le 1 (args .left), bit-le 2 (args .uninformed), bit-le 4 (args .few), bit-le 8 (args .small))
 
 flag-requires-5 : tie.Need-flag-requires-5
 flag-requires-5 c κs = search needs
 
 add-result-4 : tie.Need-add-result-4
-add-result-4 c = omega (arith, c .before .before .before .before .flag .ensures, c .before .before .before .flag2 .ensures, c .before .before .flag3 .ensures, c .before .flag4 .ensures, c .flag5 .ensures, bit-le 1 (c .before .before .before .before .before .args .left), bit-le 2 (c .before .before .before .before .before .args .uninformed), bit-le 4 (c .before .before .before .before .before .args .few), bit-le 8 (c .before .before .before .before .before .args .small), bit-le 16 (c .before .before .before .before .before .args .negative))
+add-result-4 c =
+    let args = c .before .before .before .before .before .args in
+    omega (arith, c .before .before .before .before .flag .ensures, c .before .before .before .flag2 .ensures, c .before .before .flag3 .ensures, c .before .flag4 .ensures, c .flag5 .ensures, bit-le 1 (args .left), bit-le 2 (args .uninformed), bit-le 4 (args .few), bit-le 8 (args .small), bit-le 16 (args .negative))
 
 returns : tie.Need-returns
 unfolding addUp

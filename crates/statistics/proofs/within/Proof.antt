@@ -17,7 +17,9 @@ within-requires c κs = search needs
 
 returns : tie.Need-returns
 unfolding within
-returns c = c .within .ensures ∙ ap (sumFrom zero⁻) (table-ext _ (λ k. groupWithin (c .before .before .before .before .before .before .args .t .now) (c .before .before .before .before .before .before .args .w .now) (c .before .before .before .before .before .before .args .m) (members (c .before .before .before .before .before .before .args .lab .now) (c .before .before .before .before .before .before .args .m) k)) (c .before .before .before .before .before .before .args .g) (λ k h. ap (groupWithin (c .before .before .before .before .before .before .args .t .now) (c .before .before .before .before .before .before .args .w .now) (c .before .before .before .before .before .before .args .m)) (c .before .before .before .before .before .before .pre .2 .are k h)))
+returns c =
+    let start = c .before .before .before .before .before .before in
+    c .within .ensures ∙ ap (sumFrom zero⁻) (table-ext _ (λ k. groupWithin (start .args .t .now) (start .args .w .now) (start .args .m) (members (start .args .lab .now) (start .args .m) k)) (start .args .g) (λ k h. ap (groupWithin (start .args .t .now) (start .args .w .now) (start .args .m)) (start .pre .2 .are k h)))
 
 pub within-spec : {M : Type 1} → statement M
 within-spec = tie.close (tie.spec within-requires returns)

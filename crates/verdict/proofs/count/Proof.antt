@@ -10,7 +10,10 @@ see-requires : tie.Need-see-requires
 see-requires c κs = search needs
 
 count-hits-requires : tie.Need-count-hits-requires
-count-hits-requires c κs = (prepared-for (c .before .before .before .before .before .before .before .before .before .before .before .before .before .before .before .pre .0) (c .before .before .before .before .before .before .before .before .before .before .before .before .before .before .before .pre .3) (c .before .before .before .before .see .kept .0), (c .before .before .before .before .before .before .before .before .before .before .before .before .before .before .before .pre .1, c .before .before .before .before .before .before .before .before .before .before .before .before .before .before .before .pre .2))
+count-hits-requires c κs =
+    let after-see = c .before .before .before .before in
+    let start = after-see .before .before .before .before .before .before .before .before .before .before .before in
+    (prepared-for (start .pre .0) (start .pre .3) (after-see .see .kept .0), (start .pre .1, start .pre .2))
 
 same-length : tie.Need-same-length
 same-length c = search needs
@@ -19,7 +22,11 @@ same-length-2 : tie.Need-same-length-2
 same-length-2 c = search needs
 
 returns : tie.Need-returns
-returns c = counted-is _ _ _ _ _ _ _ _ _ _ _ _ _ _ (c .before .before .before .before .before .before .before .before .before .before .before .before .before .before .before .before .before .before .before .before .pre .3) (c .before .before .before .before .before .before .before .before .before .see .ensures) (c .before .before .before .before .count-hits .ensures)
+returns c =
+    let after-count-hits = c .before .before .before .before in
+    let after-see = after-count-hits .before .before .before .before .before in
+    let start = after-see .before .before .before .before .before .before .before .before .before .before .before in
+    counted-is _ _ _ _ _ _ _ _ _ _ _ _ _ _ (start .pre .3) (after-see .see .ensures) (after-count-hits .count-hits .ensures)
 
 pub count-spec : {M : Type 1} → statement M
 count-spec =

@@ -16,7 +16,11 @@ is-barred-requires : tie.Need-is-barred-requires
 is-barred-requires c κs = search needs
 
 count-requires : tie.Need-count-requires
-count-requires c κs = ways-ready (c .before .before .before .before .before .before .before .before .before .before .before .before .before .before .args .rows .now) (c .before .before .before .before .before .before .before .before .before .before .before .before .before .before .pre) (c .before .before .before .before .leading .ensures) (c .before .before .before .leading-of .ensures)
+count-requires c κs =
+    let after-leading-of = c .before .before .before in
+    let after-leading = after-leading-of .before in
+    let start = after-leading .before .before .before .before .before .before .before .before .before .before in
+    ways-ready (start .args .rows .now) (start .pre) (after-leading .leading .ensures) (after-leading-of .leading-of .ensures)
 
 same-length : tie.Need-same-length
 same-length c = search needs
@@ -25,7 +29,12 @@ same-length-2 : tie.Need-same-length-2
 same-length-2 c = search needs
 
 returns : tie.Need-returns
-returns c = counted-by _ _ _ _ _ _ _ _ _ _ _ (c .before .before .before .before .before .before .before .before .before .leading .ensures) (c .before .before .before .before .before .before .before .before .leading-of .ensures) (c .before .before .before .before .before .before .before .is-barred .ensures) (c .before .before .before .before .count .ensures)
+returns c =
+    let after-count = c .before .before .before .before in
+    let after-is-barred = after-count .before .before .before in
+    let after-leading-of = after-is-barred .before in
+    let after-leading = after-leading-of .before in
+    counted-by _ _ _ _ _ _ _ _ _ _ _ (after-leading .leading .ensures) (after-leading-of .leading-of .ensures) (after-is-barred .is-barred .ensures) (after-count .count .ensures)
 
 pub count-kept-spec : {M : Type 1} → statement M
 count-kept-spec =

@@ -9,19 +9,29 @@ use Rattle.verdict.proofs.judge_kept.Statement.{statement}
 use Rattle.verdict.proofs.judge_kept.Tie as tie
 
 array-borrow-prefix-w : tie.Need-array-borrow-prefix-w
-array-borrow-prefix-w c = omega (arith, c .before .before .before .before .before .before .before .before .before .before .before .before .before .before .before .before .before .pre .0 .kept, c .before .before .before .before .before .before .before .before .before .before .before .before .before .before .before .before .before .pre .0 .few)
+array-borrow-prefix-w c =
+    let pre = c .before .before .before .before .before .before .before .before .before .before .before .before .before .before .before .before .before .pre in
+    omega (arith, pre .0 .kept, pre .0 .few)
 
 slice-aggregate-judge-with : tie.Need-slice-aggregate-judge-with
-slice-aggregate-judge-with c = sym (length-take-le _ _ (omega (arith, c .before .before .before .before .before .before .before .before .before .before .before .before .before .before .before .before .before .before .pre .0 .kept, c .before .before .before .before .before .before .before .before .before .before .before .before .before .before .before .before .before .before .pre .0 .few)))
+slice-aggregate-judge-with c =
+    let pre = c .before .before .before .before .before .before .before .before .before .before .before .before .before .before .before .before .before .before .pre in
+    sym (length-take-le _ _ (omega (arith, pre .0 .kept, pre .0 .few)))
 
 array-borrow-prefix-z : tie.Need-array-borrow-prefix-z
-array-borrow-prefix-z c = omega (arith, c .before .before .before .before .before .before .before .before .before .before .before .before .before .before .before .before .before .before .pre .0 .kept, c .before .before .before .before .before .before .before .before .before .before .before .before .before .before .before .before .before .before .pre .0 .few)
+array-borrow-prefix-z c =
+    let pre = c .before .before .before .before .before .before .before .before .before .before .before .before .before .before .before .before .before .before .pre in
+    omega (arith, pre .0 .kept, pre .0 .few)
 
 slice-aggregate-judge-with-2 : tie.Need-slice-aggregate-judge-with-2
-slice-aggregate-judge-with-2 c = sym (length-take-le _ _ (omega (arith, c .before .before .before .before .before .before .before .before .before .before .before .before .before .before .before .before .before .before .before .pre .0 .kept, c .before .before .before .before .before .before .before .before .before .before .before .before .before .before .before .before .before .before .before .pre .0 .few)))
+slice-aggregate-judge-with-2 c =
+    let pre = c .before .before .before .before .before .before .before .before .before .before .before .before .before .before .before .before .before .before .before .pre in
+    sym (length-take-le _ _ (omega (arith, pre .0 .kept, pre .0 .few)))
 
 judge-with-requires : tie.Need-judge-with-requires
-judge-with-requires c κs = (c .before .before .before .before .before .before .before .before .before .before .before .before .before .before .before .before .before .before .before .before .before .pre .0, (c .before .before .before .before .before .before .before .before .before .before .before .before .before .before .before .before .before .before .before .before .before .pre .1 .0, c .before .before .before .before .before .before .before .before .before .before .before .before .before .before .before .before .before .before .before .before .before .pre .1 .1, c .before .before .before .before .before .before .before .before .before .before .before .before .before .before .before .before .before .before .before .before .before .pre .1 .2, c .before .before .before .before .before .before .before .before .before .before .before .before .before .before .before .before .before .before .before .before .before .pre .1 .3, length-take-le _ _ (omega (arith, c .before .before .before .before .before .before .before .before .before .before .before .before .before .before .before .before .before .before .before .before .before .pre .0 .kept, c .before .before .before .before .before .before .before .before .before .before .before .before .before .before .before .before .before .before .before .before .before .pre .0 .few)), length-take-le _ _ (omega (arith, c .before .before .before .before .before .before .before .before .before .before .before .before .before .before .before .before .before .before .before .before .before .pre .0 .kept, c .before .before .before .before .before .before .before .before .before .before .before .before .before .before .before .before .before .before .before .before .before .pre .0 .few))))
+judge-with-requires c κs =
+    let pre = c .before .before .before .before .before .before .before .before .before .before .before .before .before .before .before .before .before .before .before .before .before .pre in
+    (pre .0, (pre .1 .0, pre .1 .1, pre .1 .2, pre .1 .3, length-take-le _ _ (omega (arith, pre .0 .kept, pre .0 .few)), length-take-le _ _ (omega (arith, pre .0 .kept, pre .0 .few))))
 
 same-length : tie.Need-same-length
 same-length c = search needs

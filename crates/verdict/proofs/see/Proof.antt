@@ -19,7 +19,10 @@ same-length : tie.Need-same-length
 same-length c = search needs
 
 returns : tie.Need-returns
-returns c = seen-is (c .before .before .before .before .before .before .before .before .before .before .args .o) (c .before .statistic-of .ensures) (c .statistic-of2 .ensures) (c .before .before .before .before .assignment-of .ensures)
+returns c =
+    let after-assignment-of = c .before .before .before .before in
+    let start = after-assignment-of .before .before .before .before .before .before in
+    seen-is (start .args .o) (c .before .statistic-of .ensures) (c .statistic-of2 .ensures) (after-assignment-of .assignment-of .ensures)
 
 pub see-spec : {M : Type 1} → statement M
 see-spec =

@@ -39,7 +39,10 @@ abbrev μ-loop : lts.MeasureT-loop
 μ-loop strata g at counts₀ way₀ scores₀ t p w x ks total n columns lead barred observed m row location₀ dispersion₀ assignment₀ j₀ counts way scores location dispersion assignment j = g - j
 
 judge-way-requires : (t : ℕ) → lts.Need-judge-way-requires (claims t) (pre t) reads.Post Inv-loop μ-loop
-judge-way-requires t c κs = let full : c .before .before .before .before .before .before .before .before .before .before .before .before .args .at ≡ length (c .before .before .before .before .before .before .before .before .before .before .before .before .args .strata .now) = omega arith in (c .before .before .before .before .before .before .before .before .before .before .before .before .pre .1 .1 .1 .1 .1 .0, ahead-leaf _ _ _ _ _ _ full (c .before .before .before .before .before .before .before .before .before .before .before .before .pre .1 .1 .0) (c .before .before .before .before .before .before .before .before .before .before .before .before .pre .1 .1 .1 .1 .1 .1))
+judge-way-requires t c κs =
+    let args = c .before .before .before .before .before .before .before .before .before .before .before .before .args in
+    let pre = c .before .before .before .before .before .before .before .before .before .before .before .before .pre in
+    let full : args .at ≡ length (args .strata .now) = omega arith in (pre .1 .1 .1 .1 .1 .0, ahead-leaf _ _ _ _ _ _ full (pre .1 .1 .0) (pre .1 .1 .1 .1 .1 .1))
 
 same-length : (t : ℕ) → lts.Need-same-length (claims t) (pre t) reads.Post Inv-loop μ-loop
 same-length t c = refl
@@ -48,7 +51,10 @@ same-length-2 : (t : ℕ) → lts.Need-same-length-2 (claims t) (pre t) reads.Po
 same-length-2 t c = c .before .before .judge-way .kept .0
 
 returns : (t : ℕ) → lts.Need-returns (claims t) (pre t) reads.Post Inv-loop μ-loop
-returns t c = let full : c .before .before .before .before .before .before .before .before .before .before .before .before .before .before .before .args .at ≡ length (c .before .before .before .before .before .before .before .before .before .before .before .before .before .before .before .args .strata .now) = omega arith in (leaf-counted _ _ _ _ _ _ _ _ (c .before .before .judge-way .ensures) full (c .before .before .before .before .before .before .before .before .before .before .before .before .before .before .before .pre .1 .1 .0), (refl, refl))
+returns t c =
+    let args = c .before .before .before .before .before .before .before .before .before .before .before .before .before .before .before .args in
+    let pre = c .before .before .before .before .before .before .before .before .before .before .before .before .before .before .before .pre in
+    let full : args .at ≡ length (args .strata .now) = omega arith in (leaf-counted _ _ _ _ _ _ _ _ (c .before .before .judge-way .ensures) full (pre .1 .1 .0), (refl, refl))
 
 mul-row : (t : ℕ) → lts.Need-mul-row (claims t) (pre t) reads.Post Inv-loop μ-loop
 mul-row t c = omega arith
@@ -57,14 +63,22 @@ shared-slice-read-row : (t : ℕ) → lts.Need-shared-slice-read-row (claims t) 
 shared-slice-read-row t c = omega arith
 
 cast-row : (t : ℕ) → lts.Need-cast-row (claims t) (pre t) reads.Post Inv-loop μ-loop
-cast-row t c = omega (arith, c .before .before .before .before .before .before .before .before .before .before .shared-slice-known .given (c .before .before .before .before .before .before .before .before .before .before .before .args .at))
+cast-row t c =
+    let shared-slice-known = c .before .before .before .before .before .before .before .before .before .before .shared-slice-known in
+    let args = c .before .before .before .before .before .before .before .before .before .before .before .args in
+    omega (arith, shared-slice-known .given (args .at))
 
 mul-row-2 : (t : ℕ) → lts.Need-mul-row-2 (claims t) (pre t) reads.Post Inv-loop μ-loop
 unfolding HasRows
-mul-row-2 t c = omega (arith, c .before .before .before .before .before .before .before .before .before .before .before .pre .1 .1 .1 .0 (c .before .before .before .before .before .before .before .before .before .before .before .args .at) (omega arith))
+mul-row-2 t c =
+    let args = c .before .before .before .before .before .before .before .before .before .before .before .args in
+    let pre = c .before .before .before .before .before .before .before .before .before .before .before .pre in
+    omega (arith, pre .1 .1 .1 .0 (args .at) (omega arith))
 
 loop-holds : (t : ℕ) → lts.Need-loop-holds (claims t) (pre t) reads.Post Inv-loop μ-loop
-loop-holds t c = (turn-first _ _ _ _ _ (omega arith) (c .before .before .before .before .before .before .before .before .before .before .before .pre .1 .1 .0) (c .before .before .before .before .before .before .before .before .before .before .before .pre .1 .1 .1 .0), refl, counted-none _ _ _ _ _ _ _ _)
+loop-holds t c =
+    let pre = c .before .before .before .before .before .before .before .before .before .before .before .pre in
+    (turn-first _ _ _ _ _ (omega arith) (pre .1 .1 .0) (pre .1 .1 .1 .0), refl, counted-none _ _ _ _ _ _ _ _)
 
 add-place : (t : ℕ) → lts.Need-add-place (claims t) (pre t) reads.Post Inv-loop μ-loop
 add-place t c = let in-rows = turn-inside (c .before .loop .inv .0) (c .loop-test .taken) in omega arith
@@ -85,7 +99,9 @@ slice-write-counts : (t : ℕ) → lts.Need-slice-write-counts (claims t) (pre t
 slice-write-counts t c = turn-inside (c .before .before .before .loop .inv .0) (c .before .before .loop-test .taken)
 
 cast-way : (t : ℕ) → lts.Need-cast-way (claims t) (pre t) reads.Post Inv-loop μ-loop
-cast-way t c = omega (arith, c .before .before .before .before .before .before .before .before .before .before .before .before .before .before .before .pre .1 .1 .1 .1 .1 .0 .most)
+cast-way t c =
+    let pre = c .before .before .before .before .before .before .before .before .before .before .before .before .before .before .before .pre in
+    omega (arith, pre .1 .1 .1 .1 .1 .0 .most)
 
 mul-way : (t : ℕ) → lts.Need-mul-way (claims t) (pre t) reads.Post Inv-loop μ-loop
 mul-way t c = omega arith
@@ -121,19 +137,45 @@ walk-requires t c κs =
     )
 
 add-location : (t : ℕ) → lts.Need-add-location (claims t) (pre t) reads.Post Inv-loop μ-loop
-add-location t c = record { fits = location-fits (c .before .before .before .before .before .before .before .before .before .before .before .before .before .before .loop .inv .0) (c .before .before .before .before .before .before .before .before .before .before .before .before .before .before .loop .inv .2) (c .before .before .before .before .before .before .before .before .before .before .before .before .before .loop-test .taken) (c .before .before .before .before .before .before .before .before .before .before .before .if2 .taken) (c .before .before .before .before .before .before .before .walk .ensures .0) (2 ^ 64) (c .before .before .before .before .before .before .before .before .before .before .before .before .before .before .before .before .before .before .before .before .before .before .before .before .before .before .pre .1 .1 .1 .1 .0) }
+add-location t c =
+    let after-walk = c .before .before .before .before .before .before .before in
+    let at-if2 = after-walk .before .before .before .before in
+    let in-loop = at-if2 .before .before in
+    let at-loop = in-loop .before in
+    let start = at-loop .before .before .before .before .before .before .before .before .before .before .before .before in
+    record { fits = location-fits (at-loop .loop .inv .0) (at-loop .loop .inv .2) (in-loop .loop-test .taken) (at-if2 .if2 .taken) (after-walk .walk .ensures .0) (2 ^ 64) (start .pre .1 .1 .1 .1 .0) }
 
 add-dispersion : (t : ℕ) → lts.Need-add-dispersion (claims t) (pre t) reads.Post Inv-loop μ-loop
-add-dispersion t c = record { fits = dispersion-fits (c .before .before .before .before .before .before .before .before .before .before .before .before .before .before .before .loop .inv .0) (c .before .before .before .before .before .before .before .before .before .before .before .before .before .before .before .loop .inv .2) (c .before .before .before .before .before .before .before .before .before .before .before .before .before .before .loop-test .taken) (c .before .before .before .before .before .before .before .before .before .before .before .before .if2 .taken) (c .before .before .before .before .before .before .before .before .walk .ensures .0) (2 ^ 64) (c .before .before .before .before .before .before .before .before .before .before .before .before .before .before .before .before .before .before .before .before .before .before .before .before .before .before .before .pre .1 .1 .1 .1 .0) }
+add-dispersion t c =
+    let after-walk = c .before .before .before .before .before .before .before .before in
+    let at-if2 = after-walk .before .before .before .before in
+    let in-loop = at-if2 .before .before in
+    let at-loop = in-loop .before in
+    let start = at-loop .before .before .before .before .before .before .before .before .before .before .before .before in
+    record { fits = dispersion-fits (at-loop .loop .inv .0) (at-loop .loop .inv .2) (in-loop .loop-test .taken) (at-if2 .if2 .taken) (after-walk .walk .ensures .0) (2 ^ 64) (start .pre .1 .1 .1 .1 .0) }
 
 add-assignment : (t : ℕ) → lts.Need-add-assignment (claims t) (pre t) reads.Post Inv-loop μ-loop
-add-assignment t c = record { fits = assignment-fits (c .before .before .before .before .before .before .before .before .before .before .before .before .before .before .before .before .loop .inv .0) (c .before .before .before .before .before .before .before .before .before .before .before .before .before .before .before .before .loop .inv .2) (c .before .before .before .before .before .before .before .before .before .before .before .before .before .before .before .loop-test .taken) (c .before .before .before .before .before .before .before .before .before .before .before .before .before .if2 .taken) (c .before .before .before .before .before .before .before .before .before .walk .ensures .0) (2 ^ 64) (c .before .before .before .before .before .before .before .before .before .before .before .before .before .before .before .before .before .before .before .before .before .before .before .before .before .before .before .before .pre .1 .1 .1 .1 .0) }
+add-assignment t c =
+    let after-walk = c .before .before .before .before .before .before .before .before .before in
+    let at-if2 = after-walk .before .before .before .before in
+    let in-loop = at-if2 .before .before in
+    let at-loop = in-loop .before in
+    let start = at-loop .before .before .before .before .before .before .before .before .before .before .before .before in
+    record { fits = assignment-fits (at-loop .loop .inv .0) (at-loop .loop .inv .2) (in-loop .loop-test .taken) (at-if2 .if2 .taken) (after-walk .walk .ensures .0) (2 ^ 64) (start .pre .1 .1 .1 .1 .0) }
 
 mul-counts-2 : (t : ℕ) → lts.Need-mul-counts-2 (claims t) (pre t) reads.Post Inv-loop μ-loop
-mul-counts-2 t c = let in-rows = turn-inside (c .before .before .before .before .before .before .before .before .before .before .before .before .before .before .before .before .loop .inv .0) (c .before .before .before .before .before .before .before .before .before .before .before .before .before .before .before .loop-test .taken) in omega (arith, (c .before .before .before .before .before .before .before .before .before .before .before .before .before .before .before .before .loop .inv .0) .sameRows, c .before .before .before .before .before .before .before .before .before .before .before .before .before .before .before .before .before .before .before .before .before .before .before .before .before .before .before .before .good)
+mul-counts-2 t c =
+    let loop-test = c .before .before .before .before .before .before .before .before .before .before .before .before .before .before .before .loop-test in
+    let turn = c .before .before .before .before .before .before .before .before .before .before .before .before .before .before .before .before .loop in
+    let good = c .before .before .before .before .before .before .before .before .before .before .before .before .before .before .before .before .before .before .before .before .before .before .before .before .before .before .before .before .good in
+    let in-rows = turn-inside (turn .inv .0) (loop-test .taken) in omega (arith, (turn .inv .0) .sameRows, good)
 
 slice-write-counts-2 : (t : ℕ) → lts.Need-slice-write-counts-2 (claims t) (pre t) reads.Post Inv-loop μ-loop
-slice-write-counts-2 t c = let in-rows = turn-inside (c .before .before .before .before .before .before .before .before .before .before .before .before .before .before .before .before .loop .inv .0) (c .before .before .before .before .before .before .before .before .before .before .before .before .before .before .before .loop-test .taken) in omega (arith, c .before .before .before .before .before .before .before .before .before .walk .kept .1 .1 .1 .0 ∙ length-set (c .before .before .before .before .before .before .before .before .before .before .before .before .before .before .before .before .loop .counts) _ _)
+slice-write-counts-2 t c =
+    let walk = c .before .before .before .before .before .before .before .before .before .walk in
+    let loop-test = c .before .before .before .before .before .before .before .before .before .before .before .before .before .before .before .loop-test in
+    let turn = c .before .before .before .before .before .before .before .before .before .before .before .before .before .before .before .before .loop in
+    let in-rows = turn-inside (turn .inv .0) (loop-test .taken) in omega (arith, walk .kept .1 .1 .1 .0 ∙ length-set (turn .counts) _ _)
 
 add-j : (t : ℕ) → lts.Need-add-j (claims t) (pre t) reads.Post Inv-loop μ-loop
 add-j t c = omega arith
@@ -143,18 +185,19 @@ loop-less t c = omega arith
 
 loop-again : (t : ℕ) → lts.Need-loop-again (claims t) (pre t) reads.Post Inv-loop μ-loop
 loop-again t c =
-    let turn = c .before .before .before .loop .inv .0 in
+    let at-loop = c .before .before .before in
+    let turn = at-loop .loop .inv .0 in
     let less = c .before .before .loop-test .taken in
     ⊎-elim
     (λ w. (
       turn-placed turn less (w .0 .taken) (w .4 .ensures .1 .0) (w .4 .ensures .1 .1) (w .4 .kept .1 .1 .1 .1 .0) (w .14) (w .15),
-      ap length (w .16) ∙ w .4 .kept .1 .1 .1 .1 .1 .0 ∙ c .before .before .before .loop .inv .1,
-      counted-placed turn (c .before .before .before .loop .inv .2) less (w .0 .taken) (w .4 .ensures .0) (w .17) (w .18) (w .19),
+      ap length (w .16) ∙ w .4 .kept .1 .1 .1 .1 .1 .0 ∙ at-loop .loop .inv .1,
+      counted-placed turn (at-loop .loop .inv .2) less (w .0 .taken) (w .4 .ensures .0) (w .17) (w .18) (w .19),
     ))
     (λ w. (
       turn-empty turn less (w .0 .left) (w .1) (w .2),
-      ap length (w .3) ∙ c .before .before .before .loop .inv .1,
-      counted-empty turn (c .before .before .before .loop .inv .2) less (w .0 .left) (w .4) (w .5) (w .6),
+      ap length (w .3) ∙ at-loop .loop .inv .1,
+      counted-empty turn (at-loop .loop .inv .2) less (w .0 .left) (w .4) (w .5) (w .6),
     ))
     (c .if2 .came)
 
