@@ -44,7 +44,7 @@ pub fn mean_of(z: &[f64], mem: &[u16]) -> f64
 }
 
 // The mean of all.
-fn grand_mean(z: &[f64], m: usize) -> f64
+pub fn grand_mean(z: &[f64], m: usize) -> f64
     requires { ⌜ m ≤ 256 ⌝ }
     ensures { λ r. ⌜ r ≡ grandMean (now (z .entry)) m ⌝ }
 {
@@ -120,7 +120,29 @@ fn between(m: usize, g: usize, next: &[u16], mem: &[u16], means: &[f64], grand: 
     s
 }
 
-// The F of z by groups. `means` lends room for the groups' means.
+// The F of z by groups, with the mean of all at hand. `means` lends room for the groups' means.
+pub fn anova_about(
+    z: &[f64],
+    lab: &[u16],
+    m: usize,
+    g: usize,
+    next: &[u16],
+    mem: &[u16],
+    means: &mut [f64],
+    grand: f64,
+) -> f64
+    requires { ⌜ (length (now z) ≡ m) × (length (now lab) ≡ m) × Below g (now lab) × Grouped (now lab) m g (now next) (now mem) × (length (now mem) ≤ 256) ⌝ }
+    requires { ⌜ (g ≤ length (now means)) × (1 ≤ g) × (g ≤ m) × (m ≤ 256) ⌝ }
+    requires { ⌜ grand ≡ grandMean (now z) m ⌝ }
+    ensures { λ r. ⌜ r ≡ anovaF (now (z .entry)) (now (lab .entry)) m g ⌝ }
+{
+    fill_group_means(z, m, g, next, mem, means);
+    let b = between(m, g, next, mem, means, grand);
+    let r = residual(z, &means[..g], lab, m);
+    location::f_ratio(b, r, m, g)
+}
+
+// The same from z alone.
 pub fn anova_f(
     z: &[f64],
     lab: &[u16],
@@ -134,9 +156,6 @@ pub fn anova_f(
     requires { ⌜ (g ≤ length (now means)) × (1 ≤ g) × (g ≤ m) × (m ≤ 256) ⌝ }
     ensures { λ r. ⌜ r ≡ anovaF (now (z .entry)) (now (lab .entry)) m g ⌝ }
 {
-    fill_group_means(z, m, g, next, mem, means);
     let grand = grand_mean(z, m);
-    let b = between(m, g, next, mem, means, grand);
-    let r = residual(z, &means[..g], lab, m);
-    location::f_ratio(b, r, m, g)
+    anova_about(z, lab, m, g, next, mem, means, grand)
 }

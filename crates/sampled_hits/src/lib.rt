@@ -8,7 +8,7 @@ ghost use Rattle.lists.specs.Ranges.{range};
 ghost use Rattle.lists.specs.Filters.{countIf};
 ghost use Rattle.lists.specs.Numbers.{Below};
 ghost use Rattle.location.specs.Location.{within, pseudoF};
-ghost use Rattle.anova.specs.Anova.{anovaF};
+ghost use Rattle.anova.specs.Anova.{grandMean, anovaF};
 ghost use Rattle.statistics.specs.Hits.{shuffleHit};
 ghost use Rattle.shuffles.specs.Parted.{shuffledBy};
 ghost use Rattle.sampled_hits.specs.Drawn.{drawn};
@@ -32,7 +32,7 @@ pub struct Both {
     pub dispersion: f64,
 }
 
-// Both F of the labels `lab`, over the terms t and the observed z. The rest lends room.
+// Both F of the labels `lab`, over the terms t and the observed z, whose mean is at hand. The rest lends room.
 fn both_f(
     t: &[f64],
     w: &[f64],
@@ -44,16 +44,17 @@ fn both_f(
     next: &mut [u16],
     mem: &mut [u16],
     means: &mut [f64],
+    grand: f64,
 ) -> Both
     requires { ⌜ (length (now t) ≡ m * m) × (length (now w) ≡ m) × (length (now z) ≡ m) × (length (now lab) ≡ m) × Below g (now lab) ⌝ }
-    requires { ⌜ (g < length (now next)) × (m ≤ length (now mem)) × (length (now mem) ≤ 256) × (g ≤ length (now means)) × (1 ≤ g) × (g ≤ m) × (m ≤ 256) ⌝ }
+    requires { ⌜ (g < length (now next)) × (m ≤ length (now mem)) × (length (now mem) ≤ 256) × (g ≤ length (now means)) × (1 ≤ g) × (g ≤ m) × (m ≤ 256) × (grand ≡ grandMean (now z) m) ⌝ }
     ensures { λ r. ⌜ (r .location ≡ pseudoF total (within (now (t .entry)) (now (w .entry)) (now (lab .entry)) m g) m g)
         × (r .dispersion ≡ anovaF (now (z .entry)) (now (lab .entry)) m g) ⌝ }
 {
     members::group(lab, m, g, next, mem);
     let inside = statistics::within(t, w, lab, m, g, next, mem);
     let location = location::pseudo_f(total, inside, m, g);
-    let dispersion = anova::anova_f(z, lab, m, g, next, mem, means);
+    let dispersion = anova::anova_about(z, lab, m, g, next, mem, means, grand);
     Both {
         location,
         dispersion,
@@ -87,13 +88,14 @@ fn shuffle_found(
     next: &mut [u16],
     mem: &mut [u16],
     means: &mut [f64],
+    grand: f64,
 ) -> Found
-    requires { ⌜ Sampling m g s (now t) (now w) (now z) (now gs) (now sn) (now sm) × Room m g (now lab) (now next) (now mem) (now means) ⌝ }
+    requires { ⌜ Sampling m g s (now t) (now w) (now z) (now gs) (now sn) (now sm) × Room m g (now lab) (now next) (now mem) (now means) × (grand ≡ grandMean (now z) m) ⌝ }
     ensures { λ r. ⌜ (r .location ≡ shuffleHit (seen .location) (pseudoF total (within (now (t .entry)) (now (w .entry)) (shuffledBy (now (sn .entry)) (now (sm .entry)) s (now (gs .entry)) seed i) m g) m g))
         × (r .dispersion ≡ shuffleHit (seen .dispersion) (anovaF (now (z .entry)) (shuffledBy (now (sn .entry)) (now (sm .entry)) s (now (gs .entry)) seed i) m g)) ⌝ }
 {
     shuffles::shuffle_again(lab, gs, sn, sm, m, s, seed, i);
-    let b = both_f(t, w, z, total, lab, m, g, next, mem, means);
+    let b = both_f(t, w, z, total, lab, m, g, next, mem, means, grand);
     let first = seen.location;
     let location = statistics::shuffle_hit(first, b.location);
     let second = seen.dispersion;
@@ -131,8 +133,9 @@ fn count_hits(
     next: &mut [u16],
     mem: &mut [u16],
     means: &mut [f64],
+    grand: f64,
 ) -> Hits
-    requires { ⌜ Sampling m g s (now t) (now w) (now z) (now gs) (now sn) (now sm) × Room m g (now lab) (now next) (now mem) (now means) × (n ≤ 999999) ⌝ }
+    requires { ⌜ Sampling m g s (now t) (now w) (now z) (now gs) (now sn) (now sm) × Room m g (now lab) (now next) (now mem) (now means) × (n ≤ 999999) × (grand ≡ grandMean (now z) m) ⌝ }
     ensures { λ r. ⌜ (r .location ≡ countIf (λ i. shuffleHit (seen .location) (pseudoF total (within (now (t .entry)) (now (w .entry)) (shuffledBy (now (sn .entry)) (now (sm .entry)) s (now (gs .entry)) seed i) m g) m g)) (range 0 n))
         × (r .dispersion ≡ countIf (λ i. shuffleHit (seen .dispersion) (anovaF (now (z .entry)) (shuffledBy (now (sn .entry)) (now (sm .entry)) s (now (gs .entry)) seed i) m g)) (range 0 n)) ⌝ }
 {
@@ -157,6 +160,7 @@ fn count_hits(
             next,
             mem,
             means,
+            grand,
         );
         a = counted(a, found.location);
         b = counted(b, found.dispersion);
@@ -194,6 +198,7 @@ fn draw_with(
     requires { ⌜ (length (now sn) ≡ 257) × (length (now sm) ≡ 256) × (length (now lab) ≡ 256) × (length (now next) ≡ 257) × (length (now mem) ≡ 256) × (length (now means) ≡ 256) ⌝ }
     ensures { λ r. ⌜ r ≡ drawn (now (t .entry)) (now (w .entry)) (now (z .entry)) total (now (gs .entry)) (now (ss .entry)) m g s seed n seen ⌝ }
 {
+    let grand = anova::grand_mean(z, m);
     members::group(ss, m, s, sn, sm);
     count_hits(
         t,
@@ -213,6 +218,7 @@ fn draw_with(
         next,
         mem,
         means,
+        grand,
     )
 }
 

@@ -18,11 +18,11 @@ within-requires c κs = search needs
 pseudo-f-requires : tie.Need-pseudo-f-requires
 pseudo-f-requires c κs = search needs
 
-anova-f-requires : tie.Need-anova-f-requires
-anova-f-requires c κs =
+anova-about-requires : tie.Need-anova-about-requires
+anova-about-requires c κs =
     let group = c .before .before .before .before .before .before .before .before .before .before .before .group in
     let pre = c .before .before .before .before .before .before .before .before .before .before .before .before .before .before .before .before .before .before .before .before .before .pre in
-    ((pre .0 .2, pre .0 .3, pre .0 .4, group .ensures, omega (arith, group .kept .1 .1 .1 .1 .0)), (pre .1 .3, pre .1 .4, pre .1 .5, pre .1 .6))
+    ((pre .0 .2, pre .0 .3, pre .0 .4, group .ensures, omega (arith, group .kept .1 .1 .1 .1 .0)), ((pre .1 .3, pre .1 .4, pre .1 .5, pre .1 .6), pre .1 .7))
 
 same-length : tie.Need-same-length
 same-length c = search needs
@@ -38,7 +38,7 @@ returns c =
     let after-pseudo-f = c .before .before .before .before .before .before in
     let after-within = after-pseudo-f .before in
     let start = after-within .before .before .before .before .before .before .before .before .before .before .before .before .before .before .before .before .before in
-    (after-pseudo-f .pseudo-f .ensures ∙ ap (λ (x : Float). pseudoF (start .args .total) x (start .args .m) (start .args .g)) (after-within .within .ensures), c .before .before .anova-f .ensures)
+    (after-pseudo-f .pseudo-f .ensures ∙ ap (λ (x : Float). pseudoF (start .args .total) x (start .args .m) (start .args .g)) (after-within .within .ensures), c .before .before .anova-about .ensures)
 
 pub both-f-spec : {M : Type 1} → statement M
 both-f-spec =
@@ -47,7 +47,7 @@ both-f-spec =
     group-requires
     within-requires
     pseudo-f-requires
-    anova-f-requires
+    anova-about-requires
     same-length
     same-length-2
     same-length-3

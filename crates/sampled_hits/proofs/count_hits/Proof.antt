@@ -18,11 +18,11 @@ use Rattle.sampled_hits.proofs.count_hits.Statement.{statement}
 use Rattle.sampled_hits.proofs.count_hits.Tie as tie
 
 abbrev Inv-loop : tie.InvT-loop
-Inv-loop t w z total gs m g sn sm s seed n seen lab₀ next₀ mem₀ means₀ a₀ b₀ i₀ lab next mem means a b i =
+Inv-loop t w z total gs m g sn sm s seed n seen lab₀ next₀ mem₀ means₀ grand a₀ b₀ i₀ lab next mem means a b i =
     (i ≤ n) × (a ≤ i) × (b ≤ i) × Room m g lab next mem means × (length lab ≡ length lab₀) × (length next ≡ length next₀) × (length mem ≡ length mem₀) × (length means ≡ length means₀) × (a + countIf (λ i. shuffleHit (seen .location) (pseudoF total (within t w (shuffledBy sn sm s gs seed i) m g) m g)) (range i n) ≡ countIf (λ i. shuffleHit (seen .location) (pseudoF total (within t w (shuffledBy sn sm s gs seed i) m g) m g)) (range 0 n)) × (b + countIf (λ i. shuffleHit (seen .dispersion) (anovaF z (shuffledBy sn sm s gs seed i) m g)) (range i n) ≡ countIf (λ i. shuffleHit (seen .dispersion) (anovaF z (shuffledBy sn sm s gs seed i) m g)) (range 0 n))
 
 abbrev μ-loop : tie.MeasureT-loop
-μ-loop t w z total gs m g sn sm s seed n seen lab₀ next₀ mem₀ means₀ a₀ b₀ i₀ lab next mem means a b i =
+μ-loop t w z total gs m g sn sm s seed n seen lab₀ next₀ mem₀ means₀ grand a₀ b₀ i₀ lab next mem means a b i =
     n - i
 
 loop-holds : tie.Need-loop-holds Inv-loop μ-loop
@@ -32,7 +32,7 @@ shuffle-found-requires : tie.Need-shuffle-found-requires Inv-loop μ-loop
 shuffle-found-requires c κs =
     let at-loop = c .before .before .before .before .before in
     let start = at-loop .before .before .before .before .before .before .before .before .before .before .before in
-    (start .pre .0, at-loop .loop .inv .3)
+    (start .pre .0, at-loop .loop .inv .3, start .pre .3)
 
 counted-requires : tie.Need-counted-requires Inv-loop μ-loop
 counted-requires c κs =

@@ -27,7 +27,7 @@ both-f-requires c κs =
     let pre = c .before .before .before .before .before .before .before .before .before .before .before .before .before .before .before .before .before .before .pre in
     let f = shuffledBy-fine (args .m) (args .g) (omega (arith, pre .0 .some)) (args .sn .now) (args .sm .now) (args .s) (args .gs .now) (args .seed) (args .i) (record { long = pre .0 .labels; below = pre .0 .groups }) in (
       (pre .0 .terms, pre .0 .weights, pre .0 .observed, ap length (shuffle-again .ensures) ∙ f .long, subst (Below (args .g)) (sym (shuffle-again .ensures)) (f .below)),
-      (pre .1 .starts, pre .1 .members, pre .1 .limited, pre .1 .room, pre .0 .some, pre .0 .enough, pre .0 .few),
+      (pre .1 .starts, pre .1 .members, pre .1 .limited, pre .1 .room, pre .0 .some, pre .0 .enough, pre .0 .few, pre .2),
     )
 
 shuffle-hit-requires : tie.Need-shuffle-hit-requires
