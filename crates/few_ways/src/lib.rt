@@ -42,7 +42,7 @@ pub fn judge_few(
     if ways > 20000 {
         return Answer::Refused(Refusal::Ways);
     }
-    settling::settle(
+    ordinated::settle(
         names,
         counts,
         means,

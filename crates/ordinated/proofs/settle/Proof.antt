@@ -1,13 +1,13 @@
--- `settling::settle` meets its contract. By what the ordination tells.
+-- `ordinated::settle` meets its contract. By what the ordination tells.
 -- Assumes nothing.
 use mathlib.Core.Path.{_∙_}
 use Prim.Native.Nat.{_-_}
 use borrow.Author.Needs.{needs}
 use Rattle.float.specs.Floats.{zero⁺}
 use Rattle.every_way.specs.Call.{slicesOf}
 use Rattle.settling.proofs.Settled.{settled-refused, settled-answered, answered-same, turned-same, length-cleared, ready-asked, ready-room, ready-outputs, ready-kept, ready-slices, ready-sized}
-use Rattle.settling.proofs.settle.Statement.{statement}
-use Rattle.settling.proofs.settle.Tie as tie
+use Rattle.ordinated.proofs.settle.Statement.{statement}
+use Rattle.ordinated.proofs.settle.Tie as tie
 
 leading-requires : tie.Need-leading-requires
 leading-requires c κs = search needs
