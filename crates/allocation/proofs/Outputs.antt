@@ -1,9 +1,9 @@
--- What the outputs hold at each step. Assumes nothing.
+-- What the outputs hold at each step, and the room that the steps take. Assumes nothing.
 use mathlib.Core.Path.{_≡_, refl, sym, ap, ap₂, _∙_}
 use mathlib.Core.Bool.{Bool, true, false, cond}
 use mathlib.Core.List.{List, _++_, append-assoc}
 use Prim.Native.Nat.{ℕ, _+_, _-_, _*_, _≤_}
-use native.Mathlib.Nat.{add-sub-cancel-left}
+use native.Mathlib.Nat.{add-sub-cancel-left, mul-le-mul}
 use native.Mathlib.Omega.{arith}
 use lib.ListN.{length, getD, take, drop, replicate, length-append, length-drop, length-replicate}
 use lib.Seq.{length-take-le, take-add, take-at, drop-at, getD-take}
@@ -24,7 +24,8 @@ use Rattle.nearest_centroid.specs.Assigned.{assignedOf, unordered, rightOf}
 use Rattle.scores.specs.Scores.{scoresOf, centroids}
 use Rattle.discriminant.specs.declared.Answer.the-variants.{Scored}
 use Rattle.discriminant.specs.Dapc.{Scores, axesOf, concluded, assign}
-use Rattle.discriminant.specs.Outputs.{Called, called, refusal, scored, leaves}
+use Rattle.discriminant.specs.Outputs.{Called, called, refusal, scored, leaves, Ready}
+use Rattle.discriminant.proofs.Outputs.{axes-most}
 
 -- values, and then the scores, each lent by itself
 pub both-written : (axes k : ℕ) (out v s : List Float) {r t : List Float} → axes + k ≤ length out → length v ≡ axes → length s ≡ k → t ≡ v → r ≡ s
@@ -170,3 +171,18 @@ length-part-scores axes k out h = ap length (part-scores axes k out) ∙ length-
 -- the vectors: the part `&ev[p..]`
 pub length-vectors : (p k : ℕ) (ev : List Float) → length ev ≡ p + k → length (take (length ev - p) (drop p ev)) ≡ k
 length-vectors p k ev e = ap length (part-rest ev p) ∙ length-drop p ev ∙ omega arith
+
+-- ---- room
+
+module _ {columns p axes g out assigned : ℕ} {x : List Float} {groups : List ℕ} (r : Ready columns p axes g x groups out assigned) where
+  pub axes-few : axes ≤ p
+  axes-few = axes-most axes g p (r .axial)
+
+  narrow : axes ≤ 16
+  narrow = omega (arith, axes-few, r .narrow)
+
+  pub directions-fit : axes * p ≤ 256
+  directions-fit = omega (arith, mul-le-mul {n₁ = axes} {m₁ = p} {n₂ = 16} {m₂ = 16} narrow (r .narrow))
+
+  pub centroids-fit : g * axes ≤ 2048
+  centroids-fit = omega (arith, mul-le-mul {n₁ = g} {m₁ = axes} {n₂ = 128} {m₂ = 16} (r .most) narrow)

@@ -1,18 +1,17 @@
 // Section 5 of document 01: from the eigenpairs to the scores, and to the group of each sample.
 use discriminant::Answer;
+use moments::Dimensions;
 ghost use mathlib.Core.Path.{_≡_};
 ghost use mathlib.Core.List.{_++_};
-ghost use Prim.Native.Nat.{_+_, _*_, _≤_};
-ghost use lib.ListN.{length, take, drop, replicate};
-ghost use Rattle.float.specs.Floats.{zero⁺};
+ghost use Prim.Native.Nat.{_*_};
+ghost use lib.ListN.{length, take, drop};
 ghost use Rattle.lists.specs.Writes.{over};
-ghost use Rattle.lot.specs.Kept.{sizes};
-ghost use Rattle.means.specs.Means.{Numbered};
 ghost use Rattle.scores.specs.Scores.{scoresOf};
 ghost use Rattle.discriminant.specs.Dapc.{concluded, assign};
-ghost use Rattle.discriminant.specs.Outputs.{leaves, called, Ready};
+ghost use Rattle.discriminant.specs.Outputs.{leaves, called};
+ghost use Rattle.allocation.specs.Room.{Scoring, Concluding, Placing};
 
-// One value per axis, and then the scores. `d` is room for a row.
+// One value per axis, and then the scores of n samples. `d` is room for a row.
 fn write_scores(
     out: &mut [f64],
     d: &mut [f64],
@@ -21,13 +20,12 @@ fn write_scores(
     mean: &[f64],
     x: &[f64],
     n: usize,
-    columns: usize,
-    p: usize,
-    axes: usize,
+    sizes: Dimensions,
 )
-    requires { ⌜ (axes + n * axes ≤ length (now out)) × (length (now d) ≡ p) × (axes ≤ length (now ev)) × (length (now vs) ≡ axes * p) × (length (now mean) ≡ p) × (length (now x) ≡ n * columns) × (p ≤ columns) ⌝ }
-    ensures { λ _. ⌜ now (out .exit) ≡ over (take axes (now (ev .entry)) ++ scoresOf n columns p axes (now (x .entry)) (now (mean .entry)) (now (vs .entry))) (now (out .entry)) ⌝ }
+    requires { ⌜ Scoring sizes n (length (now out)) (now d) (now ev) (now vs) (now mean) (now x) ⌝ }
+    ensures { λ _. ⌜ now (out .exit) ≡ over (take (sizes .axes) (now (ev .entry)) ++ scoresOf n (sizes .columns) (sizes .lead) (sizes .axes) (now (x .entry)) (now (mean .entry)) (now (vs .entry))) (now (out .entry)) ⌝ }
 {
+    let axes = sizes.axes;
     lists::copy(&mut out[..axes], &ev[..axes]);
     scores::fill_scores(
         &mut out[axes..axes + n * axes],
@@ -35,8 +33,8 @@ fn write_scores(
         n,
         axes,
         x,
-        columns,
-        p,
+        sizes.columns,
+        sizes.lead,
         mean,
         vs,
     );
@@ -49,55 +47,22 @@ fn conclude(
     cen: &mut [f64],
     counts: &[u16],
     groups: &[u16],
-    p: usize,
-    axes: usize,
-    g: usize,
+    sizes: Dimensions,
 ) -> Answer
-    requires { ⌜ (axes + length (now groups) * axes ≤ length (now out)) × (length (now groups) ≤ length (now assigned)) × (now cen ≡ replicate (g * axes) zero⁺) × (now counts ≡ sizes (now groups) (length (now groups)) g) ⌝ }
-    requires { ⌜ (2 ≤ g) × (g ≤ 128) × Numbered g (now groups) × (length (now groups) ≤ 256) ⌝ }
+    requires { ⌜ Concluding sizes (length (now out)) (length (now assigned)) (now cen) (now counts) (now groups) ⌝ }
     ensures { λ r. ⌜ called r (now (out .exit)) (now (assigned .exit))
-        ≡ leaves (length (now (groups .entry))) p axes (concluded (length (now (groups .entry))) axes g (now (groups .entry)) (take axes (now (out .entry))) (take (length (now (groups .entry)) * axes) (drop axes (now (out .entry))))) (now (out .entry)) (now (assigned .entry)) ⌝ }
+        ≡ leaves (length (now (groups .entry))) (sizes .lead) (sizes .axes) (concluded (length (now (groups .entry))) (sizes .axes) (sizes .groups) (now (groups .entry)) (take (sizes .axes) (now (out .entry))) (take (length (now (groups .entry)) * sizes .axes) (drop (sizes .axes) (now (out .entry))))) (now (out .entry)) (now (assigned .entry)) ⌝ }
 {
     let n = groups.len();
+    let axes = sizes.axes;
+    let g = sizes.groups;
     let e = axes + n * axes;
     scores::fill_centroids(cen, axes, g, &out[axes..e], groups, counts);
     let t = nearest_centroid::assign(&mut assigned[..n], &out[axes..e], cen, groups, axes, g);
-    let count = t.right;
-    let unordered = t.unordered;
-    discriminant::tell(out, assigned, n, p, axes, count, unordered)
+    discriminant::tell(out, assigned, n, sizes.lead, axes, t.right, t.unordered)
 }
 
-// The directions, the scores and the groups. `vs`, `cen` and `d` are room for directions, centroids and a row.
-fn locate(
-    out: &mut [f64],
-    assigned: &mut [u16],
-    vs: &mut [f64],
-    cen: &mut [f64],
-    d: &mut [f64],
-    ev: &[f64],
-    l: &[f64],
-    mean: &[f64],
-    counts: &[u16],
-    x: &[f64],
-    groups: &[u16],
-    columns: usize,
-    p: usize,
-    axes: usize,
-    g: usize,
-) -> Answer
-    requires { ⌜ Ready columns p axes g (now x) (now groups) (length (now out)) (length (now assigned)) ⌝ }
-    requires { ⌜ (now vs ≡ replicate (axes * p) zero⁺) × (now cen ≡ replicate (g * axes) zero⁺) × (length (now d) ≡ p) ⌝ }
-    requires { ⌜ (length (now ev) ≡ p + p * p) × (length (now l) ≡ p * p) × (length (now mean) ≡ p) × (now counts ≡ sizes (now groups) (length (now groups)) g) ⌝ }
-    ensures { λ r. ⌜ called r (now (out .exit)) (now (assigned .exit))
-        ≡ leaves (length (now (groups .entry))) p axes (assign (length (now (groups .entry))) columns p g (now (x .entry)) (now (groups .entry)) (now (mean .entry)) (now (l .entry)) (take p (now (ev .entry))) (drop p (now (ev .entry)))) (now (out .entry)) (now (assigned .entry)) ⌝ }
-{
-    let n = groups.len();
-    triangular::solve_rows(vs, axes, l, &ev[p..], p);
-    write_scores(out, d, ev, vs, mean, x, n, columns, p, axes);
-    conclude(out, assigned, cen, counts, groups, p, axes, g)
-}
-
-// The same with room of its own.
+// The directions, the scores and the groups, from p eigenvalues with their vectors, the factor l, means and counts.
 pub fn place(
     out: &mut [f64],
     assigned: &mut [u16],
@@ -107,34 +72,21 @@ pub fn place(
     counts: &[u16],
     x: &[f64],
     groups: &[u16],
-    columns: usize,
-    p: usize,
-    axes: usize,
-    g: usize,
+    sizes: Dimensions,
 ) -> Answer
-    requires { ⌜ Ready columns p axes g (now x) (now groups) (length (now out)) (length (now assigned)) ⌝ }
-    requires { ⌜ (length (now ev) ≡ p + p * p) × (length (now l) ≡ p * p) × (length (now mean) ≡ p) × (now counts ≡ sizes (now groups) (length (now groups)) g) ⌝ }
+    requires { ⌜ Placing sizes (length (now out)) (length (now assigned)) (now ev) (now l) (now mean) (now counts) (now x) (now groups) ⌝ }
     ensures { λ r. ⌜ called r (now (out .exit)) (now (assigned .exit))
-        ≡ leaves (length (now (groups .entry))) p axes (assign (length (now (groups .entry))) columns p g (now (x .entry)) (now (groups .entry)) (now (mean .entry)) (now (l .entry)) (take p (now (ev .entry))) (drop p (now (ev .entry)))) (now (out .entry)) (now (assigned .entry)) ⌝ }
+        ≡ leaves (length (now (groups .entry))) (sizes .lead) (sizes .axes) (assign (length (now (groups .entry))) (sizes .columns) (sizes .lead) (sizes .groups) (now (x .entry)) (now (groups .entry)) (now (mean .entry)) (now (l .entry)) (take (sizes .lead) (now (ev .entry))) (drop (sizes .lead) (now (ev .entry)))) (now (out .entry)) (now (assigned .entry)) ⌝ }
 {
+    let n = groups.len();
+    let p = sizes.lead;
+    let axes = sizes.axes;
+    let k = axes * p;
+    let e = sizes.groups * axes;
     let mut vs = [0.0; 256];
     let mut cen = [0.0; 2048];
     let mut d = [0.0; 16];
-    locate(
-        out,
-        assigned,
-        &mut vs[..axes * p],
-        &mut cen[..g * axes],
-        &mut d[..p],
-        ev,
-        l,
-        mean,
-        counts,
-        x,
-        groups,
-        columns,
-        p,
-        axes,
-        g,
-    )
+    triangular::solve_rows(&mut vs[..k], axes, l, &ev[p..], p);
+    write_scores(out, &mut d[..p], ev, &vs[..k], mean, x, n, sizes);
+    conclude(out, assigned, &mut cen[..e], counts, groups, sizes)
 }

@@ -15,7 +15,7 @@ use Rattle.lot.specs.Cases.{example, zeros, three}
 use Rattle.lot.specs.Kept.{groups}
 use Rattle.lot.specs.Lines.{testLines}
 use Rattle.statistics.specs.Statistics.{totalOf, withinOf, locationF}
-use Rattle.sampled.specs.Call.{tested}
+use Rattle.measurement.specs.Tested.{tested}
 use Rattle.jacobi.specs.Call.{jacobiCall}
 use Rattle.gram.specs.Gram.{gram}
 use Rattle.dapc_lines.specs.DapcLines.{groupLines}

@@ -65,12 +65,12 @@ module _ (sizes : List ℕ) {location : Chance} (dispersion : Chance) where
   unfolding together
   together-both e h g = rw (e, h) g
 
--- the bits fit a byte
-warned-le : (a b c d e : Bool) → addUp (bit 1 a ∷ bit 2 b ∷ bit 4 c ∷ bit 8 d ∷ bit 16 e ∷ []) ≤ 31
+-- how large the bits are
+pub warned-le : (a b c d e : Bool) → addUp (bit 1 a ∷ bit 2 b ∷ bit 4 c ∷ bit 8 d ∷ bit 16 e ∷ []) ≤ 31
 unfolding addUp
 warned-le a b c d e = omega (arith, bit-le 1 a, bit-le 2 b, bit-le 4 c, bit-le 8 d, bit-le 16 e)
 
-together-le : (sizes : List ℕ) (p q : Chance) → together sizes p q ≤ 64
+pub together-le : (sizes : List ℕ) (p q : Chance) → together sizes p q ≤ 64
 together-le sizes NoP NoP = unfold together in omega arith
 together-le sizes NoP (P q) = unfold together in omega arith
 together-le sizes (P p) NoP = unfold together in omega arith
@@ -79,6 +79,3 @@ together-le sizes (P p) (P q) = unfold together alarmed in go (lt p 0·05 && lt 
     go : (a b : Bool) → cond a 32 (bit 64 b) ≤ 64
     go true b = omega arith
     go false b = bit-le 64 b
-
-pub warnings-fit : (a b c d e : Bool) (sizes : List ℕ) (p q : Chance) {x y : ℕ} → x ≡ addUp (bit 1 a ∷ bit 2 b ∷ bit 4 c ∷ bit 8 d ∷ bit 16 e ∷ []) → y ≡ together sizes p q → x + y < 256
-warnings-fit a b c d e sizes p q {x} {y} f g = omega (arith, warned-le a b c d e, together-le sizes p q)

@@ -7,9 +7,6 @@ ghost use lib.Dec.{eqb};
 ghost use lib.ListN.{length};
 ghost use lib.Ieee.{lt};
 ghost use Rattle.float.specs.Floats.{0·5};
-ghost use Rattle.lists.specs.Numbers.{howMany};
-ghost use Rattle.lot.specs.Lot.{none};
-ghost use Rattle.statistics.specs.Warnings.{leftOut};
 ghost use Rattle.chances.specs.Chances.{chance};
 ghost use Rattle.chances.specs.Together.{largest, smallest, alarmed, together};
 
@@ -33,33 +30,7 @@ pub fn chance_of(none: bool, seen: Statistic, hits: usize, n: u64) -> Chance
     Chance::P((1 + hits) as f64 / (1 + n) as f64)
 }
 
-// ---- bits 0 to 2
-
-// Whether l is a label that one sample holds.
-fn single(labels: &[u16], l: u16) -> bool
-    requires { ⌜ length (now labels) < 65536 ⌝ }
-    ensures { λ r. ⌜ r ≡ (not (eqb l none) && eqb (howMany l (now (labels .entry))) 1) ⌝ }
-{
-    if l == lot::NONE {
-        return false;
-    }
-    lot::how_many(labels, l) == 1
-}
-
-// Whether some label is held by one sample.
-pub fn left_out(labels: &[u16]) -> bool
-    requires { ⌜ length (now labels) < 65536 ⌝ }
-    ensures { λ r. ⌜ r ≡ leftOut (now (labels .entry)) ⌝ }
-{
-    let mut i: usize = 0;
-    while i < labels.len() {
-        if single(labels, labels[i]) {
-            return true;
-        }
-        i += 1;
-    }
-    false
-}
+// ---- bits 1 and 2
 
 // Whether strata are given and none informs.
 pub fn uninformed(stratified: bool, informing: usize) -> bool

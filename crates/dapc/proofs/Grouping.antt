@@ -1,24 +1,24 @@
 -- The groups that labels give: the samples that have one are the kept ones, each number is below g, and g is at most half of m. Assumes nothing.
 use mathlib.Core.Path.{_≡_, refl, sym, ap, ap₂, subst, _∙_}
 use mathlib.Core.Bool.{Bool, true, false, not, cond}
-use mathlib.Core.List.{List, [], _∷_, map, List·Memᴰ as Member, List·Memᴰ·head as here, List·Memᴰ·tail as there}
+use mathlib.Core.List.{List, [], _∷_, List·Memᴰ as Member, List·Memᴰ·head as here, List·Memᴰ·tail as there}
 use Prim.Native.Nat.{ℕ, _+_, _*_, _<_, _≤_}
 use native.Mathlib.Omega.{arith}
 use borrow.Author.Tests.{eq-eqb, ne-eqb, eqb-true, leb-true}
 use lib.Dec.{eqb, leb}
-use lib.ListN.{length, getD, length-map, List·getD-map}
+use lib.ListN.{length, getD}
 use Rattle.lists.specs.Ranges.{range}
 use Rattle.lists.specs.Filters.{keep, countIf}
 use Rattle.lists.specs.Numbers.{howMany, stands, position, inGroup}
 use Rattle.lot.specs.Lot.{none}
 use Rattle.lot.specs.Kept.{twice, kept, keptLabels, names, groupEach, keptCount, groupCount}
-use Rattle.lists.proofs.Parts.{getD-either}
 use Rattle.lists.proofs.Truths.{and-both}
-use Rattle.lists.proofs.Members.{member-getD, member-range, member-any, stands-member, keep-cong}
-use Rattle.lists.proofs.Upward.{Upward, upward-member, member-upward, position-below}
+use Rattle.lists.proofs.Members.{member-getD, member-range, stands-member, keep-cong}
+use Rattle.lists.proofs.Upward.{Upward, upward-member, position-below}
 use Rattle.lot.proofs.Places.{kept-labels}
 use Rattle.lot.proofs.Samples.{length-keptLabels, names-few}
-use Rattle.lot.proofs.Within.{kept-twice, twice-kept, names-upward}
+use Rattle.lot.proofs.Within.{kept-twice, names-upward}
+use Rattle.kept.proofs.Placed.{named-twice, length-each, each-at}
 use Rattle.means.specs.Means.{Numbered, grouped}
 
 differ : true ≡ false → ⊥
@@ -74,40 +74,17 @@ module _ (labels : List ℕ) where
           let enough : 2 ≤ howMany y labels = leb-true 2 (howMany y labels) (and-both (not (eqb y none)) (leb 2 (howMany y labels)) t .1) in
           omega (arith, ap (howMany y) (kept-labels labels) ∙ howMany-keep (twice labels) y labels t)
 
-  -- ---- a label names a group where two samples have it
+  -- ---- the samples that have a group are the kept ones
 
-  named-twice : (l : ℕ) → Member l labels → stands l (names labels) ≡ twice labels l
-  unfolding stands names
-  named-twice l m = by (stands l (names labels)) (twice labels l) refl refl
-    where
-      by : (a b : Bool) → stands l (names labels) ≡ a → twice labels l ≡ b → a ≡ b
-      by true b e f = sym (kept-twice labels l (upward-member (keptLabels labels) l (stands-member l (names labels) e)) .0) ∙ f
-      by false true e f = sym e ∙ member-any (eqb l) (names labels) l (member-upward (keptLabels labels) l (twice-kept labels l f m)) (eq-eqb l l refl)
-      by false false e f = refl
-
-  -- ---- the group of sample i, by the label that it has
-
-  abbrev groupOf : ℕ → ℕ
-  groupOf l = cond (stands l (names labels)) (position l (names labels)) none
-
-  pub length-each : length (groupEach labels) ≡ length labels
-  unfolding groupEach
-  length-each = length-map labels groupOf
-
-  each-at : (i : ℕ) → i < length labels → getD (groupEach labels) i 0 ≡ groupOf (getD labels i none)
-  unfolding groupEach
-  each-at i h = getD-either (map groupOf labels) i 0 (groupOf none) (omega (arith, length-map labels groupOf)) ∙ List·getD-map groupOf labels i none
-
-  -- the samples that have a group are the kept ones
   pub grouped-kept : length labels ≤ 256 → grouped (groupEach labels) ≡ kept labels
   unfolding grouped kept
   grouped-kept few =
-      ap (λ (n : ℕ). keep (λ i. not (inGroup (groupEach labels) none i)) (range 0 n)) length-each
+      ap (λ (n : ℕ). keep (λ i. not (inGroup (groupEach labels) none i)) (range 0 n)) (length-each labels)
       ∙ keep-cong (λ i. not (inGroup (groupEach labels) none i)) (λ i. twice labels (getD labels i none)) (range 0 (length labels))
       (λ i m.
       let h = member-range (length labels) i m in
       let l = getD labels i none in
-      ap (λ (k : ℕ). not (eqb k none)) (each-at i h) ∙ by l (stands l (names labels)) refl ∙ named-twice l (member-getD labels i none h))
+      ap (λ (k : ℕ). not (eqb k none)) (each-at labels i h) ∙ by l (stands l (names labels)) refl ∙ named-twice labels l (member-getD labels i none h))
     where
       by : (l : ℕ) (b : Bool) → stands l (names labels) ≡ b → not (eqb (cond b (position l (names labels)) none) none) ≡ b
       by l true e = ap not (ne-eqb (position l (names labels)) none (λ q. omega (arith, position-below l (names labels) (stands-member l (names labels) e), names-few labels)))
@@ -116,9 +93,9 @@ module _ (labels : List ℕ) where
   pub numbered-each : Numbered (groupCount labels) (groupEach labels)
   unfolding groupCount
   numbered-each i h ne =
-      let within : i < length labels = omega (arith, length-each) in
+      let within : i < length labels = omega (arith, length-each labels) in
       let l = getD labels i none in
-      subst (λ (k : ℕ). k < length (names labels)) (sym (each-at i within)) (by l (stands l (names labels)) refl (λ q. ne (each-at i within ∙ q)))
+      subst (λ (k : ℕ). k < length (names labels)) (sym (each-at labels i within)) (by l (stands l (names labels)) refl (λ q. ne (each-at labels i within ∙ q)))
     where
       by : (l : ℕ) (b : Bool) → stands l (names labels) ≡ b → (cond b (position l (names labels)) none ≡ none → ⊥) → cond b (position l (names labels)) none < length (names labels)
       by l true e other = position-below l (names labels) (stands-member l (names labels) e)

@@ -1,4 +1,4 @@
--- A whole call. Assumes nothing.
+-- A whole call: the lines one list after another, and what the design of the labels tells. Assumes nothing.
 use mathlib.Core.Path.{_≡_, refl, sym, ap, ap₂, subst, _∙_}
 use mathlib.Core.Bool.{Bool, true, false, cond}
 use mathlib.Core.List.{List, [], _∷_, _++_}
@@ -8,67 +8,31 @@ use native.Mathlib.Omega.{arith}
 use lib.ListN.{length}
 use lib.Ieee.{Float}
 use Rattle.lists.specs.Filters.{all}
+use Rattle.lists.specs.Numbers.{Below}
 use Rattle.outcome.specs.declared.Refusal.{Refusal}
 use Rattle.outcome.specs.declared.Check.{Check}
 use Rattle.outcome.specs.declared.Check.the-variants as check
 use Rattle.outcome.specs.Refusals.{Line, first}
 use Rattle.outcome.specs.Outcome.{andThen}
 use Rattle.outcome.specs.Slices.{output, untouched}
-use Rattle.lot.specs.declared.Sizes.{Sizes}
-use Rattle.lot.specs.Kept.{groupEach, keptCount, groupCount}
-use Rattle.lot.specs.Described.{Grouped}
-use Rattle.lot.proofs.Samples.{kept-few}
+use Rattle.lot.specs.Kept.{kept, groupEach, keptCount, groupCount}
+use Rattle.lot.specs.Described.{samplesOf}
+use Rattle.lot.proofs.Samples.{kept-few, kept-below}
+use Rattle.kept.specs.Placed.{placed}
+use Rattle.kept.proofs.Placed.{length-each, each-placed}
+use Rattle.designs.specs.declared.Design.{Design}
+use Rattle.designs.specs.Designs.{Describes}
 use Rattle.means.specs.Means.{Numbered, grouped}
 use Rattle.outcome.proofs.Table.{first-untouched}
 use Rattle.discriminant.specs.declared.Answer.the-variants.{Refused}
 use Rattle.discriminant.specs.Dapc.{leading, axesOf, discriminate, dapc}
 use Rattle.discriminant.specs.Outputs.{Called, leaves, called, Ready}
 use Rattle.dapc_lines.specs.DapcLines.{shapeLines, groupLines, dapcLines}
-use Rattle.dapc.specs.Call.{callBy, dapcCall, groupsCall, Sized}
+use Rattle.dapc_lines.proofs.Lines.{Shaped, passed-shape, passed-groups}
+use Rattle.dapc.specs.Call.{callBy, dapcCall, groupsCall}
+use Rattle.dapc.specs.Inner.{scoresCall, eachOf, leadOf, Sized, Scorable}
 use Rattle.discriminant.proofs.Outputs.{axes-most}
-use Rattle.dapc.proofs.Grouping.{length-each, grouped-kept, numbered-each, half-groups}
-
--- ---- from labels to group numbers
-
-module _ (columns m g p : ℕ) (x : List Float) (labels : List ℕ) (out assigned numbers : ℕ) (sized : Sized columns x labels out assigned numbers)
-    (many : m ≡ keptCount labels) (some : g ≡ groupCount labels) (lead : p ≡ leading columns m g) where
-  module _ (groups : List ℕ) (is : groups ≡ groupEach labels) where
-    long : length groups ≡ length labels
-    long = ap length is ∙ length-each labels
-
-    pub kept-grouped : m ≡ length (grouped groups)
-    unfolding keptCount
-    kept-grouped = many ∙ sym (ap length (ap grouped is ∙ grouped-kept labels (sized .few)))
-
-    pub made-ready : 2 ≤ g → Ready columns p (axesOf g p) g x groups out assigned
-    unfolding leading keptCount
-    made-ready two =
-        let within : p ≤ columns = omega (arith, min-le-left columns (m - (g + 1))) in
-        let axial : axesOf g p ≤ columns = omega (arith, axes-most (axesOf g p) g p refl) in
-        let same = long in
-        record {
-          coordinates = sized .coordinates ∙ ap (λ (n : ℕ). n * columns) (sym same);
-          leads = within;
-          narrow = omega (arith, sized .narrow);
-          two = two;
-          most = omega (arith, half-groups labels, kept-few labels, sized .few);
-          numbered = subst (λ (l : List ℕ). Numbered g l) (sym is) (subst (λ (k : ℕ). Numbered k (groupEach labels)) (sym some) (numbered-each labels));
-          few = omega (arith, sized .few);
-          axial = refl;
-          room = omega (arith, mul-le-mul {n₁ = length labels} {m₁ = axesOf g p} {n₂ = length labels} {m₂ = columns} (omega arith) axial, ap (λ (n : ℕ). n * axesOf g p) same, sized .room);
-          places = omega (arith, sized .places);
-        }
-
-    pub assessed : (o : List Float) (a : List ℕ) {r : Called} → r ≡ leaves (length groups) p (axesOf g p) (discriminate (length groups) columns p x groups g) o a
-        → r ≡ leaves (length labels) (leading columns m g) (axesOf g (leading columns m g)) (dapc (length labels) columns x (groupEach labels) g) o a
-    unfolding dapc
-    assessed o a {r} e =
-        let step : ℕ → ℕ → List ℕ → Called = λ n k l. leaves n k (axesOf g k) (discriminate n columns k x l g) o a in
-        let wide : leading columns m g ≡ leading columns (length (grouped (groupEach labels))) g = ap (λ (k : ℕ). leading columns k g) (kept-grouped ∙ ap (λ (l : List ℕ). length (grouped l)) is) in
-        e
-        ∙ ap (λ (n : ℕ). step n p groups) long
-        ∙ ap₂ (step (length labels)) lead is
-        ∙ ap (λ (k : ℕ). leaves (length labels) (leading columns m g) (axesOf g (leading columns m g)) (discriminate (length labels) columns k x (groupEach labels) g) o a) wide
+use Rattle.dapc.proofs.Grouping.{grouped-kept, numbered-each, half-groups}
 
 -- ---- the lines, one list after another
 
@@ -100,15 +64,9 @@ module _ (n columns : ℕ) (x : List Float) (labels : List ℕ) (out : List Floa
       let kept : called (Refused r) out assigned ≡ callBy (check.Refused r) n columns x labels out assigned = rw u in
       kept ∙ ap (λ (c : Check). callBy c n columns x labels out assigned) e
 
-  pub groups-refused : {r : Refusal} → check.Refused r ≡ first (groupLines columns (keptCount labels) (groupCount labels)) → called (Refused r) out assigned ≡ groupsCall n columns x labels out assigned
+  groups-refused : {r : Refusal} → check.Refused r ≡ first (groupLines columns (keptCount labels) (groupCount labels)) → called (Refused r) out assigned ≡ groupsCall n columns x labels out assigned
   unfolding groupsCall groupLines all
   groups-refused e = refused-by-line (first-untouched (groupLines columns (keptCount labels) (groupCount labels)) refl e) e
-
-  pub groups-passed : {r : Called} → check.Passed ≡ first (groupLines columns (keptCount labels) (groupCount labels))
-      → r ≡ leaves n (leading columns (keptCount labels) (groupCount labels)) (axesOf (groupCount labels) (leading columns (keptCount labels) (groupCount labels))) (dapc n columns x (groupEach labels) (groupCount labels)) out assigned
-      → r ≡ groupsCall n columns x labels out assigned
-  unfolding groupsCall callBy
-  groups-passed e h = h ∙ ap (λ (c : Check). callBy c n columns x labels out assigned) e
 
   pub call-refused : {r : Refusal} → check.Refused r ≡ first (shapeLines n columns x (length labels) (length out) (length assigned))
       → called (Refused r) out assigned ≡ dapcCall n columns x labels out assigned
@@ -117,16 +75,109 @@ module _ (n columns : ℕ) (x : List Float) (labels : List ℕ) (out : List Floa
       refused-by-line (first-untouched (shapeLines n columns x (length labels) (length out) (length assigned)) refl e)
       (first-earlier (shapeLines n columns x (length labels) (length out) (length assigned)) (groupLines columns (keptCount labels) (groupCount labels)) e)
 
-  pub call-passed : {r : Called} → check.Passed ≡ first (shapeLines n columns x (length labels) (length out) (length assigned)) → length labels ≡ n
-      → r ≡ groupsCall (length labels) columns x labels out assigned → r ≡ dapcCall n columns x labels out assigned
-  unfolding dapcCall dapcLines groupsCall
-  call-passed e f h =
-      h
-      ∙ ap (λ (k : ℕ). groupsCall k columns x labels out assigned) f
-      ∙ ap (λ (c : Check). callBy c n columns x labels out assigned)
-      (first-later (shapeLines n columns x (length labels) (length out) (length assigned)) (groupLines columns (keptCount labels) (groupCount labels)) e)
+  -- lines 1 to 3 let the call pass
+  module _ (passed : check.Passed ≡ first (shapeLines n columns x (length labels) (length out) (length assigned))) where
+    abbrev shaped : Shaped n columns x (length labels) (length out) (length assigned)
+    shaped = passed-shape n columns x (length labels) (length out) (length assigned) passed
 
--- what `group` returns are m and g
-pub counts-are : (labels : List ℕ) {s : Sizes} {ks ns gs ks′ ns′ gs′ : List ℕ} → Grouped labels s ks ns gs ks′ ns′ gs′ → (s .kept ≡ keptCount labels) × (s .groups ≡ groupCount labels)
-unfolding keptCount groupCount
-counts-are labels g = (g .samples .many, g .labelled .many)
+    pub call-sized : Sized columns x labels (length out) (length assigned)
+    call-sized =
+        let same = shaped .labelled in
+        record {
+          coordinates = shaped .coordinates ∙ ap (λ (k : ℕ). k * columns) (sym same);
+          few = omega (arith, shaped .few);
+          narrow = shaped .narrow;
+          room = omega (arith, shaped .room, ap (λ (k : ℕ). k * columns) same);
+          places = omega (arith, shaped .places);
+        }
+
+    pub call-passed : {r : Called} → r ≡ groupsCall (length labels) columns x labels out assigned → r ≡ dapcCall n columns x labels out assigned
+    unfolding dapcCall dapcLines groupsCall
+    call-passed h =
+        h
+        ∙ ap (λ (k : ℕ). groupsCall k columns x labels out assigned) (shaped .labelled)
+        ∙ ap (λ (c : Check). callBy c n columns x labels out assigned)
+        (first-later (shapeLines n columns x (length labels) (length out) (length assigned)) (groupLines columns (keptCount labels) (groupCount labels)) passed)
+
+-- ---- by the design of the labels
+
+module _ (columns : ℕ) (x : List Float) (labels : List ℕ) {d : Design} (is : Describes (samplesOf labels false labels) d) where
+  each-is : eachOf d ≡ groupEach labels
+  each-is = (λ i. placed (is .many i) (is .keptAre i) (is .groupsAre i)) ∙ sym (each-placed labels)
+
+  counted : length labels ≤ 256 → d .kept ≡ length (grouped (eachOf d))
+  unfolding keptCount
+  counted few = is .keptMany ∙ sym (ap (λ (l : List ℕ). length (grouped l)) each-is ∙ ap length (grouped-kept labels few))
+
+  numbered : Numbered (d .groups) (eachOf d)
+  numbered = subst (Numbered (d .groups)) (sym each-is) (subst (λ (g : ℕ). Numbered g (groupEach labels)) (sym (is .groupsMany)) (numbered-each labels))
+
+  lines-are : first (groupLines columns (d .kept) (d .groups)) ≡ first (groupLines columns (keptCount labels) (groupCount labels))
+  lines-are = ap₂ (λ (m g : ℕ). first (groupLines columns m g)) (is .keptMany) (is .groupsMany)
+
+  -- its samples can be scored
+  pub scorable : {out assigned : ℕ} → Sized columns x labels out assigned → check.Passed ≡ first (groupLines columns (d .kept) (d .groups)) → Scorable columns x d out assigned
+  unfolding leading keptCount
+  scorable sized e =
+      let two = passed-groups columns (d .kept) (d .groups) e .0 in
+      let p = leadOf columns d in
+      let long : length (eachOf d) ≡ length labels = ap length each-is ∙ length-each labels in
+      let within : p ≤ columns = min-le-left columns (d .kept - (d .groups + 1)) in
+      let axial : axesOf (d .groups) p ≤ columns = omega (arith, axes-most (axesOf (d .groups) p) (d .groups) p refl) in
+      record {
+        few = omega (arith, is .many, sized .few);
+        keptFew = omega (arith, is .keptMany, kept-few labels, sized .few);
+        samples = subst (Below (d .n)) (sym (is .keptAre)) (subst (λ (n : ℕ). Below n (kept labels)) (sym (is .many)) (kept-below labels));
+        counted = counted (sized .few);
+        ready = record {
+          coordinates = sized .coordinates ∙ ap (λ (n : ℕ). n * columns) (sym long);
+          leads = within;
+          narrow = omega (arith, sized .narrow);
+          two = two;
+          most = omega (arith, half-groups labels, kept-few labels, sized .few, is .groupsMany);
+          numbered = numbered;
+          few = omega (arith, sized .few);
+          axial = refl;
+          room = omega (
+            arith,
+            mul-le-mul {n₁ = length labels} {m₁ = axesOf (d .groups) p} {n₂ = length labels} {m₂ = columns} (omega arith) axial,
+            ap (λ (n : ℕ). n * axesOf (d .groups) p) long,
+            sized .room,
+          );
+          places = omega (arith, sized .places);
+        };
+      }
+
+  module _ (out : List Float) (assigned : List ℕ) where
+    pub groups-refused-by : {r : Refusal} → check.Refused r ≡ first (groupLines columns (d .kept) (d .groups))
+        → called (Refused r) out assigned ≡ groupsCall (length labels) columns x labels out assigned
+    groups-refused-by e = groups-refused (length labels) columns x labels out assigned (e ∙ lines-are)
+
+    -- the scores are those of the labels
+    pub groups-scored : {r : Called} → length labels ≤ 256 → check.Passed ≡ first (groupLines columns (d .kept) (d .groups)) → r ≡ scoresCall columns x d out assigned
+        → r ≡ groupsCall (length labels) columns x labels out assigned
+    unfolding scoresCall dapc groupsCall callBy
+    groups-scored few e h =
+        let step : ℕ → ℕ → ℕ → ℕ → List ℕ → Called =
+        λ n m k g l. leaves n (leading columns m g) (axesOf g (leading columns m g)) (discriminate n columns (leading columns k g) x l g) out assigned in
+        h
+        ∙ (λ i. step (is .many i) (is .keptMany i) (counted few i) (is .groupsMany i) (eachOf d))
+        ∙ ap (λ (l : List ℕ). step (length labels) (keptCount labels) (length (grouped l)) (groupCount labels) l) each-is
+        ∙ ap (λ (c : Check). callBy c (length labels) columns x labels out assigned) (e ∙ lines-are)
+
+-- ---- the groups as they stand when the scores are asked for, on p columns
+
+module _ {columns : ℕ} {x : List Float} {d : Design} {room places : ℕ} (s : Scorable columns x d room places) {each : List ℕ} {p : ℕ} (is : each ≡ eachOf d)
+    (lead : p ≡ leadOf columns d) where
+  pub groups-ready : Ready columns p (axesOf (d .groups) p) (d .groups) x each room places × (d .kept ≡ length (grouped each))
+  groups-ready = (
+    subst (λ (l : List ℕ). Ready columns p (axesOf (d .groups) p) (d .groups) x l room places) (sym is)
+        (subst (λ (k : ℕ). Ready columns k (axesOf (d .groups) k) (d .groups) x (eachOf d) room places) (sym lead) (s .ready)),
+    s .counted ∙ ap (λ (l : List ℕ). length (grouped l)) (sym is),
+  )
+
+  pub scores-are : (out : List Float) (assigned : List ℕ) {r : Called} → length each ≡ d .n
+      → r ≡ leaves (length each) p (axesOf (d .groups) p) (discriminate (length each) columns p x each (d .groups)) out assigned → r ≡ scoresCall columns x d out assigned
+  unfolding scoresCall
+  scores-are out assigned long e =
+      e ∙ (λ i. leaves (long i) (lead i) (axesOf (d .groups) (lead i)) (discriminate (long i) columns (lead i) x (is i) (d .groups)) out assigned)

@@ -1,6 +1,5 @@
--- Section 5: a whole call of `dapc`, its answer and what all that is lent holds afterwards (document 01, the table and below it). Definitions and statements only.
-use Prim.Native.Nat.{ℕ, _+_, _*_, _≤_}
-use mathlib.Core.Path.{_≡_}
+-- Section 5: a whole call of `dapc`, its answer and what all that is lent holds afterwards (document 01, the table and below it). Definitions only.
+use Prim.Native.Nat.{ℕ}
 use mathlib.Core.List.{List}
 use lib.ListN.{length}
 use lib.Ieee.{Float}
@@ -26,12 +25,3 @@ dapcCall n columns x labels out assigned = callBy (first (dapcLines n columns x 
 -- and of one that lines 1 to 3 let pass
 unfoldable pub groupsCall : ℕ → ℕ → List Float → List ℕ → List Float → List ℕ → Called
 groupsCall n columns x labels out assigned = callBy (first (groupLines columns (keptCount labels) (groupCount labels))) n columns x labels out assigned
-
--- what lines 1 to 3 tell of the lengths; `numbers` is that of a slice with room for a number of each sample
-pub record Sized (columns : ℕ) (x : List Float) (labels : List ℕ) (out assigned numbers : ℕ) : Type 0 where
-  pub coordinates : length x ≡ length labels * columns
-  pub few : length labels ≤ 256
-  pub narrow : columns ≤ 16
-  pub room : columns + length labels * columns ≤ out
-  pub places : length labels ≤ assigned
-  pub numbersFit : length labels ≤ numbers

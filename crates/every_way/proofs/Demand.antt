@@ -9,6 +9,7 @@ use lib.Ieee.{binary64, fits}
 use lib.Ieee.Fits.{div-fits}
 use Rattle.lists.specs.Filters.{countIf}
 use Rattle.outcome.specs.declared.Check.{Check}
+use Rattle.outcome.specs.declared.Check.the-variants.{Passed}
 use Rattle.outcome.specs.Refusals.{first}
 use Rattle.outcome.specs.Outcome.{answered, judged}
 use Rattle.lot.specs.Lot.{Lot}
@@ -31,7 +32,7 @@ use Rattle.every_way.specs.Level.{Exact, Accepted, passes, calls, Level,
 use Rattle.every_way.proofs.Handed.{observes}
 use Rattle.every_way.proofs.Ranked.{f-level, right-level}
 use Rattle.every_way.proofs.Same.{every-way, same-ways, same-count, same-location, same-dispersion, same-assignment, same-exhaustive}
-use Rattle.every_way.proofs.Lines.{Clear, passed-clear, clear-passed, judged-answers, andThen-answers, ways-few, clear-again}
+use Rattle.every_way.proofs.Lines.{judged-answers, andThen-answers, ways-few, lines-again}
 
 -- ---- every F is a quotient, and so an f64
 
@@ -79,9 +80,9 @@ module _ (lot : Lot) (way : List ℕ) (is-way : IsWay lot way) where
 module _ (lot : Lot) (s : Slices) (j : Judgement) (answers : exhaustiveCall lot s .answer ≡ answered j)
     (lend : List ℕ → Slices) (longer : (way : List ℕ) → IsWay lot way → NoShorter s (lend way))
     (made : List ℕ → Called) (meets : (way : List ℕ) → IsWay lot way → made way ≡ exhaustiveCall (relabelled lot way) (lend way)) where
-  clear : Clear (lines lot s) × (exhaustive lot ≡ answered j)
+  clear : (first (lines lot s) ≡ Passed) × (exhaustive lot ≡ answered j)
   unfolding exhaustiveCall callBy callIn outcomeOf
-  clear = let w = judged-answers (first (lines lot s)) (exhaustive lot) j answers in (passed-clear (lines lot s) (w .0), w .1)
+  clear = judged-answers (first (lines lot s)) (exhaustive lot) j answers
 
   ordination : (c : Coordinates) × (coordinates lot ≡ answered c)
   unfolding exhaustive
@@ -93,7 +94,7 @@ module _ (lot : Lot) (s : Slices) (j : Judgement) (answers : exhaustiveCall lot 
     j = judgement (relabelled lot way) (ordination .0 .coords);
     answers =
         ap (λ (m : Called). m .answer) (meets way w)
-        ∙ ap (λ (c : Check). judged c (exhaustive (relabelled lot way))) (clear-passed (lines (relabelled lot way) (lend way)) (clear-again lot way w s (lend way) (longer way w) (clear .0)))
+        ∙ ap (λ (c : Check). judged c (exhaustive (relabelled lot way))) (lines-again lot way w s (lend way) (longer way w) (clear .0))
         ∙ same-exhaustive lot way w (ordination .0) (ordination .1);
     exact = counts-exactly lot way w (ordination .0);
   }

@@ -1,6 +1,6 @@
 -- Where a call answers, no line of the table holds, and so it is for each way handed in, with slices that are no shorter. Assumes nothing.
-use mathlib.Core.Path.{_≡_, refl, ap, _∙_}
-use mathlib.Core.Bool.{Bool, true, false, not, _&&_, _||_, cond}
+use mathlib.Core.Path.{_≡_, refl, sym, ap, _∙_}
+use mathlib.Core.Bool.{Bool, false, not, _&&_, _||_}
 use mathlib.Core.List.{List, [], _∷_}
 use Prim.Native.Nat.{ℕ, _*_, _≤_}
 use native.Mathlib.Omega.{arith}
@@ -8,41 +8,24 @@ use lib.Dec.{eqb, ltb}
 use lib.ListN.{length}
 use borrow.Author.Tests.{ltb-false, le-ltb}
 use Rattle.lists.specs.Filters.{any}
-use Rattle.outcome.specs.declared.Refusal.{Refusal}
+use Rattle.outcome.specs.declared.Refusal.the-variants.{Weight, Labels, Ways}
 use Rattle.outcome.specs.declared.Check.{Check}
 use Rattle.outcome.specs.declared.Check.the-variants as check
-use Rattle.outcome.specs.Refusals.{Line, Lent, first, short, unfit}
+use Rattle.outcome.specs.Refusals.{Line, Lent, _when_, first, short, unfit}
 use Rattle.outcome.specs.Outcome.{Outcome, answered, refused, judged, andThen}
 use Rattle.lot.specs.Lot.{Lot}
 use Rattle.lot.specs.Kept.{groupCount}
 use Rattle.lot.specs.Way.{IsWay, relabelled}
-use Rattle.lot.specs.Lines.{misfits, testLines}
+use Rattle.lot.specs.Lines.{badWeight, misfits, sizeLines, testLines}
 use Rattle.lists.proofs.Truths.{or-neither}
+use Rattle.outcome.proofs.Table.{first-passed, first-after, first-both}
+use Rattle.lot.proofs.Checks.{Clear, sizes-known, passed-clear, clear-passed}
 use Rattle.lot.proofs.Relabelled.{same-lot}
 use Rattle.ways.specs.Ways.{wayCount, mostWays}
 use Rattle.every_way.specs.Call.{Slices, NoShorter, lengthsOf, lentOf, tooShort, lines}
 use Rattle.every_way.proofs.Same.{same-count}
 
--- ---- the table
-
--- no line holds
-unfoldable pub Clear : List Line → Type 0
-Clear [] = Unit {0}
-Clear (line ∷ rest) = (line .holds ≡ false) × Clear rest
-
-line-clear : (b : Bool) (r : Refusal) (c : Check) → cond b (check.Refused r) c ≡ check.Passed → (b ≡ false) × (c ≡ check.Passed)
-line-clear true r c e = let z : _≡_ {A = ℕ} 0 1 = cc in absurd (omega arith)
-line-clear false r c e = (refl, e)
-
-pub passed-clear : (ls : List Line) → first ls ≡ check.Passed → Clear ls
-unfolding Clear first
-passed-clear [] e = tt
-passed-clear (line ∷ ls) e = let f = line-clear (line .holds) (line .returned) (first ls) e in (f .0, passed-clear ls (f .1))
-
-pub clear-passed : (ls : List Line) → Clear ls → first ls ≡ check.Passed
-unfolding Clear first
-clear-passed [] c = refl
-clear-passed (line ∷ ls) c = ap (λ (b : Bool). cond b (check.Refused (line .returned)) (first ls)) (c .0) ∙ clear-passed ls (c .1)
+-- ---- what is answered
 
 module _ {A : Type 0} where
   pub judged-answers : (c : Check) (out : Outcome A) (a : A) → judged c out ≡ answered a → (c ≡ check.Passed) × (out ≡ answered a)
@@ -81,9 +64,17 @@ no-shorter-fits n s t l e = longer-fits (lentOf n s) (lentOf n t) (l .labels, re
 
 -- ---- the lines of the exhaustive test
 
-pub ways-few : (lot : Lot) (s : Slices) → Clear (lines lot s) → wayCount lot ≤ mostWays
-unfolding Clear lines testLines
-ways-few lot s c = ltb-false mostWays (wayCount lot) (c .1 .1 .1 .1 .1 .0)
+abbrev waysLine : ℕ → List Line
+waysLine m = (Ways when ltb mostWays m) ∷ []
+
+module _ (lot : Lot) (s : Slices) (e : first (lines lot s) ≡ check.Passed) where
+  -- lines 1 to 5 do not hold, and 8 does not
+  apart : (first (testLines lot (tooShort (lot .n) s) false) ≡ check.Passed) × (first (waysLine (wayCount lot)) ≡ check.Passed)
+  unfolding lines
+  apart = first-both (testLines lot (tooShort (lot .n) s) false) (waysLine (wayCount lot)) e
+
+  pub ways-few : wayCount lot ≤ mostWays
+  ways-few = ltb-false mostWays (wayCount lot) (first-passed Ways _ _ (sym (apart .1)) .0)
 
 module _ (lot : Lot) (way : List ℕ) (is-way : IsWay lot way) where
   same-misfits : misfits (relabelled lot way) ≡ misfits lot
@@ -91,25 +82,26 @@ module _ (lot : Lot) (way : List ℕ) (is-way : IsWay lot way) where
   same-misfits = ap (λ (k : ℕ). unfit (lot .distances) (lot .n * lot .n) || not (eqb k (lot .n)) || (lot .stratified && unfit (lot .strata) (lot .n)) || (lot .weighted && unfit (lot .weights) (lot .n)))
       (same-lot lot way is-way .sameLength)
 
-  pub clear-again : (s t : Slices) → NoShorter s t → Clear (lines lot s) → Clear (lines (relabelled lot way) t)
-  unfolding Clear lines testLines groupCount relabelled
+  same-groups : groupCount (relabelled lot way .labels) ≡ groupCount (lot .labels)
+  unfolding groupCount relabelled
+  same-groups = ap length (same-lot lot way is-way .sameNames)
+
+  -- group by group: sizes fit again, the matrix is the same, and so are weights and the number of groups
+  clear-again : (s t : Slices) → NoShorter s t → Clear lot (tooShort (lot .n) s) false → Clear (relabelled lot way) (tooShort (lot .n) t) false
+  unfolding relabelled
   clear-again s t l c =
-      let one = or-neither (misfits lot) (tooShort (lot .n) s) (c .0) in (
-        neither (same-misfits ∙ one .0) (no-shorter-fits (lot .n) s t l (one .1)),
-        (
-          c .1 .0,
-          (
-            c .1 .1 .0,
-            (
-              c .1 .1 .1 .0,
-              (
-                ap (λ (ns : List ℕ). ltb (length ns) 2) (same-lot lot way is-way .sameNames) ∙ c .1 .1 .1 .1 .0,
-                (
-                  ap (λ (m : ℕ). ltb mostWays m) (same-count lot way is-way) ∙ c .1 .1 .1 .1 .1 .0,
-                  tt,
-                ),
-              ),
-            ),
-          ),
-        ),
-      )
+      let fit = sizes-known (misfits lot || tooShort (lot .n) s) (lot .n) false (c .sizes) .fit in
+      let one = or-neither (misfits lot) (tooShort (lot .n) s) fit in
+      record {
+        sizes = ap (λ (b : Bool). first (sizeLines b (lot .n) false)) (neither (same-misfits ∙ one .0) (no-shorter-fits (lot .n) s t l (one .1)) ∙ sym fit) ∙ c .sizes;
+        matrix = c .matrix;
+        labels = ap (λ (g : ℕ). first ((Weight when lot .weighted && any badWeight (lot .weights)) ∷ (Labels when ltb g 2) ∷ [])) same-groups ∙ c .labels;
+      }
+
+  pub lines-again : (s t : Slices) → NoShorter s t → first (lines lot s) ≡ check.Passed → first (lines (relabelled lot way) t) ≡ check.Passed
+  unfolding lines relabelled
+  lines-again s t l e =
+      let c = clear-again s t l (passed-clear lot (tooShort (lot .n) s) false (apart lot s e .0)) in
+      first-after (testLines (relabelled lot way) (tooShort (lot .n) t) false) (waysLine (wayCount (relabelled lot way))) (clear-passed (relabelled lot way) (tooShort (lot .n) t) false c)
+      ∙ ap (λ (m : ℕ). first (waysLine m)) (same-count lot way is-way)
+      ∙ apart lot s e .1

@@ -7,13 +7,12 @@ use lib.Ieee.{Float}
 use Rattle.lists.specs.Filters.{countIf}
 use Rattle.outcome.specs.Outcome.{Outcome, answered, andThen}
 use Rattle.lot.specs.Lot.{Lot}
-use Rattle.lot.specs.Kept.{groups, keptCount, groupCount}
-use Rattle.lot.specs.Strata.{fraction}
+use Rattle.lot.specs.Kept.{groups}
 use Rattle.lot.specs.Way.{relabelled}
 use Rattle.statistics.specs.declared.Statistic.{Statistic}
 use Rattle.statistics.specs.Hits.{statistic, hit}
-use Rattle.statistics.specs.Statistics.{locationF, rSquaredOf, dispersionF}
-use Rattle.statistics.specs.Warnings.{warned}
+use Rattle.statistics.specs.Statistics.{locationF, dispersionF}
+use Rattle.summaries.specs.Summaries.{summaryOf}
 use Rattle.coordinates.specs.Finish.{Coordinates}
 use Rattle.coordinates.specs.Pcoa.{pcoa}
 use Rattle.ways.specs.Ways.{ways, wayCount}
@@ -53,20 +52,16 @@ assignmentHits lot coords = hits asRight (assignmentOf lot coords) (groups (lot 
 
 -- ---- the answer
 
--- on given coordinates
+-- on given coordinates; only warning bits 0 to 4 are set
 unfoldable pub judgement : Lot → List Float → Judgement
 judgement lot coords =
     let observed = groups (lot .labels) in
     record {
-      n = keptCount (lot .labels);
-      «n_groups» = groupCount (lot .labels);
+      summary = summaryOf lot 0;
       ways = wayCount lot;
       location = record { statistic = locationOf lot observed; hits = locationHits lot };
-      r2 = rSquaredOf lot observed;
       dispersion = record { statistic = dispersionOf lot observed; hits = dispersionHits lot };
       assigned = record { assignment = assignmentOf lot coords observed; hits = assignmentHits lot coords };
-      «informative_fraction» = fraction lot;
-      warnings = warned lot;
     }
 
 -- `pcoa` with 8 components of the full matrix

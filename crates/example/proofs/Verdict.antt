@@ -2,7 +2,7 @@
 use mathlib.Core.Path.{_≡_, refl, sym, ap, _∙_}
 use mathlib.Core.Bool.{Bool, true, false, true≢false}
 use mathlib.Core.List.{List, [], _∷_}
-use Prim.Native.Nat.{ℕ}
+use Prim.Native.Nat.{ℕ, _+_}
 use lib.ListN.{length, replicate}
 use lib.Ieee.{Float, add, sub, mul, div, neg, lt, le, ofBits, ofInt, odd, size}
 use Rattle.float.specs.Floats.{zero⁺, 1·0, f64}
@@ -20,7 +20,7 @@ use Rattle.outcome.specs.declared.Check.the-variants.{Passed}
 use Rattle.outcome.specs.Refusals.{first, _when_}
 use Rattle.outcome.specs.Outcome as outcome
 use Rattle.outcome.specs.Outcome.{Outcome, answered, refused, andThen}
-use Rattle.lot.specs.Kept.{twice, kept, gathered, keptLabels, names, groups, keptCount, groupCount, sizes}
+use Rattle.lot.specs.Kept.{twice, leftOut, kept, gathered, keptLabels, names, groups, keptCount, groupCount, sizes}
 use Rattle.lot.specs.Strata.{strata, informs, informative, informativeCount, fraction}
 use Rattle.lot.specs.Way.{δ, mark, tally, onKept, relabelled}
 use Rattle.squares.specs.Squares.{squareAt, weightAt, termAt, pullAt, terms, pulls, weightsOf, termsOf, pullsOf}
@@ -33,7 +33,8 @@ use Rattle.statistics.specs.declared.Statistic.the-variants.{Finite, Unbounded}
 use Rattle.statistics.specs.Statistics as statistics
 use Rattle.statistics.specs.Statistics.{totalOf, withinOf, locationF, rSquaredOf, zOf, dispersionF}
 use Rattle.statistics.specs.Hits.{statistic, hit}
-use Rattle.statistics.specs.Warnings.{leftOut, uninformed, sizesOf, warned}
+use Rattle.statistics.specs.Warnings.{uninformed, sizesOf, warned}
+use Rattle.summaries.specs.Summaries.{summaryOf}
 use Rattle.coordinates.specs.Finish.{Coordinates}
 use Rattle.lists.proofs.Counts.{count-no}
 use Rattle.discriminant.specs.Dapc.{leading}
@@ -54,15 +55,11 @@ use Rattle.example.proofs.Ordinated.{answers, ordinated}
 -- F 32 with 2 hits, dispersion unbounded, smallest group under 5, no assignment; r2 is 64 / 68
 unfoldable pub verdict : Judgement
 verdict = record {
-  n = 4;
-  «n_groups» = 2;
+  summary = record { n = 4; «n_groups» = 2; r2 = f64 0x3fee_1e1e_1e1e_1e1e; «informative_fraction» = 1·0; warnings = 8 };
   ways = 6;
   location = record { statistic = Finite (f64 0x4040_0000_0000_0000); hits = 2 };
-  r2 = f64 0x3fee_1e1e_1e1e_1e1e;
   dispersion = record { statistic = Unbounded; hits = 6 };
   assigned = record { assignment = Withheld; hits = 0 };
-  «informative_fraction» = 1·0;
-  warnings = 8;
 }
 
 -- ---- the groups, and the number of ways
@@ -141,17 +138,13 @@ warnings-8 = refl
 -- ---- all of it
 
 found : (x : List Float) → every.judgement lot x ≡ verdict
-unfolding verdict every.judgement
+unfolding verdict every.judgement summaryOf
 found x i = record {
-  n = four i;
-  «n_groups» = two i;
+  summary = record { n = four i; «n_groups» = two i; r2 = r2-is i; «informative_fraction» = fraction-1 i; warnings = ap (λ (w : ℕ). w + 0) warnings-8 i };
   ways = six i;
   location = record { statistic = F-32 i; hits = location-hits i };
-  r2 = r2-is i;
   dispersion = record { statistic = unbounded i; hits = dispersion-hits i };
   assigned = record { assignment = withheld x i; hits = assignment-hits x i };
-  «informative_fraction» = fraction-1 i;
-  warnings = warnings-8 i;
 }
 
 answered-by : (o : Outcome Coordinates) → answers o ≡ true → andThen o (λ c. answered (every.judgement lot (c .coords))) ≡ answered verdict

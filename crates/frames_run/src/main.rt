@@ -13,6 +13,7 @@ use libc::STDIN_FILENO;
 use libc::STDOUT_FILENO;
 use outcome::Refusal;
 use statistics::Statistic;
+use summaries::Summary;
 use way_hits::Assignment;
 
 // The first n bytes of s.
@@ -201,16 +202,19 @@ fn tested(s: Statistic, hits: usize) -> Tested {
 fn show_verdict(n: usize, ways: usize, f: f64, hits: usize, assigned: Assigned) {
     let location = tested(statistics::statistic_of(f), hits);
     let dispersion = tested(Statistic::Unbounded, ways);
-    print(Answer::Judged(Judgement {
+    let summary = Summary {
         n,
         n_groups: 2,
-        ways,
-        location,
         r2: 0.5,
-        dispersion,
-        assigned,
         informative_fraction: 1.0,
         warnings: 8,
+    };
+    print(Answer::Judged(Judgement {
+        summary,
+        ways,
+        location,
+        dispersion,
+        assigned,
     }));
 }
 

@@ -1,7 +1,8 @@
 -- From what `exhaustive` leaves to what is found of a lot that was read. Assumes nothing.
 use Prim.Native.Nat.{ℕ, _+_, _*_, _≤_}
 use mathlib.Core.Path.{_≡_, ap, _∙_}
-use mathlib.Core.Bool.{false}
+use mathlib.Core.Bool.{Bool, false, _||_}
+use mathlib.Core.List.{List, [], _∷_, _++_}
 use native.Mathlib.Omega.{arith}
 use native.Mathlib.Nat.{mul-le-mul}
 use lib.Dec.{ltb}
@@ -9,11 +10,15 @@ use lib.ListN.{replicate}
 use borrow.Author.Tests.{le-ltb}
 use Rattle.float.specs.Floats.{zero⁺}
 use Rattle.lists.specs.Filters.{any}
+use Rattle.outcome.specs.declared.Refusal.the-variants.{Ways}
 use Rattle.outcome.specs.declared.Check.{Check}
-use Rattle.outcome.specs.Refusals.{first, short}
+use Rattle.outcome.specs.declared.Check.the-variants.{Passed}
+use Rattle.outcome.specs.Refusals.{Line, _when_, first, short}
 use Rattle.outcome.specs.Outcome.{judged}
+use Rattle.outcome.proofs.Table.{first-after}
 use Rattle.lot.specs.Lot.{Lot}
-use Rattle.lot.specs.Lines.{testLines}
+use Rattle.lot.specs.Lines.{misfits, sizeLines, matrixLines, labelLines, testLines}
+use Rattle.ways.specs.Ways.{mostWays, wayCount}
 use Rattle.every_way.specs.declared.Answer.{Answer}
 use Rattle.every_way.specs.Exhaustive.{exhaustive}
 use Rattle.every_way.specs.Call as test
@@ -33,12 +38,23 @@ roomy n h =
     let q : n * n ≤ 1024 = mul-le-mul h h in
     rw (le-ltb 32 n h, le-ltb 1024 (n * n) q, le-ltb 272 (16 + 8 * n) (omega (arith, h)), le-ltb 1056 (n + n * n) (omega (arith, h, q)))
 
--- of a lot that was read lines 1, 2 and 4 do not hold
+-- of a lot that was read lines 1 and 2 do not hold
+sizes-pass : (lot : Lot) (short : Bool) → Fits lot → short ≡ false → first (sizeLines (misfits lot || short) (lot .n) false) ≡ Passed
+unfolding first
+sizes-pass lot short f e = rw (fits-well lot f, e, le-ltb 256 (lot .n) (omega (arith, f .few)))
+
+-- nor does 4
+rest : Lot → List Line
+rest lot = matrixLines (lot .distances) ++ labelLines (lot .labels) (lot .weighted) (lot .weights) ++ ((Ways when ltb mostWays (wayCount lot)) ∷ [])
+
+rest-left : (lot : Lot) → Fits lot → first (rest lot) ≡ first (lines lot)
+unfolding rest lines first
+rest-left lot f = rw (f .unweighted)
+
 left-over : (lot : Lot) (s : test.Slices) → Fits lot → test.tooShort (lot .n) s ≡ false → first (test.lines lot s) ≡ first (lines lot)
-unfolding test.lines lines testLines first
+unfolding test.lines testLines rest
 left-over lot s f e =
-    let few : ltb 256 (lot .n) ≡ false = le-ltb 256 (lot .n) (omega (arith, f .few)) in
-    rw (fits-well lot f, e, few, f .unweighted)
+    first-after (sizeLines (misfits lot || test.tooShort (lot .n) s) (lot .n) false) (rest lot) (sizes-pass lot (test.tooShort (lot .n) s) f e) ∙ rest-left lot f
 
 -- what `exhaustive` answers of it
 pub judged-by : (lot : Lot) (r : Answer) {after : test.Slices} → Fits lot → test.called r after ≡ test.exhaustiveCall lot room → test.answerOf r ≡ judgement lot

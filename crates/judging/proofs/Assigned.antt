@@ -1,8 +1,10 @@
--- What `dapc` answers for labels whose lengths fit: it refuses the coordinates whatever the way, or goes by the scores of the groups. Assumes nothing.
+-- What `dapc` answers for labels whose lengths fit: it refuses the coordinates whatever the way, or goes by the scores of the groups. A way of a lot can be
+-- judged, and its statistics are those of the lot with the way's labels. Assumes nothing.
 use mathlib.Core.Path.{_≡_, refl, sym, ap, ap₂, subst, _∙_}
 use mathlib.Core.Bool.{Bool, true, false, not, cond, _||_}
 use mathlib.Core.List.{List, [], _∷_, _++_}
 use Prim.Native.Nat.{ℕ, _+_, _*_, _<_, _≤_}
+use native.Mathlib.Nat.{min-le-left}
 use native.Mathlib.Omega.{arith}
 use borrow.Author.Tests.{eq-eqb, le-ltb}
 use lib.Dec.{eqb, ltb}
@@ -19,6 +21,11 @@ use Rattle.lot.specs.Lot.{Lot, none}
 use Rattle.lot.specs.Kept.{kept, names, groups, groupEach, keptCount, groupCount}
 use Rattle.lot.specs.Way.{IsWay, relabelled}
 use Rattle.lot.proofs.Relabelled.{same-lot, way-below}
+use Rattle.kept.specs.Placed.{placed}
+use Rattle.kept.proofs.Placed.{each-placed}
+use Rattle.squares.specs.Squares.{weightsOf, termsOf, pullsOf}
+use Rattle.statistics.specs.Hits.{statistic}
+use Rattle.statistics.specs.Statistics.{totalOf, withinOf, locationF, zOf, dispersionOf, dispersionF}
 use Rattle.means.specs.Means.{Numbered, grouped}
 use Rattle.discriminant.specs.Dapc.{Scores, leading, axesOf, discriminate, dapc}
 use Rattle.discriminant.specs.Outputs.{leaves}
@@ -27,10 +34,9 @@ use Rattle.dapc.specs.Call.{callBy, dapcCall}
 use Rattle.dapc.proofs.Grouping.{grouped-kept, numbered-each}
 use Rattle.way_hits.specs.declared.Assignment.{Assignment}
 use Rattle.way_hits.specs.declared.Assignment.the-variants.{Right, Withheld}
-use Rattle.judging.specs.Assignments.{rightCount, assignment}
-use Rattle.judging.specs.Judging.{placed, found, barredBy, assignmentBy, Judged}
+use Rattle.judging.specs.Assignments.{columnsOf, rightCount, assignment}
+use Rattle.judging.specs.Judging.{barredBy, frameOf, locationBy, dispersionBy, found, assignmentBy, statisticsBy, Judged}
 use Rattle.judging.proofs.Cases.{answer-found}
-use Rattle.judging.proofs.Placed.{each-placed}
 
 -- by the two lines that coordinates can meet
 by-lines : (b c : Bool) (o : Outcome Scores) → found (judged (cond b (check.Refused Value) (cond c (check.Refused Columns) check.Passed)) o) ≡ cond (b || c) Withheld (found o)
@@ -55,9 +61,12 @@ module _ (n columns : ℕ) (x : List Float) (labels : List ℕ) (coordinates : l
 
   fits : misfits n columns (length x) (length labels) (length out) (length assigned) ≡ false
   unfolding misfits short any
-  fits = rw (eq-eqb _ _ coordinates, eq-eqb _ _ labelled, le-ltb (length out) (columns + n * columns) (omega (arith, length-replicate (columns + n * columns) zero⁺)), le-ltb (length assigned) n (omega (arith, length-replicate {A = ℕ} n 0)))
+  fits =
+      let wide = le-ltb (length out) (columns + n * columns) (omega (arith, length-replicate (columns + n * columns) zero⁺)) in
+      rw (eq-eqb _ _ coordinates, eq-eqb _ _ labelled, wide, le-ltb (length assigned) n (omega (arith, length-replicate {A = ℕ} n 0)))
 
-  lines-are : first (dapcLines n columns x labels (length out) (length assigned)) ≡ cond (any badCoordinate x) (check.Refused Value) (cond (ltb (leading columns m g) 2) (check.Refused Columns) check.Passed)
+  lines-are : first (dapcLines n columns x labels (length out) (length assigned))
+      ≡ cond (any badCoordinate x) (check.Refused Value) (cond (ltb (leading columns m g) 2) (check.Refused Columns) check.Passed)
   unfolding dapcLines shapeLines groupLines first
   lines-are = rw (fits, le-ltb 256 n few, le-ltb 16 columns narrow, le-ltb g 2 two)
 
@@ -69,7 +78,8 @@ module _ (n columns : ℕ) (x : List Float) (labels : List ℕ) (coordinates : l
   assignment-is : assignment n columns x labels ≡ cond (barredBy x (leading columns m g)) Withheld (found (discriminate n columns (leading columns m g) x (groupEach labels) g))
   unfolding assignment dapcCall callBy barredBy
   assignment-is =
-      answer-found n (leading columns m g) (axesOf g (leading columns m g)) (judged (first (dapcLines n columns x labels (length out) (length assigned))) (dapc n columns x (groupEach labels) g)) out assigned
+      let answer = judged (first (dapcLines n columns x labels (length out) (length assigned))) (dapc n columns x (groupEach labels) g) in
+      answer-found n (leading columns m g) (axesOf g (leading columns m g)) answer out assigned
       ∙ ap₂ (λ (c : Check) (o : Outcome Scores). found (judged c o)) lines-are scored
       ∙ by-lines (any badCoordinate x) (ltb (leading columns m g) 2) (discriminate n columns (leading columns m g) x (groupEach labels) g)
 
@@ -98,7 +108,7 @@ module _ (lot : Lot) (labelled : length (lot .labels) ≡ lot .n) (few : lot .n 
 
   each-way : groupEach new ≡ placed (lot .n) (kept (lot .labels)) way
   each-way =
-      each-placed new (omega (arith, labelled-new))
+      each-placed new
       ∙ (λ i. placed (labelled-new i) (same-lot lot way is-way .sameKept i) (same-lot lot way is-way .groupsAre i))
 
   -- it can be judged
@@ -111,10 +121,20 @@ module _ (lot : Lot) (labelled : length (lot .labels) ≡ lot .n) (few : lot .n 
     grouped = sym (ap (λ (l : List ℕ). length (grouped l)) (sym each-way) ∙ ap length (grouped-kept new (omega (arith, labelled-new))) ∙ same-m);
   }
 
-  -- and its assignment is what `dapc` answers for its labels
-  pub assignment-way : (columns : ℕ) (x : List Float) → length x ≡ lot .n * columns → columns ≤ 16 → 2 ≤ g₀
-      → assignmentBy (barredBy x (leading columns m₀ g₀)) (lot .n) columns (leading columns m₀ g₀) x (kept (lot .labels)) g₀ way ≡ assignment (lot .n) columns x new
-  unfolding assignmentBy
-  assignment-way columns x coordinates narrow two = sym (
-      assignment-is (lot .n) columns x new coordinates labelled-new few narrow (omega (arith, same-g))
-      ∙ (λ i. cond (barredBy x (leading columns (same-m i) (same-g i))) Withheld (found (discriminate (lot .n) columns (leading columns (same-m i) (same-g i)) x (each-way i) (same-g i)))))
+  -- on coordinates of all samples
+  module _ (x : List Float) (coordinates : length x ≡ lot .n * columnsOf (lot .n)) (two : 2 ≤ g₀) where
+    by-groups : ℕ → ℕ → List ℕ → Assignment
+    by-groups m g each = let lead = leading (columnsOf (lot .n)) m g in cond (barredBy x lead) Withheld (found (discriminate (lot .n) (columnsOf (lot .n)) lead x each g))
+
+    -- its assignment is what `dapc` answers for its labels
+    pub assignment-way : (total : Float) → assignmentBy (frameOf (lot .n) m₀ g₀ x total) x (kept (lot .labels)) way ≡ assignment (lot .n) (columnsOf (lot .n)) x new
+    unfolding assignmentBy by-groups
+    assignment-way total =
+        let narrow : columnsOf (lot .n) ≤ 16 = omega (arith, min-le-left 8 (lot .n)) in
+        sym (assignment-is (lot .n) (columnsOf (lot .n)) x new coordinates labelled-new few narrow (omega (arith, same-g)) ∙ (λ i. by-groups (same-m i) (same-g i) (each-way i)))
+
+    -- and its three statistics are those of the lot with the way's labels
+    pub statistics-way : statisticsBy (frameOf (lot .n) m₀ g₀ x (totalOf lot)) m₀ (termsOf lot) (pullsOf lot) (weightsOf lot) x (kept (lot .labels)) way
+        ≡ record { location = statistic (locationF lot way); dispersion = statistic (dispersionF lot way); assignment = assignment (lot .n) (columnsOf (lot .n)) x new }
+    unfolding statisticsBy locationBy dispersionBy locationF withinOf dispersionF dispersionOf zOf
+    statistics-way = λ i. record { location = statistic (locationF lot way); dispersion = statistic (dispersionF lot way); assignment = assignment-way (totalOf lot) i }

@@ -1,33 +1,47 @@
--- A way's assignment by cases, as the code takes it apart. Assumes nothing.
+-- A way's statistics from their parts, and its assignment by cases, as the code takes it apart. Assumes nothing.
 use mathlib.Core.Path.{_≡_, refl, sym, ap, ap₂, subst, _∙_}
 use mathlib.Core.Bool.{Bool, true, false, _||_}
 use mathlib.Core.List.{List}
-use Prim.Native.Nat.{ℕ, _+_, _*_, _≤_}
+use Prim.Native.Nat.{ℕ, _*_}
 use native.Mathlib.Omega.{arith}
 use lib.Dec.{ltb}
-use lib.ListN.{length, getD, set, replicate}
+use lib.ListN.{length}
 use lib.Ieee.{Float}
-use Rattle.lists.specs.Loops.{inTurn}
 use Rattle.lists.specs.Filters.{any}
-use Rattle.lot.specs.Lot.{none}
+use Rattle.kept.specs.Placed.{placed}
 use Rattle.outcome.specs.declared.Refusal.{Refusal}
 use Rattle.outcome.specs.Outcome.{Outcome, answered, refused, andThen}
+use Rattle.location.specs.Location.{within, pseudoF}
+use Rattle.dispersion.specs.Dispersion.{zOf}
+use Rattle.anova.specs.Anova.{anovaF}
+use Rattle.statistics.specs.declared.Statistic.{Statistic}
+use Rattle.statistics.specs.Hits.{statistic}
+use Rattle.means.specs.Means.{Numbered, grouped}
 use Rattle.discriminant.specs.declared.Separation.{Separation}
 use Rattle.discriminant.specs.declared.Answer.{Answer}
 use Rattle.discriminant.specs.declared.Answer.the-variants.{Scored, Refused}
-use Rattle.means.specs.Means.{Numbered, grouped}
 use Rattle.discriminant.specs.Dapc.{Scores, axesOf, discriminate}
 use Rattle.discriminant.specs.Outputs.{Called, leaves, called, outcomeOf, Ready}
 use Rattle.dapc_lines.specs.DapcLines.{badCoordinate}
 use Rattle.way_hits.specs.declared.Assignment.{Assignment}
 use Rattle.way_hits.specs.declared.Assignment.the-variants.{Right, Withheld}
-use Rattle.statistics.specs.declared.Statistic.{Statistic}
-use Rattle.statistics.specs.Hits.{hit}
 use Rattle.way_hits.specs.declared.Seen.{Seen}
 use Rattle.way_hits.specs.declared.Hits.{Hits}
-use Rattle.way_hits.specs.WayHits.{asRight, hitsOf}
+use Rattle.way_hits.specs.WayHits.{hitsOf}
+use Rattle.judging.specs.declared.Frame.{Frame}
 use Rattle.judging.specs.Assignments.{rightCount}
-use Rattle.judging.specs.Judging.{placed, found, barredBy, assignmentBy, Prepared, Judged, Placing}
+use Rattle.judging.specs.Judging.{barredBy, locationBy, dispersionBy, found, assignmentBy, statisticsBy, Placing, Judged}
+
+-- ---- location and dispersion
+
+module _ (f : Frame) (m : ℕ) (t p w : List Float) (way : List ℕ) {r : Statistic} {v : Float} (is : r ≡ statistic v) where
+  pub location-is : {inside : Float} → v ≡ pseudoF (f .total) inside m (f .groups) → inside ≡ within t w way m (f .groups) → r ≡ locationBy f m t w way
+  unfolding locationBy
+  location-is e ei = rw (is, e, ei)
+
+  pub dispersion-is : {z : List Float} → v ≡ anovaF z way m (f .groups) → z ≡ zOf p t w way m → r ≡ dispersionBy f m t p w way
+  unfolding dispersionBy
+  dispersion-is e ez = rw (is, e, ez)
 
 -- ---- what `dapc` answers
 
@@ -50,46 +64,28 @@ found-by n p axes o out assigned r e h = e ∙ ap (λ (c : Called). rightCount (
 
 -- ---- the groups of a way are ready for the scores
 
-module _ {n m g columns lead : ℕ} {x : List Float} {ks way : List ℕ} {scores : ℕ} (a : Placing n m g columns lead x ks way scores) {each : List ℕ} (is : each ≡ placed n ks way) (long : length each ≡ n) where
-  pub way-ready : {assigned : ℕ} → assigned ≡ n → Ready columns lead (axesOf g lead) g x each scores assigned × (m ≡ length (grouped each))
-  way-ready places = (
+module _ {f : Frame} {m : ℕ} {x : List Float} {ks way : List ℕ} {scores : ℕ} (a : Placing f m x ks scores) (j : Judged (f .n) m (f .groups) ks way) {each : List ℕ}
+    (is : each ≡ placed (f .n) ks way) (long : length each ≡ f .n) where
+  pub way-ready : Ready (f .columns) (f .lead) (axesOf (f .groups) (f .lead)) (f .groups) x each scores 256 × (m ≡ length (grouped each))
+  way-ready = (
     record {
-      coordinates = a .coordinates ∙ ap (λ (k : ℕ). k * columns) (sym long);
-      leads = a .leads;
-      narrow = omega (arith, a .leads, a .narrow);
-      two = a .two;
-      most = a .most;
-      numbered = subst (λ (l : List ℕ). Numbered g l) (sym is) (a .judged .numbered);
-      few = omega (arith, a .few);
+      coordinates = a .coordinates ∙ ap (λ (k : ℕ). k * f .columns) (sym long);
+      leads = a .framed .leads;
+      narrow = omega (arith, a .framed .leads, a .framed .narrow);
+      two = a .framed .two;
+      most = a .framed .most;
+      numbered = subst (λ (l : List ℕ). Numbered (f .groups) l) (sym is) (j .numbered);
+      few = omega (arith, a .framed .few);
       axial = refl;
-      room = omega (arith, a .room, ap (λ (k : ℕ). k * axesOf g lead) long);
-      places = omega arith;
+      room = omega (arith, a .room, ap (λ (k : ℕ). k * axesOf (f .groups) (f .lead)) long);
+      places = omega (arith, a .framed .few);
     },
-    a .judged .grouped ∙ ap (λ (l : List ℕ). length (grouped l)) (sym is),
+    j .grouped ∙ ap (λ (l : List ℕ). length (grouped l)) (sym is),
   )
 
-  pub way-found : {r : Assignment} → r ≡ found (discriminate (length each) columns lead x each g) → r ≡ found (discriminate n columns lead x (placed n ks way) g)
-  way-found e = e ∙ ap₂ (λ (k : ℕ) (l : List ℕ). found (discriminate k columns lead x l g)) long is
-
--- from samples that have none
-pub placed-from : (n : ℕ) (ks way : List ℕ) {each after : List ℕ} → each ≡ replicate n none → after ≡ inTurn (λ k l. set l (getD ks k 0) (getD way k 0)) (length ks) each → after ≡ placed n ks way
-unfolding placed
-placed-from n ks way e h = h ∙ ap (inTurn (λ k l. set l (getD ks k 0) (getD way k 0)) (length ks)) e
-
-pub prepared-placing : {n m g columns lead : ℕ} {t p w x : List Float} {ks way : List ℕ} {scores : ℕ} → Prepared n m g columns lead t p w x ks scores → Judged n m g ks way
-    → Placing n m g columns lead x ks way scores
-prepared-placing a j = record {
-  judged = j;
-  coordinates = a .coordinates;
-  samples = a .samples;
-  places = a .places;
-  leads = a .leads;
-  narrow = a .narrow;
-  two = a .two;
-  most = a .most;
-  few = a .few;
-  room = a .room;
-}
+  pub way-found : {r : Assignment} → f .barred ≡ false → r ≡ found (discriminate (length each) (f .columns) (f .lead) x each (f .groups)) → r ≡ assignmentBy f x ks way
+  unfolding assignmentBy
+  way-found unbarred e = rw unbarred (e ∙ ap₂ (λ (k : ℕ) (l : List ℕ). found (discriminate k (f .columns) (f .lead) x l (f .groups))) long is)
 
 -- ---- where the coordinates are barred, and where not
 
@@ -101,19 +97,17 @@ pub barred-few : (x : List Float) (lead : ℕ) {b : Bool} → b ≡ any badCoord
 unfolding barredBy
 barred-few x lead e h = ap (λ (t : Bool). t || ltb lead 2) (sym h ∙ e)
 
-module _ (n columns lead : ℕ) (x : List Float) (ks : List ℕ) (g : ℕ) (way : List ℕ) {barred : Bool} where
-  pub assignment-barred : barred ≡ true → Withheld ≡ assignmentBy barred n columns lead x ks g way
-  unfolding assignmentBy
-  assignment-barred e = rw e
+pub assignment-barred : (f : Frame) (x : List Float) (ks way : List ℕ) → f .barred ≡ true → Withheld ≡ assignmentBy f x ks way
+unfolding assignmentBy
+assignment-barred f x ks way e = rw e
 
-  pub assignment-found : {a : Assignment} → barred ≡ false → a ≡ found (discriminate n columns lead x (placed n ks way) g) → a ≡ assignmentBy barred n columns lead x ks g way
-  unfolding assignmentBy
-  assignment-found e h = rw e h
+-- ---- all three
 
--- ---- hits
+module _ (f : Frame) (m : ℕ) (t p w x : List Float) (ks way : List ℕ) {l d : Statistic} {a : Assignment} where
+  pub statistics-are : l ≡ locationBy f m t w way → d ≡ dispersionBy f m t p w way → a ≡ assignmentBy f x ks way
+      → record { location = l; dispersion = d; assignment = a } ≡ statisticsBy f m t p w x ks way
+  unfolding statisticsBy
+  statistics-are el ed ea = λ i. record { location = el i; dispersion = ed i; assignment = ea i }
 
--- with the statistics that were found
-pub hits-by : (observed found : Seen) {l d : Statistic} {a : Assignment} {r : Hits}
-    → r ≡ hitsOf (hit (observed .location) (found .location)) (hit (observed .dispersion) (found .dispersion)) (asRight (observed .assignment) (found .assignment))
-    → found .location ≡ l → found .dispersion ≡ d → found .assignment ≡ a → r ≡ hitsOf (hit (observed .location) l) (hit (observed .dispersion) d) (asRight (observed .assignment) a)
-hits-by observed found e el ed ea = e ∙ (λ i. hitsOf (hit (observed .location) (el i)) (hit (observed .dispersion) (ed i)) (asRight (observed .assignment) (ea i)))
+pub found-hits : (observed : Seen) {s found : Seen} {r : Hits} → r ≡ hitsOf observed s → s ≡ found → r ≡ hitsOf observed found
+found-hits observed e es = e ∙ ap (hitsOf observed) es

@@ -1,4 +1,3 @@
 -- The laws of a way's statistics.
 pub mod Cases
-pub mod Placed
 pub mod Assigned

@@ -1,15 +1,14 @@
 // The groups of a lot: kept samples, the groups' labels, and each sample's group (section 2).
 ghost use mathlib.Core.Path.{_≡_};
 ghost use Prim.Native.Nat.{_<_, _≤_};
-ghost use mathlib.Core.Bool.{cond};
 ghost use mathlib.Core.List.{map};
 ghost use lib.ListN.{length};
-ghost use Rattle.lists.specs.Numbers.{stands, position, upward};
+ghost use Rattle.lists.specs.Numbers.{position, upward, Below};
 ghost use Rattle.lists.specs.Writes.{over};
-ghost use Rattle.lot.specs.Lot.{none};
 ghost use Rattle.lot.specs.Filled.{Filled};
 ghost use Rattle.lot.specs.Described.{Grouped};
 ghost use Rattle.lot.specs.Kept as spec;
+ghost use Rattle.kept.specs.Placed.{put};
 
 // Each label gives way to its group, and the groups' labels go to the front of `ns`. Returns how many they are.
 fn number_labels(labels: &mut [u16], ns: &mut [u16]) -> usize
@@ -43,21 +42,13 @@ pub fn group(labels: &[u16], ks: &mut [u16], ns: &mut [u16], gs: &mut [u16]) -> 
     lot::Sizes { kept: m, groups: g }
 }
 
-// The place of l among the groups' labels, or none.
-fn group_of(ns: &[u16], l: u16) -> u16
-    requires { ⌜ length (now ns) < 65536 ⌝ }
-    ensures { λ r. ⌜ r ≡ cond (stands l (now (ns .entry))) (position l (now (ns .entry))) none ⌝ }
+// The groups `gs` of the samples `ks` go to their places in `each`.
+pub fn place(each: &mut [u16], ks: &[u16], gs: &[u16])
+    requires { ⌜ (length (now gs) ≡ length (now ks)) × Below (length (now each)) (now ks) ⌝ }
+    ensures { λ _. ⌜ now (each .exit) ≡ put (now (ks .entry)) (now (gs .entry)) (now (each .entry)) ⌝ }
 {
-    let p = crate::place_of(ns, l);
-    if p < ns.len() { p as u16 } else { lot::NONE }
-}
-
-// The group of each of the n samples, or none, goes to the front of `out`. `ns` are the groups' labels.
-pub fn fill_group_each(labels: &[u16], ns: &[u16], out: &mut [u16])
-    requires { ⌜ (length (now labels) < 65536) × (now ns ≡ spec.names (now labels)) × (length (now labels) ≤ length (now out)) ⌝ }
-    ensures { λ _. ⌜ now (out .exit) ≡ over (spec.groupEach (now (labels .entry))) (now (out .entry)) ⌝ }
-{
-    for i in 0..labels.len() {
-        out[i] = group_of(ns, labels[i]);
+    for k in 0..ks.len() {
+        let i = lists::entry(ks, k);
+        each[i] = gs[k];
     }
 }

@@ -9,7 +9,7 @@ use Rattle.outcome.specs.Outcome.{Outcome, answered, refused}
 use Rattle.measurement.specs.declared.TestResult.{TestResult}
 use Rattle.judgement.specs.declared.Judgement.{Judgement}
 use Rattle.layouts.specs.Coded.{coded, codedAs}
-use Rattle.layouts.specs.Layouts.{pOf, testValues, testNumbers, fOf, isFinite, isAssigned, wayValues, wayNumbers}
+use Rattle.layouts.specs.Layouts.{pOf, testRow, fOf, isFinite, isAssigned, wayRow}
 use Rattle.chances.specs.Chances.{given}
 use Rattle.way_hits.specs.WayHits.{rightOf}
 
@@ -26,21 +26,16 @@ module _ {A B : Type 0} (f : A → B) (before : B) {o : Outcome A} where
 
 -- ---- the parts
 
-pub values-are : (t : TestResult) {p q : Float} → p ≡ pOf (t .p) → q ≡ pOf (t .«disp_p») → t .f ∷ t .r2 ∷ p ∷ t .«disp_f» ∷ q ∷ t .«informative_fraction» ∷ [] ≡ testValues t
-unfolding testValues
-values-are t e h = λ i. t .f ∷ t .r2 ∷ e i ∷ t .«disp_f» ∷ h i ∷ t .«informative_fraction» ∷ []
+pub test-row-is : (t : TestResult) {p q : Float} {a b : ℕ} → p ≡ pOf (t .p) → q ≡ pOf (t .«disp_p») → a ≡ given (t .p) → b ≡ given (t .«disp_p»)
+    → let s = t .summary in record { values = t .f ∷ s .r2 ∷ p ∷ t .«disp_f» ∷ q ∷ s .«informative_fraction» ∷ []; numbers = s .n ∷ s .«n_groups» ∷ a ∷ b ∷ s .warnings ∷ [] } ≡ testRow t
+unfolding testRow
+test-row-is t ep eq ea eb = rw (ep, eq, ea, eb)
 
-pub numbers-are : (t : TestResult) {p q : ℕ} → p ≡ given (t .p) → q ≡ given (t .«disp_p») → t .n ∷ t .«n_groups» ∷ p ∷ q ∷ t .warnings ∷ [] ≡ testNumbers t
-unfolding testNumbers
-numbers-are t e h = λ i. t .n ∷ t .«n_groups» ∷ e i ∷ h i ∷ t .warnings ∷ []
-
-pub way-values-are : (j : Judgement) {f d : Float} → f ≡ fOf (j .location .statistic) → d ≡ fOf (j .dispersion .statistic) → f ∷ j .r2 ∷ d ∷ j .«informative_fraction» ∷ [] ≡ wayValues j
-unfolding wayValues
-way-values-are j e h = λ i. e i ∷ j .r2 ∷ h i ∷ j .«informative_fraction» ∷ []
-
-pub way-numbers-are : (j : Judgement) {f d a k : ℕ} → f ≡ isFinite (j .location .statistic) → d ≡ isFinite (j .dispersion .statistic) → a ≡ isAssigned (j .assigned .assignment)
-    → k ≡ rightOf (j .assigned .assignment)
-    → j .n ∷ j .«n_groups» ∷ j .ways ∷ f ∷ j .location .hits ∷ d ∷ j .dispersion .hits ∷ a ∷ k ∷ j .assigned .hits ∷ j .warnings ∷ [] ≡ wayNumbers j
-unfolding wayNumbers
-way-numbers-are j e h a k =
-    λ i. j .n ∷ j .«n_groups» ∷ j .ways ∷ e i ∷ j .location .hits ∷ h i ∷ j .dispersion .hits ∷ a i ∷ k i ∷ j .assigned .hits ∷ j .warnings ∷ []
+pub way-row-is : (j : Judgement) {f d : Float} {a b c k : ℕ} → f ≡ fOf (j .location .statistic) → d ≡ fOf (j .dispersion .statistic) → a ≡ isFinite (j .location .statistic)
+    → b ≡ isFinite (j .dispersion .statistic) → c ≡ isAssigned (j .assigned .assignment) → k ≡ rightOf (j .assigned .assignment)
+    → let s = j .summary in record {
+      values = f ∷ s .r2 ∷ d ∷ s .«informative_fraction» ∷ [];
+      numbers = s .n ∷ s .«n_groups» ∷ j .ways ∷ a ∷ j .location .hits ∷ b ∷ j .dispersion .hits ∷ c ∷ k ∷ j .assigned .hits ∷ s .warnings ∷ [];
+    } ≡ wayRow j
+unfolding wayRow
+way-row-is j ef ed ea eb ec ek = rw (ef, ed, ea, eb, ec, ek)

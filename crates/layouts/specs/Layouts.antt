@@ -14,6 +14,8 @@ use Rattle.way_hits.specs.declared.Assignment.the-variants.{Right, Withheld}
 use Rattle.way_hits.specs.WayHits.{rightOf}
 use Rattle.judgement.specs.declared.Judgement.{Judgement}
 use Rattle.discriminant.specs.declared.Separation.{Separation}
+use Rattle.layouts.specs.declared.TestRow.{TestRow}
+use Rattle.layouts.specs.declared.WayRow.{WayRow}
 use Rattle.layouts.specs.Coded.{Arrays, arrays}
 
 -- ---- `test`
@@ -23,16 +25,17 @@ abbrev pub pOf : Chance → Float
 pOf (P p) = p
 pOf NoP = zero⁺
 
--- F, r2, p, dispersion F, its p, informative fraction
-unfoldable pub testValues : TestResult → List Float
-testValues t = t .f ∷ t .r2 ∷ pOf (t .p) ∷ t .«disp_f» ∷ pOf (t .«disp_p») ∷ t .«informative_fraction» ∷ []
-
--- kept samples, groups, whether there is a p of location, and of dispersion, warnings
-unfoldable pub testNumbers : TestResult → List ℕ
-testNumbers t = t .n ∷ t .«n_groups» ∷ given (t .p) ∷ given (t .«disp_p») ∷ t .warnings ∷ []
+-- values: F, r2, p, dispersion F, its p, informative fraction;
+-- numbers: kept samples, groups, whether there is a p of location, and of dispersion, warnings
+unfoldable pub testRow : TestResult → TestRow
+testRow t =
+    record {
+      values = t .f ∷ t .summary .r2 ∷ pOf (t .p) ∷ t .«disp_f» ∷ pOf (t .«disp_p») ∷ t .summary .«informative_fraction» ∷ [];
+      numbers = t .summary .n ∷ t .summary .«n_groups» ∷ given (t .p) ∷ given (t .«disp_p») ∷ t .summary .warnings ∷ [];
+    }
 
 abbrev pub testArrays : TestResult → Arrays
-testArrays t = arrays (testValues t) (testNumbers t)
+testArrays t = arrays (testRow t .values) (testRow t .numbers)
 
 -- ---- `exhaustive`
 
@@ -50,29 +53,30 @@ abbrev pub isAssigned : Assignment → ℕ
 isAssigned (Right k) = 1
 isAssigned Withheld = 0
 
--- location F, r2, dispersion F, informative fraction
-unfoldable pub wayValues : Judgement → List Float
-wayValues j = fOf (j .location .statistic) ∷ j .r2 ∷ fOf (j .dispersion .statistic) ∷ j .«informative_fraction» ∷ []
-
--- kept samples, groups, M; whether the location F is finite, and its hits; the same of dispersion; whether there is an assignment, its right count and
--- its hits; warnings
-unfoldable pub wayNumbers : Judgement → List ℕ
-wayNumbers j =
-    j .n
-    ∷ j .«n_groups»
-    ∷ j .ways
-    ∷ isFinite (j .location .statistic)
-    ∷ j .location .hits
-    ∷ isFinite (j .dispersion .statistic)
-    ∷ j .dispersion .hits
-    ∷ isAssigned (j .assigned .assignment)
-    ∷ rightOf (j .assigned .assignment)
-    ∷ j .assigned .hits
-    ∷ j .warnings
-    ∷ []
+-- values: location F, r2, dispersion F, informative fraction;
+-- numbers: kept samples, groups, M; whether the location F is finite, and its hits; the same of dispersion; whether there is an assignment, its right count
+-- and its hits; warnings
+unfoldable pub wayRow : Judgement → WayRow
+wayRow j =
+    record {
+      values = fOf (j .location .statistic) ∷ j .summary .r2 ∷ fOf (j .dispersion .statistic) ∷ j .summary .«informative_fraction» ∷ [];
+      numbers =
+          j .summary .n
+          ∷ j .summary .«n_groups»
+          ∷ j .ways
+          ∷ isFinite (j .location .statistic)
+          ∷ j .location .hits
+          ∷ isFinite (j .dispersion .statistic)
+          ∷ j .dispersion .hits
+          ∷ isAssigned (j .assigned .assignment)
+          ∷ rightOf (j .assigned .assignment)
+          ∷ j .assigned .hits
+          ∷ j .summary .warnings
+          ∷ [];
+    }
 
 abbrev pub wayArrays : Judgement → Arrays
-wayArrays j = arrays (wayValues j) (wayNumbers j)
+wayArrays j = arrays (wayRow j .values) (wayRow j .numbers)
 
 -- ---- `hash_pca`
 

@@ -14,7 +14,7 @@ ghost use Rattle.every_way.specs.Call as ways;
 ghost use Rattle.gram.specs.Call as sets;
 ghost use Rattle.discriminant.specs.Outputs as scores;
 ghost use Rattle.layouts.specs.Coded.{coded, codedAs, arrays};
-ghost use Rattle.layouts.specs.Layouts.{pOf, testValues, testNumbers, testArrays, fOf, isFinite, isAssigned, wayValues, wayNumbers, wayArrays, selectedOf, dapcNumbers};
+ghost use Rattle.layouts.specs.Layouts.{pOf, testRow, testArrays, fOf, isFinite, isAssigned, wayRow, wayArrays, selectedOf, dapcNumbers};
 ghost use Rattle.outcome.specs.Refusals.{codeOf};
 ghost use Rattle.chances.specs.Chances.{given};
 ghost use Rattle.way_hits.specs.WayHits.{rightOf};
@@ -51,30 +51,25 @@ fn is_given(c: Chance) -> u64
     }
 }
 
-fn test_values(t: TestResult) -> [f64; 6]
-    ensures { λ r. ⌜ r ≡ testValues t ⌝ }
+pub struct TestRow {
+    pub values: [f64; 6],
+    pub numbers: [u64; 5],
+}
+
+// The parts of an answer of `test` in a row: values, and numbers.
+pub fn test_row(t: TestResult) -> TestRow
+    ensures { λ r. ⌜ r ≡ testRow t ⌝ }
 {
+    let s = t.summary;
     let p = t.p;
     let q = t.disp_p;
     let first = p_of(p);
     let second = p_of(q);
-    [t.f, t.r2, first, t.disp_f, second, t.informative_fraction]
-}
-
-fn test_numbers(t: TestResult) -> [u64; 5]
-    ensures { λ r. ⌜ r ≡ testNumbers t ⌝ }
-{
-    let p = t.p;
-    let q = t.disp_p;
-    let first = is_given(p);
-    let second = is_given(q);
-    [
-        t.n as u64,
-        t.n_groups as u64,
-        first,
-        second,
-        t.warnings as u64,
-    ]
+    let values = [t.f, s.r2, first, t.disp_f, second, s.informative_fraction];
+    let one = is_given(p);
+    let other = is_given(q);
+    let numbers = [s.n as u64, s.n_groups as u64, one, other, s.warnings as u64];
+    TestRow { values, numbers }
 }
 
 pub fn lay_test(a: sampled::Answer, values: &mut [f64; 6], numbers: &mut [u64; 5]) -> u8
@@ -83,8 +78,11 @@ pub fn lay_test(a: sampled::Answer, values: &mut [f64; 6], numbers: &mut [u64; 5
     match a {
         sampled::Answer::Refused(e) => number_of(e),
         sampled::Answer::Tested(t) => {
-            *values = test_values(t);
-            *numbers = test_numbers(t);
+            let row = test_row(t);
+            let vs = row.values;
+            let ns = row.numbers;
+            *values = vs;
+            *numbers = ns;
             0
         }
     }
@@ -132,34 +130,30 @@ fn is_assigned(a: Assignment) -> u64
     1
 }
 
-fn way_values(j: Judgement) -> [f64; 4]
-    ensures { λ r. ⌜ r ≡ wayValues j ⌝ }
-{
-    let l = j.location;
-    let d = j.dispersion;
-    let ls = l.statistic;
-    let ds = d.statistic;
-    let first = f_of(ls);
-    let second = f_of(ds);
-    [first, j.r2, second, j.informative_fraction]
+pub struct WayRow {
+    pub values: [f64; 4],
+    pub numbers: [u64; 11],
 }
 
-fn way_numbers(j: Judgement) -> [u64; 11]
-    ensures { λ r. ⌜ r ≡ wayNumbers j ⌝ }
+// The parts of an answer of `exhaustive` in a row: values, and numbers.
+pub fn way_row(j: Judgement) -> WayRow
+    ensures { λ r. ⌜ r ≡ wayRow j ⌝ }
 {
+    let s = j.summary;
     let l = j.location;
     let d = j.dispersion;
     let a = j.assigned;
     let ls = l.statistic;
     let ds = d.statistic;
     let given = a.assignment;
+    let values = [f_of(ls), s.r2, f_of(ds), s.informative_fraction];
     let first = is_bounded(ls);
     let second = is_bounded(ds);
     let third = is_assigned(given);
     let right = right_of(given);
-    [
-        j.n as u64,
-        j.n_groups as u64,
+    let numbers = [
+        s.n as u64,
+        s.n_groups as u64,
         j.ways as u64,
         first,
         l.hits as u64,
@@ -168,8 +162,9 @@ fn way_numbers(j: Judgement) -> [u64; 11]
         third,
         right,
         a.hits as u64,
-        j.warnings as u64,
-    ]
+        s.warnings as u64,
+    ];
+    WayRow { values, numbers }
 }
 
 pub fn lay_ways(a: every_way::Answer, values: &mut [f64; 4], numbers: &mut [u64; 11]) -> u8
@@ -178,8 +173,11 @@ pub fn lay_ways(a: every_way::Answer, values: &mut [f64; 4], numbers: &mut [u64;
     match a {
         every_way::Answer::Refused(e) => number_of(e),
         every_way::Answer::Judged(j) => {
-            *values = way_values(j);
-            *numbers = way_numbers(j);
+            let row = way_row(j);
+            let vs = row.values;
+            let ns = row.numbers;
+            *values = vs;
+            *numbers = ns;
             0
         }
     }

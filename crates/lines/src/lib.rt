@@ -1,4 +1,4 @@
-// Lines 1 to 5 of the table, which both tests share.
+// Lines 1 to 5 of the table, in three groups: sizes, which the ordination shares, the matrix, which it shares too, and labels with their weights.
 use outcome::Check;
 use outcome::Refusal;
 ghost use mathlib.Core.Path.{_≡_};
@@ -11,12 +11,15 @@ ghost use Rattle.lists.specs.Filters.{any, firstAt};
 ghost use Rattle.outcome.specs.Refusals.{first};
 ghost use Rattle.lot.specs.Lot.{none, lotOf};
 ghost use Rattle.lot.specs.Kept as spec;
-ghost use Rattle.lot.specs.Lines.{badWeight, testLines};
+ghost use Rattle.lot.specs.Lines.{badWeight, sizeLines, matrixLines, labelLines, testLines};
 
-// 2 ^ -20 and 2 ^ 20.
+// The most samples.
+pub const MOST_SAMPLES: usize = 256;
+
+// The least weight, 2 ^ -20, and the most that a weight or a distance may be, 2 ^ 20.
 const LEAST: f64 = 0.00000095367431640625;
 
-const MOST: f64 = 1048576.0;
+pub const MOST: f64 = 1048576.0;
 
 // Whether a length is n times n, which may be past what a `usize` holds.
 pub fn is_square(len: usize, n: usize) -> bool
@@ -35,7 +38,7 @@ fn unfit(given: bool, len: usize, n: usize) -> bool
     if given { len != n } else { false }
 }
 
-// Whether a lot whose parts have these lengths does not fit n.
+// Whether a lot whose parts have these lengths does not fit n, or a lent slice is short.
 fn misfits(
     n: usize,
     distances: usize,
@@ -44,8 +47,9 @@ fn misfits(
     strata: usize,
     weighted: bool,
     weights: usize,
+    short: bool,
 ) -> bool
-    ensures { λ r. ⌜ r ≡ (not (eqb distances (n * n)) || not (eqb labels n) || (stratified && not (eqb strata n)) || (weighted && not (eqb weights n))) ⌝ }
+    ensures { λ r. ⌜ r ≡ (not (eqb distances (n * n)) || not (eqb labels n) || (stratified && not (eqb strata n)) || (weighted && not (eqb weights n)) || short) ⌝ }
 {
     if !is_square(distances, n) {
         return true;
@@ -56,7 +60,10 @@ fn misfits(
     if unfit(stratified, strata, n) {
         return true;
     }
-    unfit(weighted, weights, n)
+    if unfit(weighted, weights, n) {
+        return true;
+    }
+    short
 }
 
 // Whether x is not within lo to hi, which a NaN is not.
@@ -116,6 +123,48 @@ fn bad_weights(weighted: bool, weights: &[f64]) -> bool
     false
 }
 
+// ---- the groups
+
+// Lines 1 and 2, for n samples. `misfit` says that a length does not fit n or a lent slice is short, `beyond` that another argument is beyond its limit.
+pub fn check_sizes(misfit: bool, n: usize, beyond: bool) -> Check
+    ensures { λ r. ⌜ r ≡ first (sizeLines misfit n beyond) ⌝ }
+{
+    if misfit {
+        return Check::Refused(Refusal::Length);
+    }
+    if n > MOST_SAMPLES {
+        return Check::Refused(Refusal::Limit);
+    }
+    if beyond {
+        return Check::Refused(Refusal::Limit);
+    }
+    Check::Passed
+}
+
+// Line 3, by the distances alone.
+pub fn check_matrix(distances: &[f64]) -> Check
+    ensures { λ r. ⌜ r ≡ first (matrixLines (now (distances .entry))) ⌝ }
+{
+    if any_outside(0.0, MOST, distances) {
+        return Check::Refused(Refusal::Value);
+    }
+    Check::Passed
+}
+
+// Lines 4 and 5.
+fn check_labels(labels: &[u16], weighted: bool, weights: &[f64]) -> Check
+    requires { ⌜ length (now labels) < 65536 ⌝ }
+    ensures { λ r. ⌜ r ≡ first (labelLines (now (labels .entry)) weighted (now (weights .entry))) ⌝ }
+{
+    if bad_weights(weighted, weights) {
+        return Check::Refused(Refusal::Weight);
+    }
+    if few_labels(labels) {
+        return Check::Refused(Refusal::Labels);
+    }
+    Check::Passed
+}
+
 // The line by which the tests turn a lot away. `short` says that an output or work slice is short, `beyond` that another argument is beyond its limit.
 pub fn check_lot(
     n: usize,
@@ -130,7 +179,7 @@ pub fn check_lot(
 ) -> Check
     ensures { λ r. ⌜ r ≡ first (testLines (lotOf n (now (distances .entry)) (now (labels .entry)) stratified (now (strata .entry)) weighted (now (weights .entry))) short beyond) ⌝ }
 {
-    if misfits(
+    let misfit = misfits(
         n,
         distances.len(),
         labels.len(),
@@ -138,26 +187,15 @@ pub fn check_lot(
         strata.len(),
         weighted,
         weights.len(),
-    ) {
-        return Check::Refused(Refusal::Length);
-    }
-    if short {
-        return Check::Refused(Refusal::Length);
-    }
-    if n > 256 {
-        return Check::Refused(Refusal::Limit);
-    }
-    if beyond {
-        return Check::Refused(Refusal::Limit);
-    }
-    if any_outside(0.0, MOST, distances) {
-        return Check::Refused(Refusal::Value);
-    }
-    if bad_weights(weighted, weights) {
-        return Check::Refused(Refusal::Weight);
-    }
-    if few_labels(labels) {
-        return Check::Refused(Refusal::Labels);
-    }
-    Check::Passed
+        short,
+    );
+    let sizes = check_sizes(misfit, n, beyond);
+    let Check::Passed = sizes else {
+        return sizes;
+    };
+    let matrix = check_matrix(distances);
+    let Check::Passed = matrix else {
+        return matrix;
+    };
+    check_labels(labels, weighted, weights)
 }

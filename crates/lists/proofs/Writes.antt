@@ -181,3 +181,8 @@ module _ {A : Type 0} (n w : ℕ) (f : ℕ → List A) (each : (i : ℕ) → len
   filling-all {l} {k} s h =
       let done : k ≡ n = omega (arith, s .most) in
       rows-all w f each old n (s .held ∙ ap (λ (j : ℕ). over (rows j f) old) done) (omega arith)
+
+-- a list of the same length is the same once it is cleared
+pub cleared-same : {A : Type 0} (x : A) (l l′ : List A) → length l′ ≡ length l → cleared x l′ ≡ cleared x l
+unfolding cleared
+cleared-same x l l′ e = ap (λ (n : ℕ). replicate n x) e

@@ -1,21 +1,25 @@
 -- What is known of a lot whose parts fit n, and of one that no line turns away. Assumes nothing.
 use mathlib.Core.Path.{_≡_, refl, sym, _∙_}
-use mathlib.Core.Bool.{Bool, true, false, not, _&&_, true≢false}
-use mathlib.Core.List.{List, _∷_}
+use mathlib.Core.Bool.{Bool, true, false, not, _&&_, _||_, true≢false}
+use mathlib.Core.List.{List, _++_}
 use Prim.Native.Nat.{ℕ, _*_, _≤_}
 use native.Mathlib.Omega.{arith}
 use borrow.Author.Tests.{eqb-true, ltb-false, not-false}
-use lib.Dec.{eqb}
+use lib.Dec.{eqb, ltb}
 use lib.ListN.{length}
-use Rattle.lists.specs.Filters.{any}
+use lib.Ieee.{Float}
+use Rattle.lists.specs.Filters.{any, all}
 use Rattle.outcome.specs.declared.Refusal.{Refusal}
-use Rattle.outcome.specs.declared.Check.the-variants.{Passed}
-use Rattle.outcome.specs.Refusals.{Line, _when_, first}
+use Rattle.outcome.specs.declared.Refusal.the-variants.{Length, Limit, Value, Weight, Labels}
+use Rattle.outcome.specs.declared.Check.the-variants.{Passed, Refused}
+use Rattle.outcome.specs.Refusals.{first}
+use Rattle.outcome.specs.Slices.{untouched}
 use Rattle.lot.specs.Lot.{Lot}
 use Rattle.lot.specs.Kept.{groupCount}
-use Rattle.lot.specs.Lines.{badDistance, badWeight, misfits, testLines}
+use Rattle.lot.specs.Lines.{badDistance, badWeight, misfits, sizeLines, matrixLines, labelLines, testLines}
 use Rattle.lot.specs.Described.{samplesOf, Room}
 use Rattle.lists.proofs.Truths.{or-neither}
+use Rattle.outcome.proofs.Table.{first-passed, first-after, first-both, first-untouched}
 
 -- ---- a lot whose parts fit n
 
@@ -43,8 +47,58 @@ parts-fit lot e =
       weightsFit = λ g. fit-given (lot .weighted) _ _ (w .1) g;
     }
 
+-- ---- what is known where the lines of a group do not hold
+
+-- 1 and 2
+pub record Sized (misfit : Bool) (n : ℕ) (beyond : Bool) : Type 0 where
+  pub fit : misfit ≡ false
+  pub few : n ≤ 256
+  pub within : beyond ≡ false
+
+pub sizes-known : (misfit : Bool) (n : ℕ) (beyond : Bool) → first (sizeLines misfit n beyond) ≡ Passed → Sized misfit n beyond
+sizes-known misfit n beyond e =
+    let one = first-passed Length _ misfit (sym e) in
+    let two = or-neither (ltb 256 n) beyond (first-passed Limit _ _ (one .1) .0) in
+    record { fit = one .0; few = ltb-false _ _ (two .0); within = two .1 }
+
+-- 3
+pub values-known : (d : List Float) → first (matrixLines d) ≡ Passed → any badDistance d ≡ false
+values-known d e = first-passed Value _ _ (sym e) .0
+
+-- 4 and 5
+pub record Labelled (labels : List ℕ) (weighted : Bool) (weights : List Float) : Type 0 where
+  pub weighed : (weighted && any badWeight weights) ≡ false
+  pub groups : 2 ≤ groupCount labels
+
+pub labels-known : (labels : List ℕ) (weighted : Bool) (weights : List Float) → first (labelLines labels weighted weights) ≡ Passed → Labelled labels weighted weights
+labels-known labels weighted weights e =
+    let four = first-passed Weight _ _ (sym e) in
+    record { weighed = four .0; groups = ltb-false _ _ (first-passed Labels _ _ (four .1) .0) }
+
 -- ---- a lot that no line turns away
 
+-- by the groups
+pub record Clear (lot : Lot) (short beyond : Bool) : Type 0 where
+  pub sizes : first (sizeLines (misfits lot || short) (lot .n) beyond) ≡ Passed
+  pub matrix : first (matrixLines (lot .distances)) ≡ Passed
+  pub labels : first (labelLines (lot .labels) (lot .weighted) (lot .weights)) ≡ Passed
+
+module _ (lot : Lot) (short beyond : Bool) where
+  pub passed-clear : first (testLines lot short beyond) ≡ Passed → Clear lot short beyond
+  unfolding testLines
+  passed-clear e =
+      let sizes = first-both (sizeLines (misfits lot || short) (lot .n) beyond) (matrixLines (lot .distances) ++ labelLines (lot .labels) (lot .weighted) (lot .weights)) e in
+      let rest = first-both (matrixLines (lot .distances)) (labelLines (lot .labels) (lot .weighted) (lot .weights)) (sizes .1) in
+      record { sizes = sizes .0; matrix = rest .0; labels = rest .1 }
+
+  pub clear-passed : Clear lot short beyond → first (testLines lot short beyond) ≡ Passed
+  unfolding testLines
+  clear-passed c =
+      first-after (sizeLines (misfits lot || short) (lot .n) beyond) (matrixLines (lot .distances) ++ labelLines (lot .labels) (lot .weighted) (lot .weights)) (c .sizes)
+      ∙ first-after (matrixLines (lot .distances)) (labelLines (lot .labels) (lot .weighted) (lot .weights)) (c .matrix)
+      ∙ c .labels
+
+-- what is known of it
 pub record Passes (lot : Lot) (short beyond : Bool) : Type 0 where
   pub fits : Fits lot
   pub long : short ≡ false
@@ -54,30 +108,26 @@ pub record Passes (lot : Lot) (short beyond : Bool) : Type 0 where
   pub weights : (lot .weighted && any badWeight (lot .weights)) ≡ false
   pub groups : 2 ≤ groupCount (lot .labels)
 
-line-out : (r : Refusal) (b : Bool) (lines : List Line) → first ((r when b) ∷ lines) ≡ Passed → (b ≡ false) × (first lines ≡ Passed)
-unfolding first
-line-out r true lines e = let z : _≡_ {A = ℕ} 0 1 = cc in absurd (omega arith)
-line-out r false lines e = (refl, e)
-
 pub passes : (lot : Lot) (short beyond : Bool) → first (testLines lot short beyond) ≡ Passed → Passes lot short beyond
-unfolding testLines
 passes lot short beyond e =
-    let l₁ = line-out _ _ _ e in
-    let l₂ = line-out _ _ _ (l₁ .1) in
-    let l₃ = line-out _ _ _ (l₂ .1) in
-    let l₄ = line-out _ _ _ (l₃ .1) in
-    let l₅ = line-out _ _ _ (l₄ .1) in
-    let one = or-neither _ _ (l₁ .0) in
-    let two = or-neither _ _ (l₂ .0) in
+    let clear = passed-clear lot short beyond e in
+    let sized = sizes-known (misfits lot || short) (lot .n) beyond (clear .sizes) in
+    let one = or-neither (misfits lot) short (sized .fit) in
+    let labelled = labels-known (lot .labels) (lot .weighted) (lot .weights) (clear .labels) in
     record {
       fits = parts-fit lot (one .0);
       long = one .1;
-      few = ltb-false _ _ (two .0);
-      within = two .1;
-      values = l₃ .0;
-      weights = l₄ .0;
-      groups = ltb-false _ _ (l₅ .0);
+      few = sized .few;
+      within = sized .within;
+      values = values-known (lot .distances) (clear .matrix);
+      weights = labelled .weighed;
+      groups = labelled .groups;
     }
+
+-- a refusal of theirs leaves what is lent alone
+pub lines-untouched : (lot : Lot) (short beyond : Bool) {r : Refusal} → Refused r ≡ first (testLines lot short beyond) → untouched r ≡ true
+unfolding testLines all
+lines-untouched lot short beyond e = first-untouched (testLines lot short beyond) refl e
 
 -- Slices of n numbers or more are room for the description of such a lot.
 pub passes-room : {lot : Lot} {short beyond : Bool} (ks ns gs ss : List ℕ) → Passes lot short beyond

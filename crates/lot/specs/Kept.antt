@@ -5,13 +5,17 @@ use mathlib.Core.List.{List, map}
 use lib.Dec.{eqb, leb}
 use lib.ListN.{length, getD}
 use Rattle.lists.specs.Ranges.{range, table}
-use Rattle.lists.specs.Filters.{keep}
+use Rattle.lists.specs.Filters.{keep, any}
 use Rattle.lists.specs.Numbers.{howMany, stands, position, upward, members}
 use Rattle.lot.specs.Lot.{none}
 
 -- Labels seen fewer than twice drop out.
 unfoldable pub twice : List ℕ → ℕ → Bool
 twice labels l = not (eqb l none) && leb 2 (howMany l labels)
+
+-- labels left out: some label is held by one sample
+unfoldable pub leftOut : List ℕ → Bool
+leftOut labels = any (λ l. not (eqb l none) && eqb (howMany l labels) 1) labels
 
 -- the kept samples, in order
 unfoldable pub kept : List ℕ → List ℕ

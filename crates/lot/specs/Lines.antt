@@ -1,7 +1,7 @@
 -- Lines 1 to 5 of the table for a lot of any n (document 01, "What a turned-away lot returns"). Definitions only.
 use Prim.Native.Nat.{ℕ, _*_}
 use mathlib.Core.Bool.{Bool, not, _&&_, _||_}
-use mathlib.Core.List.{List, [], _∷_}
+use mathlib.Core.List.{List, [], _∷_, _++_}
 use lib.Dec.{ltb}
 use lib.Ieee.{Float, le}
 use Rattle.float.specs.Floats.{zero⁺, 2^-20, 2^20}
@@ -24,12 +24,20 @@ misfits lot =
     let n = lot .n in
     unfit (lot .distances) (n * n) || unfit (lot .labels) n || (lot .stratified && unfit (lot .strata) n) || (lot .weighted && unfit (lot .weights) n)
 
+-- ---- the lines in groups, each of which stands by itself
+
+-- 1 and 2: `misfit` says that a length does not fit n or a lent slice is short, `beyond` that an argument other than n is beyond its limit
+abbrev pub sizeLines : Bool → ℕ → Bool → List Line
+sizeLines misfit n beyond = (Length when misfit) ∷ (Limit when ltb 256 n || beyond) ∷ []
+
+-- 3, of distances alone
+abbrev pub matrixLines : List Float → List Line
+matrixLines distances = (Value when any badDistance distances) ∷ []
+
+-- 4 and 5, of labels and weights
+abbrev pub labelLines : List ℕ → Bool → List Float → List Line
+labelLines labels weighted weights = (Weight when weighted && any badWeight weights) ∷ (Labels when ltb (groupCount labels) 2) ∷ []
+
 -- Both tests: `short` says that an output or work slice is short, `beyond` that another argument is beyond its limit.
 unfoldable pub testLines : Lot → Bool → Bool → List Line
-testLines lot short beyond =
-    (Length when misfits lot || short)
-    ∷ (Limit when ltb 256 (lot .n) || beyond)
-    ∷ (Value when any badDistance (lot .distances))
-    ∷ (Weight when lot .weighted && any badWeight (lot .weights))
-    ∷ (Labels when ltb (groupCount (lot .labels)) 2)
-    ∷ []
+testLines lot short beyond = sizeLines (misfits lot || short) (lot .n) beyond ++ matrixLines (lot .distances) ++ labelLines (lot .labels) (lot .weighted) (lot .weights)

@@ -1,2 +1,4 @@
--- Section 8 of document 01: what is measured, and the answer.
-pub mod Measured
+-- Section 8 of document 01: p of both statistics, and what an accepted lot is answered.
+pub mod Sampled
+pub mod Tested
+pub mod Room

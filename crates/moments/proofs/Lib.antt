@@ -1,2 +1,2 @@
--- Means and scatter together.
+-- Means and scatter together, and the room that they take.
 pub mod Filling

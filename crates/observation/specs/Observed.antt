@@ -1,15 +1,32 @@
--- What is observed of labels, over terms t, pulls p and weights w of m samples in g groups. Definitions only.
+-- What is observed of labels, and of a lot. Definitions only.
 use Prim.Native.Nat.{ℕ}
 use mathlib.Core.List.{List}
 use lib.Ieee.{Float}
+use Rattle.lot.specs.Lot.{Lot}
+use Rattle.lot.specs.Kept.{groups}
 use Rattle.location.specs.Location.{total, within, pseudoF, rSquared}
 use Rattle.dispersion.specs.Dispersion.{zOf, someNegative}
 use Rattle.anova.specs.Anova.{anovaF}
+use Rattle.statistics.specs.Statistics as statistics
 use Rattle.observation.specs.declared.Located.{Located}
 use Rattle.observation.specs.declared.Spread.{Spread}
 use Rattle.observation.specs.declared.Observed.{Observed}
 
--- location
+-- ---- of a lot: total, both F's, r2, and whether a dispersion value is below 0
+
+unfoldable pub observedOf : Lot → Observed
+observedOf lot =
+    let way = groups (lot .labels) in
+    record {
+      total = statistics.totalOf lot;
+      f = statistics.locationF lot way;
+      r2 = statistics.rSquaredOf lot way;
+      «disp_f» = statistics.dispersionF lot way;
+      negative = statistics.someNegative lot way;
+    }
+
+-- ---- of labels, over terms t, pulls p and weights w of m samples in g groups
+
 unfoldable pub located : List Float → List Float → List ℕ → ℕ → ℕ → Located
 located t w lab m g =
     record {
@@ -18,7 +35,6 @@ located t w lab m g =
       r2 = rSquared (total t w m) (within t w lab m g);
     }
 
--- dispersion
 unfoldable pub spread : List Float → List Float → List Float → List ℕ → ℕ → ℕ → Spread
 spread p t w lab m g = record { f = anovaF (zOf p t w lab m) lab m g; negative = someNegative p t w lab m }
 

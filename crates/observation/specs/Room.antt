@@ -1,13 +1,58 @@
--- What is asked of the slices that are observed. Statements only.
+-- What is asked of the slices of a lot that is observed, and what they hold afterwards. Statements only.
 use mathlib.Core.Path.{_≡_}
+use mathlib.Core.Bool.{Bool, true}
 use mathlib.Core.List.{List}
 use Prim.Native.Nat.{ℕ, _*_, _≤_}
 use lib.ListN.{length}
 use lib.Ieee.{Float}
 use Rattle.lists.specs.Numbers.{Below}
+use Rattle.lists.specs.Writes.{over}
+use Rattle.lot.specs.Lot.{Lot}
+use Rattle.lot.specs.Kept.{groups, keptCount, groupCount}
+use Rattle.squares.specs.Squares.{weightsOf, termsOf, pullsOf}
+use Rattle.anova.specs.Anova.{meanZ}
+use Rattle.statistics.specs.Statistics.{zOf}
+use Rattle.statistics.specs.Warnings.{sizesOf}
+use Rattle.designs.specs.declared.Design.{Design}
+use Rattle.designs.specs.Designs.{keptOf, Describes, Sound}
+use Rattle.observation.specs.declared.Observed.{Observed}
+use Rattle.observation.specs.Observed.{observedOf}
 
--- pulls, terms, weights and groups of m samples in g groups
-pub record Weighed (m g : ℕ) (p t w : List Float) (gs : List ℕ) : Type 0 where
+-- ---- weights and terms
+
+-- a sound design of n samples, their distances and weights, and slices of these lengths for weights, terms and pulls
+pub record Weighing (d : Design) (distances : List Float) (weighted : Bool) (weights : List Float) (w t p : ℕ) : Type 0 where
+  pub sound : Sound d
+  pub samples : Below (d .n) (keptOf d)
+  pub distancesFit : length distances ≡ d .n * d .n
+  pub weightsFit : weighted ≡ true → length weights ≡ d .n
+  pub weightsRoom : d .kept ≤ w
+  pub termsRoom : d .kept * d .kept ≤ t
+  pub pullsRoom : d .kept * d .kept ≤ p
+
+-- p, t and w are the pulls, terms and weights of the lot that d describes
+pub record Weighs (lot : Lot) (d : Design) (p t w : List Float) : Type 0 where
+  pub described : Describes lot d
+  pub pulls : p ≡ pullsOf lot
+  pub terms : t ≡ termsOf lot
+  pub weights : w ≡ weightsOf lot
+
+-- pulls, terms and weights for the samples of a sound design
+pub record Weighed (d : Design) (p t w : List Float) : Type 0 where
+  pub sound : Sound d
+  pub pulls : length p ≡ d .kept * d .kept
+  pub terms : length t ≡ d .kept * d .kept
+  pub weights : length w ≡ d .kept
+
+-- and slices of these lengths for z and the outputs
+pub record Observing (d : Design) (p t w : List Float) (z counts means : ℕ) : Type 0 where
+  pub weighed : Weighed d p t w
+  pub zRoom : d .kept ≤ z
+  pub countsRoom : d .groups ≤ counts
+  pub meansRoom : d .groups ≤ means
+
+-- pulls, terms, weights and labels of m samples in g groups
+pub record Labelled (m g : ℕ) (p t w : List Float) (gs : List ℕ) : Type 0 where
   pub pulls : length p ≡ m * m
   pub terms : length t ≡ m * m
   pub weights : length w ≡ m
@@ -16,3 +61,16 @@ pub record Weighed (m g : ℕ) (p t w : List Float) (gs : List ℕ) : Type 0 whe
   pub some : 1 ≤ g
   pub enough : g ≤ m
   pub few : m ≤ 256
+
+-- ---- what is observed
+
+-- two outputs held counts and means and hold counts′ and means′: each group's size and mean z
+pub record Listed (lot : Lot) (counts : List ℕ) (means : List Float) (counts′ : List ℕ) (means′ : List Float) : Type 0 where
+  pub sizes : counts′ ≡ over (sizesOf lot) counts
+  pub meanZ : means′ ≡ over (meanZ (zOf lot (groups (lot .labels))) (groups (lot .labels)) (keptCount (lot .labels)) (groupCount (lot .labels))) means
+
+-- what is returned, what the outputs hold, and z
+pub record Observes (lot : Lot) (counts : List ℕ) (means : List Float) (counts′ : List ℕ) (means′ z : List Float) (r : Observed) : Type 0 where
+  pub result : r ≡ observedOf lot
+  pub listed : Listed lot counts means counts′ means′
+  pub distances : z ≡ zOf lot (groups (lot .labels))

@@ -1,18 +1,80 @@
-// What is observed of labels: location, dispersion, and each group's count and mean z (document 01, sections 2 and 3).
+// What is observed of a lot: the weights and terms of its kept samples, location, dispersion, and each group's count and mean z (document 01, sections 2 and 3).
+use designs::Design;
 ghost use mathlib.Core.Path.{_≡_};
-ghost use mathlib.Core.Bool.{true};
-ghost use mathlib.Core.List.{map};
-ghost use Prim.Native.Nat.{_*_, _<_, _≤_};
-ghost use lib.ListN.{length};
+ghost use mathlib.Core.Bool.{Bool, true};
+ghost use mathlib.Core.List.{List, map};
+ghost use Prim.Native.Nat.{ℕ, _*_, _≤_};
+ghost use lib.ListN.{length, take};
 ghost use Rattle.lists.specs.Numbers.{Below};
 ghost use Rattle.lists.specs.Writes.{over};
 ghost use Rattle.members.specs.Members.{Grouped};
+ghost use Rattle.lot.specs.Lot.{Lot, lotOf};
 ghost use Rattle.lot.specs.Kept.{sizes};
 ghost use Rattle.squares.specs.Squares.{weightAt, terms, pulls};
 ghost use Rattle.dispersion.specs.Dispersion.{zOf};
 ghost use Rattle.anova.specs.Anova.{meanZ};
+ghost use Rattle.designs.specs.Designs.{Describes};
 ghost use Rattle.observation.specs.Observed.{located, spread, observed};
-ghost use Rattle.observation.specs.Room.{Weighed};
+ghost use Rattle.observation.specs.Room.{Weighing, Weighs, Labelled, Observing, Observes};
+
+// ---- weights and terms
+
+// The weights w, terms t and pulls p of the kept samples `ks`.
+fn weigh_kept(
+    distances: &[f64],
+    n: usize,
+    ks: &[u16],
+    m: usize,
+    weighted: bool,
+    weights: &[f64],
+    w: &mut [f64],
+    t: &mut [f64],
+    p: &mut [f64],
+)
+    requires { ⌜ (length (now distances) ≡ n * n) × (length (now ks) ≡ m) × Below n (now ks) × (weighted ≡ true → length (now weights) ≡ n) ⌝ }
+    requires { ⌜ (length (now w) ≡ m) × (length (now t) ≡ m * m) × (length (now p) ≡ m * m) ⌝ }
+    ensures { λ _. ⌜ (now (w .exit) ≡ map (weightAt weighted (now (weights .entry))) (now (ks .entry)))
+        × (now (t .exit) ≡ terms (now (distances .entry)) n (now (ks .entry)) (map (weightAt weighted (now (weights .entry))) (now (ks .entry))) m)
+        × (now (p .exit) ≡ pulls (now (distances .entry)) n (now (ks .entry)) (map (weightAt weighted (now (weights .entry))) (now (ks .entry))) m) ⌝ }
+{
+    squares::fill_weights(w, weighted, weights, ks);
+    squares::fill_terms(t, distances, n, ks, w, m);
+    squares::fill_pulls(p, distances, n, ks, w, m);
+}
+
+// The weights, terms and pulls of the design's samples go to the fronts of `w`, `terms` and `pulls`.
+pub fn weigh(
+    d: Design,
+    distances: &[f64],
+    weighted: bool,
+    weights: &[f64],
+    w: &mut [f64],
+    terms: &mut [f64],
+    pulls: &mut [f64],
+)
+    requires { ⌜ Weighing d (now distances) weighted (now weights) (length (now w)) (length (now terms)) (length (now pulls)) ⌝ }
+    ensures { λ _. ⌜ ((labels : List ℕ) (stratified : Bool) (strata : List ℕ) → Describes (lotOf (d .n) (now (distances .entry)) labels stratified strata weighted (now (weights .entry))) d
+        → Weighs (lotOf (d .n) (now (distances .entry)) labels stratified strata weighted (now (weights .entry))) d
+        (take (d .kept * d .kept) (now (pulls .exit))) (take (d .kept * d .kept) (now (terms .exit))) (take (d .kept) (now (w .exit)))) ⌝ }
+{
+    let n = d.n;
+    let m = d.kept;
+    let k = m * m;
+    let ks = d.samples;
+    weigh_kept(
+        distances,
+        n,
+        &ks[..m],
+        m,
+        weighted,
+        weights,
+        &mut w[..m],
+        &mut terms[..k],
+        &mut pulls[..k],
+    );
+}
+
+// ---- location and dispersion
 
 pub struct Located {
     pub total: f64,
@@ -45,7 +107,7 @@ pub struct Spread {
     pub negative: bool,
 }
 
-// Dispersion of the labels `gs`: z is filled. `gw` and `gi` lend room.
+// Dispersion of the labels `gs`: z is filled.
 fn disperse(
     p: &[f64],
     t: &[f64],
@@ -55,17 +117,17 @@ fn disperse(
     g: usize,
     next: &[u16],
     mem: &[u16],
-    gw: &mut [f64],
-    gi: &mut [f64],
     z: &mut [f64],
 ) -> Spread
     requires { ⌜ (length (now p) ≡ m * m) × (length (now t) ≡ m * m) × (length (now w) ≡ m) × (length (now gs) ≡ m) × Below g (now gs) ⌝ }
-    requires { ⌜ Grouped (now gs) m g (now next) (now mem) × (length (now mem) ≤ 256) × (g ≤ length (now gw)) × (g ≤ length (now gi)) × (length (now z) ≡ m) × (1 ≤ g) × (g ≤ m) × (m ≤ 256) ⌝ }
+    requires { ⌜ Grouped (now gs) m g (now next) (now mem) × (length (now mem) ≤ 256) × (length (now z) ≡ m) × (1 ≤ g) × (g ≤ m) × (m ≤ 256) ⌝ }
     ensures { λ r. ⌜ (r ≡ spread (now (p .entry)) (now (t .entry)) (now (w .entry)) (now (gs .entry)) m g)
         × (now (z .exit) ≡ zOf (now (p .entry)) (now (t .entry)) (now (w .entry)) (now (gs .entry)) m) ⌝ }
 {
-    let negative = dispersion::fill_z(p, t, w, gs, m, g, next, mem, gw, gi, z);
-    let f = anova::anova_f(z, gs, m, g, next, mem, gw);
+    let mut gw = [0.0f64; 256];
+    let mut gi = [0.0f64; 256];
+    let negative = dispersion::fill_z(p, t, w, gs, m, g, next, mem, &mut gw, &mut gi, z);
+    let f = anova::anova_f(z, gs, m, g, next, mem, &mut gw);
     Spread { f, negative }
 }
 
@@ -88,29 +150,6 @@ fn list_groups(
     anova::fill_means(z, m, g, next, mem, means);
 }
 
-// The weights w, terms t and pulls p of the kept samples `ks`.
-pub fn weigh(
-    d: &[f64],
-    n: usize,
-    ks: &[u16],
-    m: usize,
-    weighted: bool,
-    weights: &[f64],
-    w: &mut [f64],
-    t: &mut [f64],
-    p: &mut [f64],
-)
-    requires { ⌜ (length (now d) ≡ n * n) × (length (now ks) ≡ m) × Below n (now ks) × (weighted ≡ true → length (now weights) ≡ n) ⌝ }
-    requires { ⌜ (length (now w) ≡ m) × (length (now t) ≡ m * m) × (length (now p) ≡ m * m) ⌝ }
-    ensures { λ _. ⌜ (now (w .exit) ≡ map (weightAt weighted (now (weights .entry))) (now (ks .entry)))
-        × (now (t .exit) ≡ terms (now (d .entry)) n (now (ks .entry)) (map (weightAt weighted (now (weights .entry))) (now (ks .entry))) m)
-        × (now (p .exit) ≡ pulls (now (d .entry)) n (now (ks .entry)) (map (weightAt weighted (now (weights .entry))) (now (ks .entry))) m) ⌝ }
-{
-    squares::fill_weights(w, weighted, weights, ks);
-    squares::fill_terms(t, d, n, ks, w, m);
-    squares::fill_pulls(p, d, n, ks, w, m);
-}
-
 pub struct Observed {
     pub total: f64,
     pub f: f64,
@@ -119,44 +158,8 @@ pub struct Observed {
     pub negative: bool,
 }
 
-// Both statistics of the labels `gs`, each group's count and mean z, and z. The rest lends room.
-fn observe_with(
-    p: &[f64],
-    t: &[f64],
-    w: &[f64],
-    gs: &[u16],
-    m: usize,
-    g: usize,
-    z: &mut [f64],
-    counts: &mut [u16],
-    means: &mut [f64],
-    next: &mut [u16],
-    mem: &mut [u16],
-    gw: &mut [f64],
-    gi: &mut [f64],
-) -> Observed
-    requires { ⌜ Weighed m g (now p) (now t) (now w) (now gs) × (length (now z) ≡ m) × (g ≤ length (now counts)) × (g ≤ length (now means)) ⌝ }
-    requires { ⌜ (g < length (now next)) × (length (now mem) ≡ 256) × (g ≤ length (now gw)) × (g ≤ length (now gi)) ⌝ }
-    ensures { λ r. ⌜ (r ≡ observed (now (p .entry)) (now (t .entry)) (now (w .entry)) (now (gs .entry)) m g)
-        × (now (z .exit) ≡ zOf (now (p .entry)) (now (t .entry)) (now (w .entry)) (now (gs .entry)) m)
-        × (now (counts .exit) ≡ over (sizes (now (gs .entry)) m g) (now (counts .entry)))
-        × (now (means .exit) ≡ over (meanZ (zOf (now (p .entry)) (now (t .entry)) (now (w .entry)) (now (gs .entry)) m) (now (gs .entry)) m g) (now (means .entry))) ⌝ }
-{
-    members::group(gs, m, g, next, mem);
-    let l = locate(t, w, gs, m, g, next, mem);
-    let d = disperse(p, t, w, gs, m, g, next, mem, gw, gi, z);
-    list_groups(z, gs, m, g, next, mem, counts, means);
-    Observed {
-        total: l.total,
-        f: l.f,
-        r2: l.r2,
-        disp_f: d.f,
-        negative: d.negative,
-    }
-}
-
-// The same, with room of its own.
-pub fn observe(
+// Both statistics of the labels `gs`, each group's count and mean z, and z.
+fn observe_kept(
     p: &[f64],
     t: &[f64],
     w: &[f64],
@@ -167,7 +170,7 @@ pub fn observe(
     counts: &mut [u16],
     means: &mut [f64],
 ) -> Observed
-    requires { ⌜ Weighed m g (now p) (now t) (now w) (now gs) × (length (now z) ≡ m) × (g ≤ length (now counts)) × (g ≤ length (now means)) ⌝ }
+    requires { ⌜ Labelled m g (now p) (now t) (now w) (now gs) × (length (now z) ≡ m) × (g ≤ length (now counts)) × (g ≤ length (now means)) ⌝ }
     ensures { λ r. ⌜ (r ≡ observed (now (p .entry)) (now (t .entry)) (now (w .entry)) (now (gs .entry)) m g)
         × (now (z .exit) ≡ zOf (now (p .entry)) (now (t .entry)) (now (w .entry)) (now (gs .entry)) m)
         × (now (counts .exit) ≡ over (sizes (now (gs .entry)) m g) (now (counts .entry)))
@@ -175,21 +178,36 @@ pub fn observe(
 {
     let mut next = [0u16; 257];
     let mut mem = [0u16; 256];
-    let mut gw = [0.0f64; 256];
-    let mut gi = [0.0f64; 256];
-    observe_with(
-        p,
-        t,
-        w,
-        gs,
-        m,
-        g,
-        z,
-        counts,
-        means,
-        &mut next,
-        &mut mem,
-        &mut gw,
-        &mut gi,
-    )
+    members::group(gs, m, g, &mut next, &mut mem);
+    let l = locate(t, w, gs, m, g, &next, &mem);
+    let s = disperse(p, t, w, gs, m, g, &next, &mem, z);
+    list_groups(z, gs, m, g, &next, &mem, counts, means);
+    Observed {
+        total: l.total,
+        f: l.f,
+        r2: l.r2,
+        disp_f: s.f,
+        negative: s.negative,
+    }
+}
+
+// Both statistics of the lot that a design describes, over its pulls p, terms t and weights w. z goes to the front of `z`, and each group's count and mean z
+// to the fronts of the outputs.
+pub fn observe(
+    d: Design,
+    p: &[f64],
+    t: &[f64],
+    w: &[f64],
+    z: &mut [f64],
+    counts: &mut [u16],
+    means: &mut [f64],
+) -> Observed
+    requires { ⌜ Observing d (now p) (now t) (now w) (length (now z)) (length (now counts)) (length (now means)) ⌝ }
+    ensures { λ r. ⌜ ((lot : Lot) → Weighs lot d (now (p .entry)) (now (t .entry)) (now (w .entry))
+        → Observes lot (now (counts .entry)) (now (means .entry)) (now (counts .exit)) (now (means .exit)) (take (d .kept) (now (z .exit))) r) ⌝ }
+{
+    let m = d.kept;
+    let g = d.groups;
+    let gs = d.group;
+    observe_kept(p, t, w, &gs[..m], m, g, &mut z[..m], counts, means)
 }

@@ -1,7 +1,7 @@
--- The lines of the table, one by one, and what the lengths are where no line holds. Assumes nothing.
-use mathlib.Core.Path.{_≡_, refl}
+-- Slices that are short, the lines of the table, and what the lengths are where no line holds. Assumes nothing.
+use mathlib.Core.Path.{_≡_, refl, sym, ap, ap₂, _∙_}
 use mathlib.Core.Bool.{Bool, true, false, _||_}
-use mathlib.Core.List.{List}
+use mathlib.Core.List.{List, _++_}
 use Prim.Native.Nat.{ℕ, _+_, _*_, _<_, _≤_, min}
 use native.Mathlib.Nat.{mul-le-mul, min-le-left, min-le-right}
 use native.Mathlib.Omega.{arith}
@@ -10,15 +10,15 @@ use lib.Dec.{eqb, ltb}
 use lib.ListN.{length}
 use lib.Ieee.{Float}
 use Rattle.lists.specs.Filters.{any}
-use Rattle.outcome.specs.declared.Refusal.the-variants.{Length, Limit, Value, Ordination}
 use Rattle.outcome.specs.declared.Check.{Check}
-use Rattle.outcome.specs.declared.Check.the-variants.{Passed, Refused}
-use Rattle.outcome.specs.Refusals.{first, unfit, short}
+use Rattle.outcome.specs.declared.Check.the-variants.{Passed}
+use Rattle.outcome.specs.Refusals.{Line, first, unfit, short}
 use Rattle.lists.proofs.Truths.{or-neither}
-use Rattle.outcome.proofs.Table.{first-passed}
-use Rattle.lot.specs.Lines.{badDistance}
+use Rattle.outcome.proofs.Table.{first-both}
+use Rattle.lot.specs.Lines.{sizeLines, matrixLines}
+use Rattle.lot.proofs.Checks.{sizes-known}
 use Rattle.ordination_lines.specs.Lengths.{tooShort, Room}
-use Rattle.ordination_lines.specs.Lines.{badComponents, pcoaLines}
+use Rattle.ordination_lines.specs.Lines.{badComponents, fewLines, pcoaLines}
 
 -- ---- lengths that fit n do not wrap
 
@@ -107,43 +107,15 @@ asked components n {k} h e =
 -- ---- the lines of `pcoa`
 
 module _ (components n : ℕ) (d : List Float) (out b w m v : ℕ) where
-  abbrev told : Check
-  told = first (pcoaLines components n d out b w m v)
+  abbrev pub misfit : ℕ → Bool
+  misfit k = unfit d (n * n) || tooShort k n out b w m v
 
-  abbrev lacking : Bool
-  lacking = tooShort (min components n) n out b w m v
+  abbrev pub sizesOf : List Line
+  sizesOf = sizeLines (misfit (min components n)) n (badComponents components)
 
-  pub line-distances : eqb (length d) (n * n) ≡ false → Refused Length ≡ told
-  unfolding pcoaLines first
-  line-distances h = rw h
-
-  module _ (h : eqb (length d) (n * n) ≡ true) where
-    pub line-short : lacking ≡ true → Refused Length ≡ told
-    unfolding pcoaLines first
-    line-short g = rw (h, g)
-
-    module _ (l : lacking ≡ false) where
-      pub line-samples : ltb 256 n ≡ true → Refused Limit ≡ told
-      unfolding pcoaLines first
-      line-samples g = rw (h, l, g)
-
-      module _ (few : ltb 256 n ≡ false) where
-        pub line-components : badComponents components ≡ true → Refused Limit ≡ told
-        unfolding pcoaLines first
-        line-components g = rw (h, l, few, g)
-
-        module _ (most : badComponents components ≡ false) where
-          pub line-value : any badDistance d ≡ true → Refused Value ≡ told
-          unfolding pcoaLines first
-          line-value g = rw (h, l, few, most, g)
-
-          pub line-three : any badDistance d ≡ false → ltb n 3 ≡ true → Refused Ordination ≡ told
-          unfolding pcoaLines first
-          line-three g f = rw (h, l, few, most, g, f)
-
-          pub line-none : any badDistance d ≡ false → ltb n 3 ≡ false → Passed ≡ told
-          unfolding pcoaLines first
-          line-none g f = rw (h, l, few, most, g, f)
+  -- lines 1 and 2 by what the code has found, for k leading components
+  pub sizes-told : {k : ℕ} {x y : Bool} {c : Check} → k ≡ min components n → x ≡ misfit k → y ≡ badComponents components → c ≡ first (sizeLines x n y) → c ≡ first sizesOf
+  sizes-told e f g h = h ∙ ap₂ (λ (x y : Bool). first (sizeLines x n y)) (f ∙ ap misfit e) g
 
 -- where no line holds
 pub record Fits (k n d out b w m v : ℕ) : Type 0 where
@@ -157,13 +129,11 @@ pub passed-fits : (components n : ℕ) (d : List Float) (out b w m v : ℕ) {k :
 unfolding pcoaLines
 passed-fits components n d out b w m v {k} e p =
     let k′ = min components n in
-    let l₁ = first-passed Length _ (unfit d (n * n) || tooShort k′ n out b w m v) p in
-    let l₂ = first-passed Limit _ (ltb 256 n || badComponents components) (l₁ .1) in
-    let s = or-neither (unfit d (n * n)) (tooShort k′ n out b w m v) (l₁ .0) in
-    let a = or-neither (ltb 256 n) (badComponents components) (l₂ .0) in
+    let sized = sizes-known (misfit components n d out b w m v k′) n (badComponents components) (first-both (sizesOf components n d out b w m v) (matrixLines d ++ fewLines n) (sym p) .0) in
+    let one = or-neither (unfit d (n * n)) (tooShort k′ n out b w m v) (sized .fit) in
     record {
-      distances = eqb-true _ _ (not-false _ (s .0));
-      few = ltb-false _ _ (a .0);
-      asks = asked components n (a .1) e;
-      room = rw e (long-enough k′ n out b w m v (s .1));
+      distances = eqb-true _ _ (not-false _ (one .0));
+      few = sized .few;
+      asks = asked components n (sized .within) e;
+      room = rw e (long-enough k′ n out b w m v (one .1));
     }

@@ -2,7 +2,9 @@
 use outcome::Check;
 use outcome::Refusal;
 ghost use mathlib.Core.Path.{_≡_};
-ghost use Prim.Native.Nat.{_≤_, min};
+ghost use Prim.Native.Nat.{_*_, _≤_, min};
+ghost use mathlib.Core.Bool.{not, _||_};
+ghost use lib.Dec.{eqb};
 ghost use Rattle.outcome.specs.Refusals.{first};
 ghost use Rattle.ordination_lines.specs.Lengths.{tooShort, lacking};
 ghost use Rattle.ordination_lines.specs.Lines.{badComponents, pcoaLines};
@@ -71,7 +73,18 @@ pub fn is_lacking(
     words / 64 < n
 }
 
-// The lines of the table for `pcoa`, for slices of these lengths and k leading components.
+// Whether d distances do not fit n, or a slice of these lengths is short.
+fn misfits(d: usize, n: usize, k: usize, out: usize, b: usize, w: usize, m: usize, v: usize) -> bool
+    requires { ⌜ k ≤ n ⌝ }
+    ensures { λ r. ⌜ r ≡ (not (eqb d (n * n)) || tooShort k n out b w m v) ⌝ }
+{
+    if !lines::is_square(d, n) {
+        return true;
+    }
+    too_short(n, k, out, b, w, m, v)
+}
+
+// The lines of the table for `pcoa`, for slices of these lengths and k leading components: sizes and the matrix as for the tests, then 6.
 pub fn check(
     d: &[f64],
     n: usize,
@@ -86,21 +99,15 @@ pub fn check(
     requires { ⌜ k ≡ min components n ⌝ }
     ensures { λ r. ⌜ r ≡ first (pcoaLines components n (now (d .entry)) out b w m v) ⌝ }
 {
-    if !lines::is_square(d.len(), n) {
-        return Check::Refused(Refusal::Length);
-    }
-    if too_short(n, k, out, b, w, m, v) {
-        return Check::Refused(Refusal::Length);
-    }
-    if 256 < n {
-        return Check::Refused(Refusal::Limit);
-    }
-    if bad_components(components) {
-        return Check::Refused(Refusal::Limit);
-    }
-    if lines::any_outside(0.0, 1048576.0, d) {
-        return Check::Refused(Refusal::Value);
-    }
+    let misfit = misfits(d.len(), n, k, out, b, w, m, v);
+    let sizes = lines::check_sizes(misfit, n, bad_components(components));
+    let Check::Passed = sizes else {
+        return sizes;
+    };
+    let matrix = lines::check_matrix(d);
+    let Check::Passed = matrix else {
+        return matrix;
+    };
     if n < 3 {
         return Check::Refused(Refusal::Ordination);
     }

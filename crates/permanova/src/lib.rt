@@ -1,103 +1,53 @@
 // The sampled test (document 01, section 8): PERMANOVA and PERMDISP with shuffles within strata.
+use designs::Design;
+use measurement::TestResult;
 use outcome::Check;
 use sampled::Answer;
+use sampled_hits::Draws;
 ghost use mathlib.Core.Path.{_≡_};
-ghost use lib.ListN.{length};
+ghost use mathlib.Core.Bool.{Bool};
+ghost use mathlib.Core.List.{List, []};
+ghost use Prim.Native.Nat.{ℕ};
 ghost use Rattle.lot.specs.Lot.{lotOf};
-ghost use Rattle.sampled.specs.Call.{slicesOf, testCheck, accepted, testCall, called};
+ghost use Rattle.designs.specs.Designs.{Describes};
+ghost use Rattle.sampled.specs.Call.{slicesOf, testCall, called};
+ghost use Rattle.sampled.specs.Runs.{Runs, Ran};
 
-// A lot that no line turns away. `ks`, `gs` and `ss` lend room for the kept samples, their groups and strata.
-fn run_lot(
-    names: &mut [u16],
-    counts: &mut [u16],
-    means: &mut [f64],
-    terms: &mut [f64],
-    pulls: &mut [f64],
-    ks: &mut [u16],
-    gs: &mut [u16],
-    ss: &mut [u16],
-    n: usize,
-    distances: &[f64],
-    labels: &[u16],
-    stratified: bool,
-    strata: &[u16],
-    weighted: bool,
-    weights: &[f64],
-    seed: u64,
-    n_perm: u64,
-) -> Answer
-    requires { ⌜ testCheck (lotOf n (now distances) (now labels) stratified (now strata) weighted (now weights)) «n_perm» (slicesOf (now names) (now counts) (now means) (now terms) (now pulls)) ≡ Check.Passed ⌝ }
-    requires { ⌜ (length (now ks) ≡ 256) × (length (now gs) ≡ 256) × (length (now ss) ≡ 256) ⌝ }
-    ensures { λ r. ⌜ called r (slicesOf (now (names .exit)) (now (counts .exit)) (now (means .exit)) (now (terms .exit)) (now (pulls .exit)))
-        ≡ accepted (lotOf n (now (distances .entry)) (now (labels .entry)) stratified (now (strata .entry)) weighted (now (weights .entry))) seed «n_perm» (slicesOf (now (names .entry)) (now (counts .entry)) (now (means .entry)) (now (terms .entry)) (now (pulls .entry))) ⌝ }
-{
-    let shape = description::describe(labels, stratified, strata, ks, names, gs, ss);
-    let r = kept_test::run_front(
-        counts,
-        means,
-        terms,
-        pulls,
-        distances,
-        n,
-        labels,
-        ks,
-        gs,
-        ss,
-        stratified,
-        weighted,
-        weights,
-        shape.kept,
-        shape.groups,
-        shape.strata,
-        seed,
-        n_perm,
-    );
-    Answer::Tested(r)
-}
-
-// The same, with room of its own.
+// The test of the lot that a design describes. `terms` and `pulls` are work, and are cleared.
 fn run(
-    names: &mut [u16],
+    d: Design,
+    distances: &[f64],
+    weighted: bool,
+    weights: &[f64],
+    draws: Draws,
     counts: &mut [u16],
     means: &mut [f64],
     terms: &mut [f64],
     pulls: &mut [f64],
-    n: usize,
-    distances: &[f64],
-    labels: &[u16],
-    stratified: bool,
-    strata: &[u16],
-    weighted: bool,
-    weights: &[f64],
-    seed: u64,
-    n_perm: u64,
-) -> Answer
-    requires { ⌜ testCheck (lotOf n (now distances) (now labels) stratified (now strata) weighted (now weights)) «n_perm» (slicesOf (now names) (now counts) (now means) (now terms) (now pulls)) ≡ Check.Passed ⌝ }
-    ensures { λ r. ⌜ called r (slicesOf (now (names .exit)) (now (counts .exit)) (now (means .exit)) (now (terms .exit)) (now (pulls .exit)))
-        ≡ accepted (lotOf n (now (distances .entry)) (now (labels .entry)) stratified (now (strata .entry)) weighted (now (weights .entry))) seed «n_perm» (slicesOf (now (names .entry)) (now (counts .entry)) (now (means .entry)) (now (terms .entry)) (now (pulls .entry))) ⌝ }
+) -> TestResult
+    requires { ⌜ Runs d (now distances) weighted (now weights) draws (slicesOf [] (now counts) (now means) (now terms) (now pulls)) ⌝ }
+    ensures { λ r. ⌜ ((labels : List ℕ) (stratified : Bool) (strata : List ℕ) → Describes (lotOf (d .n) (now (distances .entry)) labels stratified strata weighted (now (weights .entry))) d
+        → Ran (lotOf (d .n) (now (distances .entry)) labels stratified strata weighted (now (weights .entry))) draws
+        (slicesOf [] (now (counts .entry)) (now (means .entry)) (now (terms .entry)) (now (pulls .entry)))
+        (slicesOf [] (now (counts .exit)) (now (means .exit)) (now (terms .exit)) (now (pulls .exit))) r) ⌝ }
 {
-    let mut ks = [0u16; 256];
-    let mut gs = [0u16; 256];
-    let mut ss = [0u16; 256];
-    run_lot(
-        names,
+    let m = d.kept;
+    let k = m * m;
+    let mut w = [0.0f64; 256];
+    observation::weigh(d, distances, weighted, weights, &mut w, terms, pulls);
+    let r = measurement::answer(
+        d,
+        weighted,
+        &pulls[..k],
+        &terms[..k],
+        &w[..m],
+        draws,
         counts,
         means,
-        terms,
-        pulls,
-        &mut ks,
-        &mut gs,
-        &mut ss,
-        n,
-        distances,
-        labels,
-        stratified,
-        strata,
-        weighted,
-        weights,
-        seed,
-        n_perm,
-    )
+    );
+    lists::clear(terms);
+    lists::clear(pulls);
+    r
 }
 
 // PERMANOVA and PERMDISP of n samples by their labels, with n_perm shuffles within strata. `names`, `counts` and `means` get each group's label, count and
@@ -143,21 +93,22 @@ pub fn test(
     );
     match c {
         Check::Refused(r) => Answer::Refused(r),
-        Check::Passed => run(
-            names,
-            counts,
-            means,
-            terms,
-            pulls,
-            n,
-            distances,
-            labels,
-            stratified,
-            strata,
-            weighted,
-            weights,
-            seed,
-            n_perm,
-        ),
+        Check::Passed => {
+            let d = designs::design_of(labels, stratified, strata);
+            designs::fill_names(d, names);
+            let draws = Draws { seed, many: n_perm };
+            let r = run(
+                d,
+                distances,
+                weighted,
+                weights,
+                draws,
+                counts,
+                means,
+                terms,
+                pulls,
+            );
+            Answer::Tested(r)
+        }
     }
 }

@@ -38,10 +38,10 @@ assignedLine a hits = hex 2 0xb5 ++ hex 2 (givenOf a) ++ hex 2 (rightOf a) ++ he
 -- kept, groups, M; location; dispersion; warnings; the assignment
 unfoldable pub verdictLines : Judgement → List ℕ
 verdictLines v =
-    (hex 2 0xb1 ++ hex 2 (v .n) ++ hex 2 (v .«n_groups») ++ hex 8 (v .ways) ++ feed)
+    (hex 2 0xb1 ++ hex 2 (v .summary .n) ++ hex 2 (v .summary .«n_groups») ++ hex 8 (v .ways) ++ feed)
     ++ testedLine 0xb2 (v .location .statistic) (v .location .hits)
     ++ testedLine 0xb3 (v .dispersion .statistic) (v .dispersion .hits)
-    ++ (hex 2 0xb4 ++ hex 2 (v .warnings) ++ feed)
+    ++ (hex 2 0xb4 ++ hex 2 (v .summary .warnings) ++ feed)
     ++ assignedLine (v .assigned .assignment) (v .assigned .hits)
 
 -- A refusal prints only its number.

@@ -106,6 +106,7 @@ fn print_verdict(v: Judgement, out: &mut [u8]) -> usize
     requires { ⌜ 93 ≤ length (now out) ⌝ }
     ensures { λ r. ⌜ Wrote (now (out .entry)) 0 93 (verdictLines v) (now (out .exit)) r ⌝ }
 {
+    let summary = v.summary;
     let location = v.location;
     let dispersion = v.dispersion;
     let assigned = v.assigned;
@@ -113,14 +114,14 @@ fn print_verdict(v: Judgement, out: &mut [u8]) -> usize
         out,
         0,
         0xb1,
-        v.n as u64,
+        summary.n as u64,
         2,
-        v.n_groups as u64,
+        summary.n_groups as u64,
         v.ways as u64,
     );
     let q = put_tested(out, p, 0xb2, location);
     let r = put_tested(out, q, 0xb3, dispersion);
-    let s = put_short(out, r, 0xb4, v.warnings as u64);
+    let s = put_short(out, r, 0xb4, summary.warnings as u64);
     put_assigned(out, s, assigned)
 }
 

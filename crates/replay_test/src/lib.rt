@@ -23,17 +23,19 @@ fn same_chance(b: &[u8], at: usize, f: f64, c: Chance) -> bool {
 
 // The warnings, which stand at word `at`. Bits 5 and 6 read both p.
 fn same_warnings(b: &[u8], at: usize, r: TestResult) -> bool {
+    let s = r.summary;
     if float::is_finite(r.f) && float::is_finite(r.disp_f) {
-        return r.warnings as u64 == word(b, at);
+        return s.warnings as u64 == word(b, at);
     }
-    r.warnings as u64 == word(b, at) % 32
+    s.warnings as u64 == word(b, at) % 32
 }
 
 // Location: F, r2 and p.
 fn same_location(b: &[u8], at: usize, r: TestResult) -> bool {
     let p = r.p;
+    let s = r.summary;
     same(r.f, word(b, at))
-        && same(r.r2, word(b, after(at, 1)))
+        && same(s.r2, word(b, after(at, 1)))
         && same_chance(b, after(at, 2), r.f, p)
 }
 
@@ -45,10 +47,11 @@ fn same_dispersion(b: &[u8], at: usize, r: TestResult) -> bool {
 
 // The record: m, g, location, dispersion, the informative fraction and the warnings.
 fn same_result(b: &[u8], at: usize, r: TestResult) -> bool {
-    if r.n as u64 != word(b, at) {
+    let s = r.summary;
+    if s.n as u64 != word(b, at) {
         return false;
     }
-    if r.n_groups as u64 != word(b, after(at, 1)) {
+    if s.n_groups as u64 != word(b, after(at, 1)) {
         return false;
     }
     if !same_location(b, after(at, 2), r) {
@@ -57,7 +60,7 @@ fn same_result(b: &[u8], at: usize, r: TestResult) -> bool {
     if !same_dispersion(b, after(at, 6), r) {
         return false;
     }
-    same(r.informative_fraction, word(b, after(at, 9))) && same_warnings(b, after(at, 10), r)
+    same(s.informative_fraction, word(b, after(at, 9))) && same_warnings(b, after(at, 10), r)
 }
 
 // Each group's label, count and mean z.
@@ -166,11 +169,14 @@ fn held(
 fn judge(b: &[u8], at: usize, r: Answer, names: &[u16], counts: &[u16], means: &[f64]) -> Held {
     match r {
         Answer::Refused(e) => replay::refused(b, at, number_of(e)),
-        Answer::Tested(t) => replay::alike(
-            word(b, at) == 0
-                && same_result(b, after(at, 1), t)
-                && same_groups(b, after(at, 12), t.n_groups, names, counts, means),
-        ),
+        Answer::Tested(t) => {
+            let s = t.summary;
+            replay::alike(
+                word(b, at) == 0
+                    && same_result(b, after(at, 1), t)
+                    && same_groups(b, after(at, 12), s.n_groups, names, counts, means),
+            )
+        }
     }
 }
 

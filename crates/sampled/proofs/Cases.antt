@@ -29,8 +29,9 @@ use Rattle.statistics.specs.Statistics.{totalOf, withinOf, locationF, zOf, disp
 use Rattle.statistics.specs.Hits.{statistic}
 use Rattle.chances.specs.declared.Chance.the-variants.{NoP}
 use Rattle.chances.specs.Chances.{chance}
-use Rattle.sampled.specs.Sampled.{chanceOf, locationChance, dispersionChance}
-use Rattle.sampled.specs.Call.{Slices, tooShort, testCheck, tested}
+use Rattle.measurement.specs.Sampled.{chanceOf, locationChance, dispersionChance}
+use Rattle.measurement.specs.Tested.{tested}
+use Rattle.sampled.specs.Call.{Slices, tooShort, testCheck}
 
 -- (c) the example: total 68, within 4, F 32
 pub case-c-total : totalOf (example (0 ∷ 0 ∷ 1 ∷ 1 ∷ [])) ≡ num 68

@@ -1,34 +1,28 @@
--- What is known of a lot that no line turns away, and of its description. Assumes nothing.
+-- What is known of a lot that no line turns away, and of its design. Assumes nothing.
 use mathlib.Core.Path.{_≡_, sym, ap, _∙_, subst}
 use mathlib.Core.Bool.{true, false}
-use mathlib.Core.List.{List}
+use mathlib.Core.List.{[]}
 use Prim.Native.Nat.{ℕ, _*_, _<_, _≤_}
 use native.Mathlib.Nat.{mul-le-mul}
 use native.Mathlib.Omega.{arith}
 use borrow.Author.Tests.{lt-ltb, le-ltb, ltb-false}
 use lib.Dec.{ltb}
-use lib.ListN.{length, take}
+use lib.ListN.{length}
 use Rattle.lists.specs.Filters.{any}
 use Rattle.lists.specs.Numbers.{Below}
-use Rattle.lists.specs.Writes.{over}
-use Rattle.lists.proofs.Writes.{take-over}
 use Rattle.outcome.specs.declared.Check.the-variants.{Passed}
 use Rattle.outcome.specs.Refusals.{short}
-use Rattle.lot.specs.declared.Shape.{Shape}
 use Rattle.lot.specs.Lot.{Lot}
-use Rattle.lot.specs.Kept.{kept, keptLabels, names, groups, keptCount, groupCount}
-use Rattle.lot.specs.Strata.{heldStrata, strata, strataCount}
-use Rattle.lot.specs.Described.{samplesOf, Described}
-use Rattle.lot.specs.Described as lots
+use Rattle.lot.specs.Kept.{kept, keptCount}
+use Rattle.lot.specs.Described.{samplesOf}
 use Rattle.lists.proofs.Truths.{or-neither, or-false}
-use Rattle.lot.proofs.Numbering.{strata-few}
-use Rattle.lot.proofs.Inserts.{length-upward}
-use Rattle.lot.proofs.Samples.{kept-below, kept-few, length-keptLabels, length-groups}
-use Rattle.lot.proofs.Within.{groups-below, length-strata}
-use Rattle.lot.proofs.Fills.{filled-front}
-use Rattle.lot.proofs.Checks.{Passes, passes, passes-room}
-use Rattle.kept_test.specs.Room.{Kept}
-use Rattle.sampled.specs.Call.{Slices, tooShort, testCheck}
+use Rattle.lot.proofs.Samples.{kept-below, kept-few}
+use Rattle.lot.proofs.Checks.{Passes, passes}
+use Rattle.designs.specs.declared.Design.{Design}
+use Rattle.designs.specs.Designs.{Designable, Describes, Sound}
+use Rattle.designs.proofs.Designs.{sound}
+use Rattle.sampled.specs.Runs.{Runs}
+use Rattle.sampled.specs.Call.{Slices, slicesOf, tooShort, testCheck}
 
 -- ---- line 1, by the tests that the code makes
 
@@ -89,79 +83,50 @@ accepted-call lot k before e =
       pullsRoom = l .4;
     }
 
-pub accepted-room : (lot : Lot) (k : ℕ) (before : Slices) (ks gs ss : List ℕ) → testCheck lot k before ≡ Passed → length ks ≡ 256 → length gs ≡ 256 → length ss ≡ 256
-    → lots.Room (samplesOf (lot .labels) (lot .stratified) (lot .strata)) ks (before .labels) gs ss
-accepted-room lot k before ks gs ss e a b c =
-    let p = accepted-call lot k before e in
-    let few = p .passed .few in
-    passes-room ks (before .labels) gs ss (p .passed) (omega arith) (p .labelsRoom) (omega arith) (omega arith)
+-- ---- its design
 
--- ---- its description
+pub designable : (lot : Lot) (k : ℕ) (before : Slices) → testCheck lot k before ≡ Passed → Designable (samplesOf (lot .labels) (lot .stratified) (lot .strata))
+designable lot k before e =
+    let p = accepted-call lot k before e .passed in
+    record { few = omega (arith, p .few, p .fits .labelsFit); strataFit = λ g. p .fits .strataFit g ∙ sym (p .fits .labelsFit) }
 
-module _ (lot : Lot) (k : ℕ) (before : Slices) (passed : testCheck lot k before ≡ Passed) (shape : Shape) (ks gs ss ks′ ns′ gs′ ss′ : List ℕ)
-    (d : Described (samplesOf (lot .labels) (lot .stratified) (lot .strata)) shape ks (before .labels) gs ss ks′ ns′ gs′ ss′) where
-  pub kept-many : shape .kept ≡ keptCount (lot .labels)
+module _ (lot : Lot) (seed k : ℕ) (before : Slices) (passed : testCheck lot k before ≡ Passed) {d : Design} (e : Describes lot d) where
+  pub design-sound : Sound d
+  design-sound = let p = accepted-call lot k before passed .passed in sound lot (omega (arith, p .few, p .fits .labelsFit)) (omega (arith, p .groups)) e
+
+  kept-all : d .kept ≤ lot .n
   unfolding keptCount
-  kept-many = d .samples .many
+  kept-all = omega (arith, e .keptMany, kept-few (lot .labels), accepted-call lot k before passed .passed .fits .labelsFit)
 
-  pub groups-many : shape .groups ≡ groupCount (lot .labels)
-  unfolding groupCount
-  groups-many = d .labelled .many
+  groups-all : d .groups ≤ lot .n
+  groups-all = omega (arith, design-sound .enough, kept-all)
 
-  pub strata-many : shape .strata ≡ strataCount lot
-  unfolding strataCount heldStrata
-  strata-many = d .strataMany
+  pub names-room : (d .groups ≤ 256) × (d .groups ≤ length (before .labels))
+  names-room =
+      let s = design-sound in
+      let few = groups-all in
+      (omega (arith, s .enough, s .few), omega (arith, accepted-call lot k before passed .labelsRoom))
 
-  pub front-kept : take (shape .kept) ks′ ≡ kept (lot .labels)
-  front-kept = filled-front ks (d .samples)
+  pub many : d .n ≡ lot .n
+  many = e .many ∙ accepted-call lot k before passed .passed .fits .labelsFit
 
-  pub front-groups : take (shape .kept) gs′ ≡ groups (lot .labels)
-  front-groups = ap (take (shape .kept)) (d .grouped) ∙ take-over (groups (lot .labels)) gs (shape .kept) (length-groups (lot .labels) ∙ sym (d .samples .many))
-
-  strata-told : ss′ ≡ over (strata lot) ss
-  unfolding strata heldStrata
-  strata-told = d .stratified
-
-  pub front-strata : take (shape .kept) ss′ ≡ strata lot
-  front-strata = ap (take (shape .kept)) strata-told ∙ take-over (strata lot) ss (shape .kept) (length-strata lot ∙ sym kept-many)
-
-  kept-all : shape .kept ≤ lot .n
-  kept-all = omega (arith, d .samples .many, kept-few (lot .labels), accepted-call lot k before passed .passed .fits .labelsFit)
-
-  groups-all : shape .groups ≤ shape .kept
-  unfolding names
-  groups-all = omega (arith, d .labelled .many, d .samples .many, length-upward (keptLabels (lot .labels)), length-keptLabels (lot .labels))
-
-  pub kept-described : Kept (lot .n) (shape .kept) (shape .groups) (shape .strata) (lot .distances) (lot .labels) (take (shape .kept) ks′) (take (shape .kept) gs′) (take (shape .kept) ss′)
-      (lot .weighted) (lot .weights)
-  kept-described =
+  pub runs : Runs d (lot .distances) (lot .weighted) (lot .weights) (record { seed = seed; many = k }) (slicesOf [] (before .counts) (before .means) (before .terms) (before .pulls))
+  runs =
       let a = accepted-call lot k before passed in
-      let p = a .passed in
-      let few : shape .kept ≤ 256 = omega (arith, p .few, kept-all) in
-      let strataFew : shape .strata ≤ 256 = omega (arith, strata-many, strata-few lot (omega (arith, kept-many))) in
+      let fits = a .passed .fits in
+      let groups = groups-all in
+      let square : d .kept * d .kept ≤ lot .n * lot .n = mul-le-mul kept-all kept-all in
       record {
-        distances = p .fits .distancesFit;
-        all = p .fits .labelsFit;
-        samples = ap length front-kept ∙ sym (d .samples .many);
-        places = subst (Below (lot .n)) (sym front-kept) (subst (λ (n : ℕ). Below n (kept (lot .labels))) (p .fits .labelsFit) (kept-below (lot .labels)));
-        labelled = ap length front-groups ∙ length-groups (lot .labels) ∙ sym (d .samples .many);
-        groups = subst (Below (shape .groups)) (sym front-groups) (subst (λ (n : ℕ). Below n (groups (lot .labels))) (sym (d .labelled .many)) (groups-below (lot .labels)));
-        stratified = ap length front-strata ∙ length-strata lot ∙ sym kept-many;
-        strata = strataFew;
-        weights = p .fits .weightsFit;
-        some = omega (arith, p .groups, groups-many);
-        enough = groups-all;
-        few = few;
-        most = p .few;
+        weighing = record {
+          sound = design-sound;
+          samples = subst (Below (d .n)) (sym (e .keptAre)) (subst (λ (n : ℕ). Below n (kept (lot .labels))) (sym (e .many)) (kept-below (lot .labels)));
+          distancesFit = fits .distancesFit ∙ ap (λ (n : ℕ). n * n) (sym many);
+          weightsFit = λ w. fits .weightsFit w ∙ sym many;
+          weightsRoom = design-sound .few;
+          termsRoom = omega (arith, a .termsRoom);
+          pullsRoom = omega (arith, a .pullsRoom);
+        };
+        shuffles = a .shuffles;
+        countsRoom = omega (arith, a .countsRoom);
+        meansRoom = omega (arith, a .meansRoom);
       }
-
-  pub rooms : length ks′ ≡ 256 → length gs′ ≡ 256 → length ss′ ≡ 256
-      → (shape .kept ≤ length ks′) × (shape .kept ≤ length gs′) × (shape .kept ≤ length ss′) × (shape .groups ≤ length (before .counts)) × (shape .groups ≤ length (before .means))
-      × (shape .kept * shape .kept ≤ length (before .terms)) × (shape .kept * shape .kept ≤ length (before .pulls))
-  rooms e f g =
-      let a = accepted-call lot k before passed in
-      let few = a .passed .few in
-      let all = kept-all in
-      let less = groups-all in
-      let square : shape .kept * shape .kept ≤ lot .n * lot .n = mul-le-mul all all in
-      (omega arith, omega arith, omega arith, omega (arith, a .countsRoom), omega (arith, a .meansRoom), omega (arith, a .termsRoom), omega (arith, a .pullsRoom))

@@ -1,5 +1,5 @@
 -- A whole call of `test`: its answer, and what all that is lent holds afterwards (section 8, and below the table). Definitions only.
-use Prim.Native.Nat.{ℕ, _+_, _*_}
+use Prim.Native.Nat.{ℕ, _*_}
 use mathlib.Core.Bool.{Bool}
 use mathlib.Core.List.{List, [], _∷_}
 use lib.Dec.{ltb}
@@ -12,36 +12,14 @@ use Rattle.outcome.specs.Outcome.{Outcome, answered, refused, judged}
 use Rattle.outcome.specs.Slices.{output, work}
 use Rattle.lot.specs.Lot.{Lot}
 use Rattle.lot.specs.Kept.{names, groups, keptCount, groupCount}
-use Rattle.lot.specs.Strata.{fraction}
 use Rattle.lot.specs.Lines.{testLines}
 use Rattle.anova.specs.Anova.{meanZ}
-use Rattle.statistics.specs.Statistics.{locationF, rSquaredOf, zOf, dispersionF}
-use Rattle.statistics.specs.Warnings.{sizesOf, warned}
+use Rattle.statistics.specs.Statistics.{zOf}
+use Rattle.statistics.specs.Warnings.{sizesOf}
 use Rattle.measurement.specs.declared.TestResult.{TestResult}
+use Rattle.measurement.specs.Tested.{tested}
 use Rattle.sampled.specs.declared.Answer.{Answer}
 use Rattle.sampled.specs.declared.Answer.the-variants.{Tested, Refused}
-use Rattle.sampled.specs.Sampled.{locationChance, dispersionChance}
-use Rattle.chances.specs.Together.{together}
-
--- what an accepted lot is answered
-unfoldable pub tested : Lot → ℕ → ℕ → TestResult
-tested lot seed n =
-    let observed = groups (lot .labels) in
-    let p = locationChance lot seed n in
-    let q = dispersionChance lot seed n in
-    record {
-      n = keptCount (lot .labels);
-      «n_groups» = groupCount (lot .labels);
-      f = locationF lot observed;
-      r2 = rSquaredOf lot observed;
-      p = p;
-      «disp_f» = dispersionF lot observed;
-      «disp_p» = q;
-      «informative_fraction» = fraction lot;
-      «strata_used» = lot .stratified;
-      weighted = lot .weighted;
-      warnings = warned lot + together (sizesOf lot) p q;
-    }
 
 -- What is lent: outputs for g labels, counts and mean z, and work for the terms and the pulls.
 pub record Slices : Type 0 where

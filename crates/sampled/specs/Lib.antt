@@ -1,3 +1,3 @@
 -- Section 8 of document 01: the sampled test.
-pub mod Sampled
 pub mod Call
+pub mod Runs

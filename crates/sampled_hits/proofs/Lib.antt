@@ -1,2 +1,2 @@
 -- The laws that the proofs of `sampled_hits` share.
-pub mod Within
+pub mod Tally

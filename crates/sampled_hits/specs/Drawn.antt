@@ -1,13 +1,19 @@
 -- Section 8: the hits of n shuffles. Definitions only.
 use Prim.Native.Nat.{ℕ}
+use mathlib.Core.Bool.{Bool}
 use mathlib.Core.List.{List}
 use lib.Ieee.{Float}
 use Rattle.lists.specs.Ranges.{range}
 use Rattle.lists.specs.Filters.{countIf}
 use Rattle.location.specs.Location.{within, pseudoF}
 use Rattle.anova.specs.Anova.{anovaF}
+use Rattle.statistics.specs.declared.Statistic.{Statistic}
 use Rattle.statistics.specs.Hits.{statistic, shuffleHit}
+use Rattle.lot.specs.declared.Shape.{Shape}
+use Rattle.designs.specs.declared.Design.{Design}
+use Rattle.designs.specs.Designs.{groupsOf, strataOf}
 use Rattle.sampled_hits.specs.declared.Seen.{Seen}
+use Rattle.sampled_hits.specs.declared.Draws.{Draws}
 use Rattle.sampled_hits.specs.declared.Hits.{Hits}
 use Rattle.shuffles.specs.Shuffled.{parts, shuffled}
 
@@ -15,10 +21,25 @@ use Rattle.shuffles.specs.Shuffled.{parts, shuffled}
 unfoldable pub hitsOf : (List ℕ → Float) → List (List ℕ) → List ℕ → ℕ → ℕ → ℕ
 hitsOf f strata lab seed n = let o = statistic (f lab) in countIf (λ t. shuffleHit o (f (shuffled strata lab seed t))) (range 0 n)
 
--- of both observed statistics, within the s strata ss, over terms t, weights w and the observed z of m samples in g groups
-unfoldable pub drawn : List Float → List Float → List Float → Float → List ℕ → List ℕ → ℕ → ℕ → ℕ → ℕ → ℕ → Seen → Hits
-drawn t w z total gs ss m g s seed n seen =
+-- whether labels are a hit of the observed location, over terms t, weights w and their total
+unfoldable pub locationHit : List Float → List Float → Shape → Statistic → Float → List ℕ → Bool
+locationHit t w sizes observed total lab = shuffleHit observed (pseudoF total (within t w lab (sizes .kept) (sizes .groups)) (sizes .kept) (sizes .groups))
+
+-- whether they are one of the observed dispersion, over the observed z
+unfoldable pub dispersionHit : List Float → Shape → Statistic → List ℕ → Bool
+dispersionHit z sizes observed lab = shuffleHit observed (anovaF z lab (sizes .kept) (sizes .groups))
+
+-- how many of the first n labels are hits of each
+unfoldable pub hitsAmong : List Float → List Float → List Float → Shape → Seen → (ℕ → List ℕ) → ℕ → Hits
+hitsAmong t w z sizes seen lab n =
     record {
-      location = countIf (λ i. shuffleHit (seen .location) (pseudoF total (within t w (shuffled (parts ss m s) gs seed i) m g) m g)) (range 0 n);
-      dispersion = countIf (λ i. shuffleHit (seen .dispersion) (anovaF z (shuffled (parts ss m s) gs seed i) m g)) (range 0 n);
+      location = countIf (λ i. locationHit t w sizes (seen .location) (seen .total) (lab i)) (range 0 n);
+      dispersion = countIf (λ i. dispersionHit z sizes (seen .dispersion) (lab i)) (range 0 n);
     }
+
+abbrev pub shapeOf : Design → Shape
+shapeOf d = record { kept = d .kept; groups = d .groups; strata = d .strata }
+
+-- of the shuffles within the strata of a design
+unfoldable pub drawn : Design → List Float → List Float → List Float → Seen → Draws → Hits
+drawn d t w z seen draws = hitsAmong t w z (shapeOf d) seen (shuffled (parts (strataOf d) (d .kept) (d .strata)) (groupsOf d) (draws .seed)) (draws .many)

@@ -1,28 +1,47 @@
--- What the shuffles are made from, and the room that they are lent. Statements only.
+-- What the shuffles are made from, and what one of them leaves. Statements only.
 use mathlib.Core.Path.{_≡_}
 use mathlib.Core.List.{List}
-use Prim.Native.Nat.{ℕ, _*_, _<_, _≤_}
+use Prim.Native.Nat.{ℕ, _*_, _≤_}
 use lib.ListN.{length}
 use lib.Ieee.{Float}
 use Rattle.lists.specs.Numbers.{Below}
-use Rattle.members.specs.Members.{Parts}
+use Rattle.members.specs.Members.{Parts, Grouped}
+use Rattle.lot.specs.declared.Shape.{Shape}
+use Rattle.shuffles.specs.declared.Dealt.{Dealt}
+use Rattle.shuffles.specs.Shuffle.{Deal, deal}
+use Rattle.designs.specs.declared.Design.{Design}
+use Rattle.designs.specs.Designs.{Sound}
 
--- m samples in g groups and s strata: terms, weights, observed z, groups, and the strata as parts of a list
-pub record Sampling (m g s : ℕ) (t w z : List Float) (gs sn sm : List ℕ) : Type 0 where
+-- terms, weights and observed z of m samples
+pub record Terms (m : ℕ) (t w z : List Float) : Type 0 where
   pub terms : length t ≡ m * m
   pub weights : length w ≡ m
   pub observed : length z ≡ m
-  pub labels : length gs ≡ m
-  pub groups : Below g gs
-  pub strata : Parts m s sn sm
-  pub some : 1 ≤ g
-  pub enough : g ≤ m
-  pub few : m ≤ 256
 
--- slices for the labels of a shuffle, its groups' members and means
-pub record Room (m g : ℕ) (lab next mem : List ℕ) (means : List Float) : Type 0 where
-  pub labels : length lab ≡ m
-  pub starts : g < length next
-  pub members : m ≤ length mem
-  pub limited : length mem ≤ 256
-  pub room : g ≤ length means
+-- a group for each sample
+pub record Labelled (sizes : Shape) (lab : List ℕ) : Type 0 where
+  pub labels : length lab ≡ sizes .kept
+  pub groups : Below (sizes .groups) lab
+  pub some : 1 ≤ sizes .groups
+  pub enough : sizes .groups ≤ sizes .kept
+  pub few : sizes .kept ≤ 256
+
+-- and the members of the groups as parts of a list
+pub record Assigned (sizes : Shape) (lab next mem : List ℕ) : Type 0 where
+  pub labelled : Labelled sizes lab
+  pub members : Grouped lab (sizes .kept) (sizes .groups) next mem
+
+-- labels to shuffle, and the strata as parts of a list
+pub record Sampling (sizes : Shape) (gs sn sm : List ℕ) : Type 0 where
+  pub labelled : Labelled sizes gs
+  pub strata : Parts (sizes .kept) (sizes .strata) sn sm
+
+-- a shuffle left this beside its labels, and the members of their groups
+pub record Deals (sizes : Shape) (d : Deal) (r : Dealt) (lab next mem : List ℕ) : Type 0 where
+  pub shuffled : deal r lab ≡ d
+  pub assigned : Assigned sizes lab next mem
+
+-- all of it by a design
+pub record Drawing (d : Design) (t w z : List Float) : Type 0 where
+  pub sound : Sound d
+  pub over : Terms (d .kept) t w z

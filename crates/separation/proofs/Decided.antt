@@ -1,25 +1,20 @@
--- By the pivots, by the eigenpairs, and from the coordinates. Assumes nothing.
+-- By the pivots, by the eigenpairs, and from the coordinates; the room of a matrix. Assumes nothing.
 use mathlib.Core.Path.{_≡_, refl, sym, ap, ap₂, _∙_}
-use mathlib.Core.Bool.{Bool, true, false, not}
+use mathlib.Core.Bool.{Bool, true, false}
 use mathlib.Core.List.{List}
 use Prim.Native.Nat.{ℕ, _+_, _*_, _≤_}
+use native.Mathlib.Nat.{mul-le-mul}
 use native.Mathlib.Omega.{arith}
 use lib.ListN.{length, take, drop, replicate}
 use lib.Ieee.{Float}
 use Rattle.float.specs.Floats.{zero⁺}
-use Rattle.lists.specs.Ranges.{range}
-use Rattle.lists.specs.Numbers.{inGroup}
 use Rattle.lists.specs.Writes.{over}
-use Rattle.lists.proofs.Ranges.{length-range}
-use Rattle.lists.proofs.Filters.{countIf-below, length-keep}
-use Rattle.lot.specs.Lot.{none}
 use Rattle.outcome.specs.declared.Refusal.{Refusal}
 use Rattle.outcome.specs.declared.Refusal.the-variants.{Pivot, Unordered}
 use Rattle.outcome.specs.Outcome.{Outcome, answered, refused, andThen}
 use Rattle.outcome.specs.Slices.{output}
-use Rattle.means.specs.Means.{grouped, meanOf, groupMeans}
-use Rattle.ridge.specs.Ridge.{ridged}
-use Rattle.scatter.specs.Scatter.{scatterWithin, scatterBetween}
+use Rattle.means.specs.Means.{meanOf}
+use Rattle.moments.specs.declared.Dimensions.{Dimensions}
 use Rattle.moments.specs.Moments.{Filled}
 use Rattle.whitening.specs.Whitened.{whitened}
 use Rattle.cholesky.specs.Cholesky.{factor, pivotFails}
@@ -31,58 +26,72 @@ use Rattle.jacobi.proofs.Call.{only-unordered}
 use Rattle.discriminant.specs.Dapc.{Scores, assign, separated, discriminate}
 use Rattle.discriminant.specs.Outputs.{Called, refusal, leaves}
 
-module _ (n columns p axes g : ℕ) (x : List Float) (groups : List ℕ) (mean a sb : List Float) (out : List Float) (assigned : List ℕ) {l : List Float} {fails : Bool}
-    (factored : l ≡ factor p a) (told : fails ≡ pivotFails p a (factor p a)) where
+module _ (n : ℕ) (d : Dimensions) (x : List Float) (groups : List ℕ) (mean a sb : List Float) (out : List Float) (assigned : List ℕ) {l : List Float} {fails : Bool}
+    (factored : l ≡ factor (d .lead) a) (told : fails ≡ pivotFails (d .lead) a (factor (d .lead) a)) where
+  -- what a call leaves by what is found, and what is found by the steps of `separated`
+  abbrev left : Outcome Scores → Called
+  left o = leaves n (d .lead) (d .axes) o out assigned
+
+  abbrev solution : List Float → Outcome Eigen
+  solution f = jacobi (d .lead) (whitened (d .lead) f sb)
+
+  abbrev placed : List Float → List Float → List Float → Outcome Scores
+  placed f values vectors = assign n (d .columns) (d .lead) (d .groups) x groups mean f values vectors
+
   abbrev rest : List Float → Outcome Scores
-  rest f = andThen (jacobi p (whitened p f sb)) (λ e. assign n columns p g x groups mean f (e .values) (e .vectors))
+  rest f = andThen (solution f) (λ e. placed f (e .values) (e .vectors))
 
   abbrev by-pivot : List Float → Bool → Outcome Scores
   by-pivot f b = elim b as (λ b. Outcome Scores) [ true ↦ refused Pivot | false ↦ rest f ]
 
-  -- the two cases of `separated`
-  pub pivot-fails : {r : Called} → fails ≡ true → r ≡ refusal Pivot (over (replicate (axes + n * axes) zero⁺) out) (over (replicate n 0) assigned)
-      → r ≡ leaves n p axes (separated n columns p g x groups mean a sb) out assigned
-  unfolding separated leaves output andThen
-  pivot-fails t e = e ∙ ap (λ (b : Bool). leaves n p axes (by-pivot (factor p a) b) out assigned) (sym (sym told ∙ t))
+  abbrev all : Outcome Scores
+  all = separated n (d .columns) (d .lead) (d .groups) x groups mean a sb
 
-  passes : fails ≡ false → separated n columns p g x groups mean a sb ≡ rest l
+  -- outputs whose first part is cleared
+  abbrev cleared : Refusal → Called
+  cleared k = refusal k (over (replicate (d .axes + n * d .axes) zero⁺) out) (over (replicate n 0) assigned)
+
+  -- the two cases of the pivots
+  pub pivot-fails : {r : Called} → fails ≡ true → r ≡ cleared Pivot → r ≡ left all
+  unfolding separated leaves output andThen
+  pivot-fails t e = e ∙ ap (λ (b : Bool). left (by-pivot (factor (d .lead) a) b)) (sym (sym told ∙ t))
+
+  passes : fails ≡ false → all ≡ rest l
   unfolding separated
-  passes t = ap (by-pivot (factor p a)) (sym told ∙ t) ∙ ap rest (sym factored)
+  passes t = ap (by-pivot (factor (d .lead) a)) (sym told ∙ t) ∙ ap rest (sym factored)
 
   -- the two cases of the eigenpairs
-  module _ (t : fails ≡ false) (ev : List Float) {answer : jacobi-answer.Answer} (solved : eigenOf p answer ev ≡ jacobi p (whitened p l sb)) where
-    pub eigen-refuses : {r : Called} {k : Refusal} → answer ≡ jacobi-answers.Refused k → r ≡ refusal Unordered (over (replicate (axes + n * axes) zero⁺) out) (over (replicate n 0) assigned)
-        → r ≡ leaves n p axes (separated n columns p g x groups mean a sb) out assigned
+  module _ (t : fails ≡ false) (ev : List Float) {answer : jacobi-answer.Answer} (solved : eigenOf (d .lead) answer ev ≡ solution l) where
+    pub eigen-refuses : {r : Called} {k : Refusal} → answer ≡ jacobi-answers.Refused k → r ≡ cleared Unordered → r ≡ left all
     unfolding leaves output andThen
     eigen-refuses {r} {k} is e =
-        let found : refused k ≡ jacobi p (whitened p l sb) = ap (λ (b : jacobi-answer.Answer). eigenOf p b ev) (sym is) ∙ solved in
-        let only : refused Unordered ≡ jacobi p (whitened p l sb) = ap (λ (q : Refusal). refused q) (sym (only-unordered p (whitened p l sb) k found)) ∙ found in
-        e
-        ∙ ap (λ (o : Outcome Eigen). leaves n p axes (andThen o (λ e. assign n columns p g x groups mean l (e .values) (e .vectors))) out assigned) only
-        ∙ ap (λ (o : Outcome Scores). leaves n p axes o out assigned) (sym (passes t))
+        let found : refused k ≡ solution l = ap (λ (b : jacobi-answer.Answer). eigenOf (d .lead) b ev) (sym is) ∙ solved in
+        let only : refused Unordered ≡ solution l = ap (λ (q : Refusal). refused q) (sym (only-unordered (d .lead) (whitened (d .lead) l sb) k found)) ∙ found in
+        e ∙ ap (λ (o : Outcome Eigen). left (andThen o (λ e. placed l (e .values) (e .vectors)))) only ∙ ap left (sym (passes t))
 
-    pub eigen-answers : {r : Called} {k : ℕ} → answer ≡ jacobi-answers.Sweeps k
-        → r ≡ leaves n p axes (assign n columns p g x groups mean l (take p ev) (drop p ev)) out assigned
-        → r ≡ leaves n p axes (separated n columns p g x groups mean a sb) out assigned
+    -- the eigenpairs stand at the front of their room
+    pub eigen-answers : {r : Called} {k : ℕ} {ev′ : List Float} → answer ≡ jacobi-answers.Sweeps k → ev′ ≡ ev
+        → r ≡ left (placed l (take (d .lead) ev′) (drop (d .lead) ev′)) → r ≡ left all
     unfolding andThen
-    eigen-answers {r} {k} is e =
-        let found : answered (record { values = take p ev; vectors = drop p ev; sweeps = k }) ≡ jacobi p (whitened p l sb) = ap (λ (b : jacobi-answer.Answer). eigenOf p b ev) (sym is) ∙ solved in
+    eigen-answers {r} {k} is same e =
+        let found : answered (record { values = take (d .lead) ev; vectors = drop (d .lead) ev; sweeps = k }) ≡ solution l =
+        ap (λ (b : jacobi-answer.Answer). eigenOf (d .lead) b ev) (sym is) ∙ solved in
         e
-        ∙ ap (λ (o : Outcome Eigen). leaves n p axes (andThen o (λ e. assign n columns p g x groups mean l (e .values) (e .vectors))) out assigned) found
-        ∙ ap (λ (o : Outcome Scores). leaves n p axes o out assigned) (sym (passes t))
+        ∙ ap (λ (v : List Float). left (placed l (take (d .lead) v) (drop (d .lead) v))) same
+        ∙ ap (λ (o : Outcome Eigen). left (andThen o (λ e. placed l (e .values) (e .vectors)))) found
+        ∙ ap left (sym (passes t))
 
--- from means and scatter
-pub separated-is : (n columns p axes g : ℕ) (x : List Float) (groups : List ℕ) (out : List Float) (assigned : List ℕ) {mean sw sb : List Float} {counts : List ℕ} {r : Called}
-    → Filled columns p g x groups mean counts sw sb → r ≡ leaves n p axes (separated n columns p g x groups mean sw sb) out assigned
-    → r ≡ leaves n p axes (discriminate n columns p x groups g) out assigned
+-- from means and scatter, which stand at the front of their room
+pub separated-is : (n : ℕ) (d : Dimensions) (x : List Float) (groups : List ℕ) (out : List Float) (assigned : List ℕ)
+    {mean sw sb mean′ sw′ sb′ : List Float} {counts : List ℕ} {r : Called}
+    → Filled d x groups mean counts sw sb → mean′ ≡ mean → sw′ ≡ sw → sb′ ≡ sb
+    → r ≡ leaves n (d .lead) (d .axes) (separated n (d .columns) (d .lead) (d .groups) x groups mean′ sw′ sb′) out assigned
+    → r ≡ leaves n (d .lead) (d .axes) (discriminate n (d .columns) (d .lead) x groups (d .groups)) out assigned
 unfolding discriminate
-separated-is n columns p axes g x groups out assigned {mean} {sw} {sb} {counts} {r} f e =
-    let step : List Float → List Float → List Float → Called = λ m a b. leaves n p axes (separated n columns p g x groups m a b) out assigned in
-    e ∙ ap (λ (m : List Float). step m sw sb) (f .means) ∙ ap₂ (step (meanOf columns p x groups)) (f .within) (f .between)
+separated-is n d x groups out assigned {sw′ = sw′} {sb′ = sb′} f means within between e =
+    let step : List Float → List Float → List Float → Called = λ m a b. leaves n (d .lead) (d .axes) (separated n (d .columns) (d .lead) (d .groups) x groups m a b) out assigned in
+    e ∙ ap (λ (m : List Float). step m sw′ sb′) (means ∙ f .means) ∙ ap₂ (step (meanOf (d .columns) (d .lead) x groups)) (within ∙ f .within) (between ∙ f .between)
 
--- no more samples have a group than there are
-pub grouped-few : (groups : List ℕ) → length (grouped groups) ≤ length groups
-unfolding grouped
-grouped-few groups =
-    let p : ℕ → Bool = λ i. not (inGroup groups none i) in
-    omega (arith, length-keep p (range 0 (length groups)), countIf-below p (range 0 (length groups)), length-range 0 (length groups))
+-- a matrix of p columns fits its room
+pub square-fits : (p : ℕ) → p ≤ 16 → p * p ≤ 256
+square-fits p h = omega (arith, mul-le-mul {n₁ = p} {m₁ = p} {n₂ = 16} {m₂ = 16} h h)

@@ -1,2 +1,3 @@
 -- The laws that the proofs of `shuffles` share.
+pub mod Draws
 pub mod Shuffles

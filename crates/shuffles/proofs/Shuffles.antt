@@ -2,7 +2,7 @@
 use mathlib.Core.Path.{_≡_, refl, sym, ap, _∙_, subst}
 use mathlib.Core.Bool.{Bool, true, false}
 use mathlib.Core.List.{List, [], _∷_, _++_, foldl}
-use Prim.Native.Nat.{ℕ, zero, suc, _+_, _-_, _%_, _<_}
+use Prim.Native.Nat.{ℕ, zero, suc, _+_, _-_, _<_}
 use native.Mathlib.Numerals.{add-one}
 use lib.Dec.{eqb, ltb}
 use borrow.Author.Tests.{eqb-true, eqb-false, ltb-true, ltb-false}
@@ -14,10 +14,14 @@ use Rattle.lists.specs.Numbers.{members, Below}
 use Rattle.lists.proofs.Ranges.{table-last}
 use Rattle.lists.proofs.Loops.{inTurn-keeps, inTurn-ext}
 use Rattle.members.specs.Members.{part, Grouped}
-use Rattle.splitmix.specs.SplitMix.{advance, mix}
-use Rattle.splitmix.specs.Shuffle.{Deal, deal, seeded, swapped, swapDrawn, shuffleStratum, shuffle}
-use Rattle.shuffles.specs.Shuffled.{parts, shuffled}
-use Rattle.shuffles.specs.Parted.{shuffledBy}
+use Rattle.shuffles.specs.declared.Dealt.{Dealt}
+use Rattle.shuffles.specs.Shuffle.{Deal, deal, begun, drawBelow, swapped, swapDrawn, shuffleStratum, shuffle}
+use Rattle.shuffles.specs.Shuffled.{parts, dealt}
+use Rattle.shuffles.specs.Parted.{dealtBy}
+
+-- the labels of what a shuffle left
+pub labels-are : {r : Dealt} {lab : List ℕ} {d : Deal} → deal r lab ≡ d → lab ≡ d .labels
+labels-are e = ap (λ (d : Deal). d .labels) e
 
 -- m labels of g groups
 pub record Fine (m g : ℕ) (l : List ℕ) : Type 0 where
@@ -56,13 +60,13 @@ module _ (m g : ℕ) (some : 0 < g) where
   unfolding shuffleStratum downTo swapDrawn
   stratum-fine stratum d f =
       inTurn-keeps (λ u. Fine m g (u .labels)) (λ j. swapDrawn stratum (length stratum - (j + 1)))
-      (λ k u p. swapped-fine (u .labels) (getD stratum (length stratum - (k + 1)) 0) (getD stratum (mix (advance (u .state)) % (length stratum - (k + 1) + 1)) 0) p)
+      (λ k u p. swapped-fine (u .labels) (getD stratum (length stratum - (k + 1)) 0) (getD stratum (drawBelow (u .state) (length stratum - (k + 1) + 1) .place) 0) p)
       (length stratum - 1) d f
 
-  pub shuffledBy-fine : (next mem : List ℕ) (s : ℕ) (lab : List ℕ) (seed t : ℕ) → Fine m g lab → Fine m g (shuffledBy next mem s lab seed t)
-  unfolding shuffledBy
-  shuffledBy-fine next mem s lab seed t f =
-      inTurn-keeps (λ u. Fine m g (u .labels)) (λ k. shuffleStratum (part next mem k)) (λ k u p. stratum-fine (part next mem k) u p) s (deal (seeded seed t) lab) f
+  pub dealtBy-fine : (next mem : List ℕ) (s : ℕ) (lab : List ℕ) (seed t : ℕ) → Fine m g lab → Fine m g (dealtBy next mem s lab seed t .labels)
+  unfolding dealtBy
+  dealtBy-fine next mem s lab seed t f =
+      inTurn-keeps (λ u. Fine m g (u .labels)) (λ k. shuffleStratum (part next mem k)) (λ k u p. stratum-fine (part next mem k) u p) s (begun seed t lab) f
 
 -- ---- parts that are the members of strata
 
@@ -77,9 +81,8 @@ fold-table f h zero b = unfold table Rattle.lists.specs.Ranges.upFrom in refl
 fold-table f h (suc n) b =
     ap (λ (k : ℕ). foldl f b (table k h)) (sym (add-one n)) ∙ ap (foldl f b) (table-last h n) ∙ fold-append f b (table n h) (h n) ∙ ap (λ u. f u (h n)) (fold-table f h n b)
 
-pub shuffled-within : (ss : List ℕ) (m s : ℕ) (next mem lab : List ℕ) (seed t : ℕ) → Grouped ss m s next mem → shuffledBy next mem s lab seed t ≡ shuffled (parts ss m s) lab seed t
-unfolding shuffledBy shuffled parts shuffle
-shuffled-within ss m s next mem lab seed t g =
-    ap (λ (d : Deal). d .labels)
-    (inTurn-ext (λ k. shuffleStratum (part next mem k)) (λ k u. shuffleStratum (members ss m k) u) s (deal (seeded seed t) lab) (λ k u h. ap (λ (p : List ℕ). shuffleStratum p u) (g .are k h))
-    ∙ sym (fold-table (λ u stratum. shuffleStratum stratum u) (members ss m) s (deal (seeded seed t) lab)))
+pub dealt-within : (ss : List ℕ) (m s : ℕ) (next mem lab : List ℕ) (seed t : ℕ) → Grouped ss m s next mem → dealtBy next mem s lab seed t ≡ dealt (parts ss m s) lab seed t
+unfolding dealtBy dealt parts shuffle
+dealt-within ss m s next mem lab seed t g =
+    inTurn-ext (λ k. shuffleStratum (part next mem k)) (λ k u. shuffleStratum (members ss m k) u) s (begun seed t lab) (λ k u h. ap (λ (p : List ℕ). shuffleStratum p u) (g .are k h))
+    ∙ sym (fold-table (λ u stratum. shuffleStratum stratum u) (members ss m) s (begun seed t lab))

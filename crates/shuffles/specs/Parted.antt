@@ -3,8 +3,12 @@ use Prim.Native.Nat.{ℕ}
 use mathlib.Core.List.{List}
 use Rattle.lists.specs.Loops.{inTurn}
 use Rattle.members.specs.Members.{part}
-use Rattle.splitmix.specs.Shuffle.{deal, seeded, shuffleStratum}
+use Rattle.shuffles.specs.Shuffle.{Deal, begun, shuffleStratum}
 
--- the labels after shuffle t, within each of the s parts in turn
-unfoldable pub shuffledBy : List ℕ → List ℕ → ℕ → List ℕ → ℕ → ℕ → List ℕ
-shuffledBy next mem s lab seed t = inTurn (λ k. shuffleStratum (part next mem k)) s (deal (seeded seed t) lab) .labels
+-- what shuffle t leaves, within each of the s parts in turn
+unfoldable pub dealtBy : List ℕ → List ℕ → ℕ → List ℕ → ℕ → ℕ → Deal
+dealtBy next mem s lab seed t = inTurn (λ k. shuffleStratum (part next mem k)) s (begun seed t lab)
+
+-- the labels after it
+abbrev pub shuffledBy : List ℕ → List ℕ → ℕ → List ℕ → ℕ → ℕ → List ℕ
+shuffledBy next mem s lab seed t = dealtBy next mem s lab seed t .labels

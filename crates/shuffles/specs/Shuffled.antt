@@ -3,12 +3,16 @@ use Prim.Native.Nat.{ℕ}
 use mathlib.Core.List.{List}
 use Rattle.lists.specs.Ranges.{table}
 use Rattle.lists.specs.Numbers.{members}
-use Rattle.splitmix.specs.Shuffle.{deal, seeded, shuffle}
+use Rattle.shuffles.specs.Shuffle.{Deal, begun, shuffle}
 
 -- the strata as lists of kept samples, upward: s of them, ss the stratum of each of m samples
 unfoldable pub parts : List ℕ → ℕ → ℕ → List (List ℕ)
 parts ss m s = table s (members ss m)
 
--- the labels after shuffle t
-unfoldable pub shuffled : List (List ℕ) → List ℕ → ℕ → ℕ → List ℕ
-shuffled strata lab seed t = shuffle strata (deal (seeded seed t) lab) .labels
+-- what shuffle t leaves
+unfoldable pub dealt : List (List ℕ) → List ℕ → ℕ → ℕ → Deal
+dealt strata lab seed t = shuffle strata (begun seed t lab)
+
+-- the labels after it
+abbrev pub shuffled : List (List ℕ) → List ℕ → ℕ → ℕ → List ℕ
+shuffled strata lab seed t = dealt strata lab seed t .labels

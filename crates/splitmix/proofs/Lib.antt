@@ -1,3 +1,2 @@
--- Laws of words and draws.
+-- Laws of words.
 pub mod Products
-pub mod Draws

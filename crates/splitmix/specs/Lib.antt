@@ -1,3 +1,2 @@
--- Sections 4 and 8 of document 01: SplitMix64 and what is drawn from it.
+-- Sections 4 and 8 of document 01: SplitMix64 and an f64 drawn from it.
 pub mod SplitMix
-pub mod Shuffle

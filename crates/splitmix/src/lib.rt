@@ -1,10 +1,7 @@
-// SplitMix64 (sections 4 and 8 of document 01), an f64 drawn from it, and the shuffle of labels within a stratum.
+// SplitMix64 (sections 4 and 8 of document 01), and an f64 drawn from it.
 ghost use mathlib.Core.Path.{_≡_};
-ghost use Prim.Native.Nat.{_+_, _*_, _%_, _^_, _<_};
-ghost use lib.ListN.{length};
-ghost use Rattle.lists.specs.Numbers.{Below};
+ghost use Prim.Native.Nat.{_*_, _%_, _^_};
 ghost use Rattle.splitmix.specs.SplitMix.{advance, mix, next, uniform};
-ghost use Rattle.splitmix.specs.Shuffle.{seeded, swapped, deal, swapDrawn, shuffleStratum};
 
 // The next state, and its word.
 pub struct Draw {
@@ -56,56 +53,4 @@ pub fn uniform(s: u64) -> f64
 {
     let w = mix(s) >> 11;
     w as f64 / 9007199254740992.0 - 0.5
-}
-
-// The state that shuffle t starts from.
-pub fn seeded(seed: u64, t: u64) -> u64
-    ensures { λ r. ⌜ r ≡ seeded seed t ⌝ }
-{
-    seed ^ wrapping_mul(t, 0xd6e8_feb8_6659_fd93)
-}
-
-// The labels at i and j exchanged.
-fn swap(l: &mut [u16], i: usize, j: usize)
-    requires { ⌜ (i < length (now l)) × (j < length (now l)) ⌝ }
-    ensures { λ _. ⌜ now (l .exit) ≡ swapped (now (l .entry)) i j ⌝ }
-{
-    let x = l[i];
-    l[i] = l[j];
-    l[j] = x;
-}
-
-// A number below n, from a word.
-fn below(word: u64, n: u64) -> usize
-    requires { ⌜ 0 < n ⌝ }
-    ensures { λ r. ⌜ r ≡ word % n ⌝ }
-{
-    (word % n) as usize
-}
-
-// One swap: position i of the stratum with (draw mod (i + 1)). The next state is returned.
-fn swap_drawn(lab: &mut [u16], stratum: &[u16], i: usize, state: u64) -> u64
-    requires { ⌜ (i < length (now stratum)) × Below (length (now lab)) (now stratum) ⌝ }
-    ensures { λ r. ⌜ deal r (now (lab .exit)) ≡ swapDrawn (now (stratum .entry)) i (deal state (now (lab .entry))) ⌝ }
-{
-    let d = next(state);
-    let j = below(d.word, i as u64 + 1);
-    let x = lists::entry(stratum, i);
-    let y = lists::entry(stratum, j);
-    swap(lab, x, y);
-    d.state
-}
-
-// A stratum, from its last position down. The last state is returned.
-pub fn shuffle_stratum(lab: &mut [u16], stratum: &[u16], state: u64) -> u64
-    requires { ⌜ Below (length (now lab)) (now stratum) ⌝ }
-    ensures { λ r. ⌜ deal r (now (lab .exit)) ≡ shuffleStratum (now (stratum .entry)) (deal state (now (lab .entry))) ⌝ }
-{
-    let mut s = state;
-    let mut i = stratum.len();
-    while i > 1 {
-        i -= 1;
-        s = swap_drawn(lab, stratum, i, s);
-    }
-    s
 }

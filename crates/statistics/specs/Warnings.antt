@@ -6,18 +6,14 @@ use lib.Dec.{eqb, ltb}
 use lib.Ieee.{lt}
 use Rattle.float.specs.Floats.{0·5}
 use Rattle.lists.specs.Filters.{any}
-use Rattle.lists.specs.Numbers.{addUp, howMany}
-use Rattle.lot.specs.Lot.{Lot, none}
-use Rattle.lot.specs.Kept.{groups, keptCount, groupCount, sizes}
+use Rattle.lists.specs.Numbers.{addUp}
+use Rattle.lot.specs.Lot.{Lot}
+use Rattle.lot.specs.Kept.{leftOut, groups, keptCount, groupCount, sizes}
 use Rattle.lot.specs.Strata.{informativeCount, fraction}
 use Rattle.statistics.specs.Statistics.{someNegative}
 
 abbrev pub bit : ℕ → Bool → ℕ
 bit b on = cond on b 0
-
--- labels left out: some label is held by one sample
-unfoldable pub leftOut : List ℕ → Bool
-leftOut labels = any (λ l. not (eqb l none) && eqb (howMany l labels) 1) labels
 
 -- strata given and none informs
 unfoldable pub uninformed : Lot → Bool

@@ -10,6 +10,7 @@ ghost use Rattle.lot.specs.Lot.{none};
 ghost use Rattle.lot.specs.Filled.{Filled};
 ghost use Rattle.lot.specs.Described.{Stratified};
 ghost use Rattle.lot.specs.Strata as spec;
+ghost use Rattle.strata.specs.Told.{Told};
 
 // Whether x stands in the list.
 fn stands(xs: &[u16], x: u16) -> bool
@@ -115,14 +116,29 @@ fn informs(ss: &[u16], gs: &[u16], k: usize) -> bool
     false
 }
 
+// The same, where `told` says it of the sample before k: samples of one stratum in a row are looked at once.
+fn informs_too(ss: &[u16], gs: &[u16], k: usize, told: bool) -> bool
+    requires { ⌜ (length (now gs) ≡ length (now ss)) × (k < length (now ss)) × Told (now ss) (now gs) k told ⌝ }
+    ensures { λ r. ⌜ r ≡ spec.informs (now (ss .entry)) (now (gs .entry)) (length (now (ss .entry))) (getD (now (ss .entry)) k 0) ⌝ }
+{
+    if 0 < k {
+        if ss[k] == ss[k - 1] {
+            return told;
+        }
+    }
+    informs(ss, gs, k)
+}
+
 // How many samples are in strata that inform.
 pub fn informative(ss: &[u16], gs: &[u16]) -> usize
     requires { ⌜ length (now gs) ≡ length (now ss) ⌝ }
     ensures { λ r. ⌜ r ≡ spec.informative (now (ss .entry)) (now (gs .entry)) (length (now (ss .entry))) ⌝ }
 {
     let mut count: usize = 0;
+    let mut told = false;
     for k in 0..ss.len() {
-        if informs(ss, gs, k) {
+        told = informs_too(ss, gs, k, told);
+        if told {
             count += 1;
         }
     }

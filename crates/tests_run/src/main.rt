@@ -36,17 +36,18 @@ fn show_chance(p: Chance) {
 // Kept samples and groups, F, r2 and p, F and p of dispersion, the informative fraction, the warnings.
 fn show_result(r: TestResult) {
     io::write_all(STDOUT_FILENO, b"tested");
-    show_count(r.n as u64);
-    show_count(r.n_groups as u64);
+    let s = r.summary;
+    show_count(s.n as u64);
+    show_count(s.n_groups as u64);
     show_number(r.f);
-    show_number(r.r2);
+    show_number(s.r2);
     let p = r.p;
     show_chance(p);
     show_number(r.disp_f);
     let q = r.disp_p;
     show_chance(q);
-    show_number(r.informative_fraction);
-    show_count(r.warnings as u64);
+    show_number(s.informative_fraction);
+    show_count(s.warnings as u64);
 }
 
 fn show_answer(a: Answer) {
@@ -100,15 +101,20 @@ fn show_work(s: &[f64]) {
 
 // ---- calls
 
-fn call(
+// The number of samples, whether strata and weights are given, and how many shuffles are asked.
+struct Asked {
     n: usize,
+    stratified: bool,
+    weighted: bool,
+    n_perm: u64,
+}
+
+fn call(
+    asked: Asked,
     distances: &[f64],
     labels: &[u16],
-    stratified: bool,
     strata: &[u16],
-    weighted: bool,
     weights: &[f64],
-    n_perm: u64,
     names: &mut [u16],
     counts: &mut [u16],
     means: &mut [f64],
@@ -116,15 +122,15 @@ fn call(
     pulls: &mut [f64],
 ) {
     let a = permanova::test(
-        n,
+        asked.n,
         distances,
         labels,
-        stratified,
+        asked.stratified,
         strata,
-        weighted,
+        asked.weighted,
         weights,
         42,
-        n_perm,
+        asked.n_perm,
         names,
         counts,
         means,
@@ -156,15 +162,18 @@ fn call_four(
     let mut means = [7.0; 4];
     let mut terms = [7.0; 16];
     let mut pulls = [7.0; 16];
-    call(
+    let asked = Asked {
         n,
+        stratified,
+        weighted,
+        n_perm,
+    };
+    call(
+        asked,
         distances,
         labels,
-        stratified,
         strata,
-        weighted,
         weights,
-        n_perm,
         &mut names,
         &mut counts,
         &mut means,
@@ -211,15 +220,18 @@ fn with_lengths(a: usize, b: usize, c: usize, t: usize, p: usize)
     let mut means = [7.0; 6];
     let mut terms = [7.0; 20];
     let mut pulls = [7.0; 20];
+    let asked = Asked {
+        n: 4,
+        stratified: false,
+        weighted: false,
+        n_perm: 9,
+    };
     call(
-        4,
+        asked,
         &d,
         &[0, 0, 1, 1],
-        false,
         &[],
-        false,
         &[],
-        9,
         &mut names[..a],
         &mut counts[..b],
         &mut means[..c],

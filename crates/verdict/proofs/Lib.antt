@@ -1,2 +1,3 @@
--- The laws of what is answered.
-pub mod Answers
+-- What a lot that is judged has ready, and that what is counted is the lot's own.
+pub mod Ready
+pub mod Counts

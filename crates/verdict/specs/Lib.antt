@@ -1,2 +1,3 @@
--- Section 6 of document 01: what is answered for the kept samples of a lot.
-pub mod Answered
+-- Section 6 of document 01: what inner functions answer for a lot on given coordinates.
+pub mod Verdict
+pub mod Room

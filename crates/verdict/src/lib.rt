@@ -1,21 +1,35 @@
-// Section 6: what is answered for the kept samples of a lot, over every way of their labels within strata.
+// Section 6: what a lot is answered on given coordinates, over every way of its labels within strata.
+use designs::Design;
 use judgement::Counted;
 use judgement::Judgement;
+use judging::Frame;
 use observation::Observed;
 use way_hits::Seen;
 ghost use mathlib.Core.Path.{_≡_};
-ghost use Prim.Native.Nat.{_*_, _≤_};
+ghost use Prim.Native.Nat.{_≤_};
 ghost use lib.ListN.{length};
-ghost use Rattle.lists.specs.Writes.{over};
-ghost use Rattle.lot.specs.Kept.{sizes};
-ghost use Rattle.ways.specs.Onward.{HasRows};
-ghost use Rattle.judging.specs.Judging.{Prepared, Placing, barredBy, assignmentBy};
-ghost use Rattle.walk.specs.Walked.{Walkable};
-ghost use Rattle.judging.specs.Assignments.{columnsOf};
-ghost use Rattle.verdict.specs.Answered.{seenBy, countedBy, answerFor, meansFor, Ways, Kept};
-ghost use Rattle.discriminant.specs.Dapc.{leading};
+ghost use Rattle.lot.specs.Lot.{Lot};
+ghost use Rattle.observation.specs.Observed.{observedOf};
+ghost use Rattle.judging.specs.Judging.{frameOf, assignmentBy, Placing, Judged};
+ghost use Rattle.verdict.specs.Verdict.{seenBy, countedOf};
+ghost use Rattle.verdict.specs.Room.{Judgeable, Owns, Judges};
 
-// ---- all ways
+// What is the same for every way of a design's labels, on coordinates x.
+fn frame_of(d: Design, x: &[f64], total: f64) -> Frame
+    ensures { λ r. ⌜ r ≡ frameOf (d .n) (d .kept) (d .groups) (now (x .entry)) total ⌝ }
+{
+    let columns = ordination_lines::leading(8, d.n);
+    let lead = discriminant::leading_of(columns, d.kept, d.groups);
+    let barred = judging::is_barred(x, lead);
+    Frame {
+        n: d.n,
+        groups: d.groups,
+        columns,
+        lead,
+        barred,
+        total,
+    }
+}
 
 // The three statistics of the observed way, two of which are at hand.
 fn see(
@@ -23,18 +37,14 @@ fn see(
     x: &[f64],
     ks: &[u16],
     gs: &[u16],
-    n: usize,
-    columns: usize,
-    lead: usize,
     m: usize,
-    g: usize,
-    barred: bool,
+    f: Frame,
     o: Observed,
 ) -> Seen
-    requires { ⌜ Placing n m g columns lead (now x) (now ks) (now gs) (length (now scores)) ⌝ }
-    ensures { λ r. ⌜ r ≡ seenBy o (assignmentBy barred n columns lead (now (x .entry)) (now (ks .entry)) g (now (gs .entry))) ⌝ }
+    requires { ⌜ Placing f m (now x) (now ks) (length (now scores)) × Judged (f .n) m (f .groups) (now ks) (now gs) ⌝ }
+    ensures { λ r. ⌜ r ≡ seenBy o (assignmentBy f (now (x .entry)) (now (ks .entry)) (now (gs .entry))) ⌝ }
 {
-    let assignment = judging::assignment_of(scores, x, ks, gs, n, columns, lead, m, g, barred);
+    let assignment = judging::assignment_of(scores, x, ks, gs, m, f);
     let location = statistics::statistic_of(o.f);
     let dispersion = statistics::statistic_of(o.disp_f);
     Seen {
@@ -44,185 +54,64 @@ fn see(
     }
 }
 
-// They and their hits among all ways of the groups `gs` within the strata `ss`.
+// They and their hits among all ways. `rows` and `scores` lend room.
 fn count(
-    rows: &mut [u16],
-    scores: &mut [f64],
-    ss: &[u16],
-    gs: &[u16],
-    t: &[f64],
+    d: Design,
     p: &[f64],
+    t: &[f64],
     w: &[f64],
     x: &[f64],
-    ks: &[u16],
-    n: usize,
-    m: usize,
-    g: usize,
-    columns: usize,
-    lead: usize,
-    barred: bool,
     o: Observed,
+    rows: &mut [u16],
+    scores: &mut [f64],
 ) -> Counted
-    requires { ⌜ Prepared n m g columns lead (now t) (now p) (now w) (now x) (now ks) (length (now scores)) × Walkable n g (now ks) (now ss) (now gs) × HasRows g (now ss) (now rows) × (length (now ss) ≡ m) × Placing n m g columns lead (now x) (now ks) (now gs) (length (now scores)) ⌝ }
-    ensures { λ r. ⌜ r ≡ countedBy (now (t .entry)) (now (p .entry)) (now (w .entry)) (now (x .entry)) (now (ks .entry)) (now (gs .entry)) (now (ss .entry)) n m g columns lead barred o ⌝ }
+    requires { ⌜ Judgeable d (now p) (now t) (now w) (now x) (length (now rows)) (length (now scores)) ⌝ }
+    ensures { λ r. ⌜ ((lot : Lot) → Owns lot d (now (p .entry)) (now (t .entry)) (now (w .entry)) → o ≡ observedOf lot → r ≡ countedOf lot (now (x .entry))) ⌝ }
 {
-    let seen = see(scores, x, ks, gs, n, columns, lead, m, g, barred, o);
+    let m = d.kept;
+    let ks = d.samples;
+    let gs = d.group;
+    let ss = d.stratum;
+    let f = frame_of(d, x, o.total);
+    let seen = see(scores, x, &ks[..m], &gs[..m], m, f, o);
     let hits = hit_counts::count_hits(
         rows,
         scores,
-        ss,
-        gs,
+        &ss[..m],
+        &gs[..m],
         t,
         p,
         w,
         x,
-        ks,
-        o.total,
-        n,
-        g,
-        columns,
-        lead,
-        barred,
+        &ks[..m],
+        f,
         seen,
     );
     Counted { seen, hits }
 }
 
-// ---- the answer
-
-// The columns that lead, whether `dapc` refuses the coordinates whatever the way, and then all ways.
-fn count_kept(
-    rows: &mut [u16],
-    scores: &mut [f64],
-    ss: &[u16],
-    gs: &[u16],
-    t: &[f64],
+// The answer for the lot that a design describes, over its pulls p, terms t and weights w, on coordinates x of all its samples. `ways` is M. Each group's count
+// and mean z go to the fronts of the outputs; `rows` and `scores` lend room, and are left as they come.
+pub fn judge(
+    d: Design,
+    ways: usize,
     p: &[f64],
+    t: &[f64],
     w: &[f64],
     x: &[f64],
-    ks: &[u16],
-    n: usize,
-    m: usize,
-    g: usize,
-    o: Observed,
-) -> Counted
-    requires { ⌜ Ways n m g (now t) (now p) (now w) (now x) (now ks) (now gs) (now ss) (length (now rows)) (length (now scores)) ⌝ }
-    ensures { λ r. ⌜ r ≡ countedBy (now (t .entry)) (now (p .entry)) (now (w .entry)) (now (x .entry)) (now (ks .entry)) (now (gs .entry)) (now (ss .entry)) n m g
-        (columnsOf n) (leading (columnsOf n) m g) (barredBy (now (x .entry)) (leading (columnsOf n) m g)) o ⌝ }
-{
-    let columns = ordination_lines::leading(8, n);
-    let lead = discriminant::leading_of(columns, m, g);
-    let barred = judging::is_barred(x, lead);
-    count(
-        rows,
-        scores,
-        ss,
-        gs,
-        t,
-        p,
-        w,
-        x,
-        ks,
-        n,
-        m,
-        g,
-        columns,
-        lead,
-        barred,
-        o,
-    )
-}
-
-// ---- the kept samples
-
-// The answer for the kept samples `ks`, in the groups `gs` and the strata `ss`, with the coordinates x of all n. Each group's count and mean z go to the
-// outputs; the other slices that are lent are room.
-fn judge_with(
     counts: &mut [u16],
     means: &mut [f64],
-    t: &mut [f64],
-    p: &mut [f64],
-    w: &mut [f64],
-    z: &mut [f64],
     rows: &mut [u16],
     scores: &mut [f64],
-    d: &[f64],
-    n: usize,
-    labels: &[u16],
-    ks: &[u16],
-    gs: &[u16],
-    ss: &[u16],
-    x: &[f64],
-    stratified: bool,
-    weighted: bool,
-    weights: &[f64],
-    m: usize,
-    g: usize,
-    ways: usize,
 ) -> Judgement
-    requires { ⌜ Kept n m g (now d) (now labels) (now ks) (now gs) (now ss) (now x) weighted (now weights) (length (now rows)) (length (now scores)) ⌝ }
-    requires { ⌜ (g ≤ length (now counts)) × (g ≤ length (now means)) × (length (now t) ≡ m * m) × (length (now p) ≡ m * m) × (length (now w) ≡ m) × (length (now z) ≡ m) ⌝ }
-    ensures { λ r. ⌜ (r ≡ answerFor (now (d .entry)) n (now (labels .entry)) (now (ks .entry)) (now (gs .entry)) (now (ss .entry)) (now (x .entry)) stratified weighted (now (weights .entry)) m g ways)
-        × (now (counts .exit) ≡ over (sizes (now (gs .entry)) m g) (now (counts .entry)))
-        × (now (means .exit) ≡ over (meansFor (now (d .entry)) n (now (ks .entry)) (now (gs .entry)) weighted (now (weights .entry)) m g) (now (means .entry))) ⌝ }
+    requires { ⌜ Judgeable d (now p) (now t) (now w) (now x) (length (now rows)) (length (now scores)) × (d .groups ≤ length (now counts)) × (d .groups ≤ length (now means)) ⌝ }
+    ensures { λ r. ⌜ ((lot : Lot) → Owns lot d (now (p .entry)) (now (t .entry)) (now (w .entry))
+        → Judges lot ways (now (x .entry)) (now (counts .entry)) (now (means .entry)) (now (counts .exit)) (now (means .exit)) r) ⌝ }
 {
-    observation::weigh(d, n, ks, m, weighted, weights, w, t, p);
-    let o = observation::observe(p, t, w, gs, m, g, z, counts, means);
-    let c = count_kept(rows, scores, ss, gs, t, p, w, x, ks, n, m, g, o);
-    judgement::conclude(labels, ss, gs, &counts[..g], stratified, m, g, ways, o, c)
-}
-
-// The same, with room of its own for weights and z.
-pub fn judge_kept(
-    counts: &mut [u16],
-    means: &mut [f64],
-    t: &mut [f64],
-    p: &mut [f64],
-    rows: &mut [u16],
-    scores: &mut [f64],
-    d: &[f64],
-    n: usize,
-    labels: &[u16],
-    ks: &[u16],
-    gs: &[u16],
-    ss: &[u16],
-    x: &[f64],
-    stratified: bool,
-    weighted: bool,
-    weights: &[f64],
-    m: usize,
-    g: usize,
-    ways: usize,
-) -> Judgement
-    requires { ⌜ Kept n m g (now d) (now labels) (now ks) (now gs) (now ss) (now x) weighted (now weights) (length (now rows)) (length (now scores)) ⌝ }
-    requires { ⌜ (g ≤ length (now counts)) × (g ≤ length (now means)) × (length (now t) ≡ m * m) × (length (now p) ≡ m * m) ⌝ }
-    ensures { λ r. ⌜ (r ≡ answerFor (now (d .entry)) n (now (labels .entry)) (now (ks .entry)) (now (gs .entry)) (now (ss .entry)) (now (x .entry)) stratified weighted (now (weights .entry)) m g ways)
-        × (now (counts .exit) ≡ over (sizes (now (gs .entry)) m g) (now (counts .entry)))
-        × (now (means .exit) ≡ over (meansFor (now (d .entry)) n (now (ks .entry)) (now (gs .entry)) weighted (now (weights .entry)) m g) (now (means .entry))) ⌝ }
-{
-    let mut w = [0.0f64; 256];
+    let g = d.groups;
     let mut z = [0.0f64; 256];
-    judge_with(
-        counts,
-        means,
-        t,
-        p,
-        &mut w[..m],
-        &mut z[..m],
-        rows,
-        scores,
-        d,
-        n,
-        labels,
-        ks,
-        gs,
-        ss,
-        x,
-        stratified,
-        weighted,
-        weights,
-        m,
-        g,
-        ways,
-    )
+    let o = observation::observe(d, p, t, w, &mut z, counts, means);
+    let c = count(d, p, t, w, x, o, rows, scores);
+    let s = summaries::summarise(d, o, &counts[..g], 0);
+    judgement::conclude(s, ways, c)
 }

@@ -1,18 +1,16 @@
 // Section 6: one walk over all ways that counts the hits of three statistics.
+use judging::Frame;
 use way_hits::Hits;
 use way_hits::Seen;
 ghost use mathlib.Core.Path.{_≡_};
-ghost use Prim.Native.Nat.{_≤_, _<_, _^_};
 ghost use lib.ListN.{length, take};
-ghost use Rattle.ways.specs.Onward.{HasRows, onward, Ahead};
-ghost use Rattle.judging.specs.Judging.{Prepared, Judged, locationHit, dispersionHit, assignmentHit};
-ghost use Rattle.walk.specs.Walked.{Walked};
+ghost use Rattle.judging.specs.Judging.{statisticsBy};
+ghost use Rattle.walk.specs.Walked.{Walked, Walking};
 
-// The hits among the ways to go on from the first `at` labels of `way`. Row s of `counts` has how many of each label are left for stratum s.
-// A label is placed on sample `at` and the walk goes on with the rest: the samples still unlabelled fall by one with each call.
+// The hits among the ways to go on from the first `at` labels of `way`, within the strata `ss`. Row s of `counts` has how many of each label are left for
+// stratum s. A label is placed on sample `at` and the walk goes on with the rest: the samples still unlabelled fall by one with each call.
 pub fn walk(
-    strata: &[u16],
-    g: usize,
+    ss: &[u16],
     at: usize,
     counts: &mut [u16],
     way: &mut [u16],
@@ -22,47 +20,21 @@ pub fn walk(
     w: &[f64],
     x: &[f64],
     ks: &[u16],
-    total: f64,
-    n: usize,
-    columns: usize,
-    lead: usize,
-    barred: bool,
+    f: Frame,
     observed: Seen,
 ) -> Hits
-    requires within { ⌜ at ≤ length (now strata) ⌝ }
-    requires sized { ⌜ length (now way) ≡ length (now strata) ⌝ }
-    requires rows { ⌜ HasRows g (now strata) (now counts) ⌝ }
-    requires few { ⌜ length (onward g (now strata) (now counts) at) < 2 ^ 64 ⌝ }
-    requires prepared { ⌜ Prepared n (length (now strata)) g columns lead (now t) (now p) (now w) (now x) (now ks) (length (now scores)) ⌝ }
-    requires ahead { ⌜ Ahead (Judged n (length (now strata)) g (now ks)) g (now strata) (now counts) (now way) at ⌝ }
-    ensures counted { λ r. ⌜ Walked (locationHit observed (now (t .entry)) (now (w .entry)) total (length (now (strata .entry))) g)
-        (dispersionHit observed (now (p .entry)) (now (t .entry)) (now (w .entry)) (length (now (strata .entry))) g)
-        (assignmentHit observed barred n columns lead (now (x .entry)) (now (ks .entry)) g)
-        g (now (strata .entry)) (now (counts .entry)) (now (way .entry)) at r ⌝ }
+    requires { ⌜ Walking f (now ss) (now counts) (now way) at (now t) (now p) (now w) (now x) (now ks) (length (now scores)) ⌝ }
+    ensures counted { λ r. ⌜ Walked observed (statisticsBy f (length (now (ss .entry))) (now (t .entry)) (now (p .entry)) (now (w .entry)) (now (x .entry)) (now (ks .entry)))
+        (f .groups) (now (ss .entry)) (now (counts .entry)) (now (way .entry)) at r ⌝ }
     ensures restored { λ _. ⌜ now (counts .exit) ≡ now (counts .entry) ⌝ }
     ensures kept { λ _. ⌜ take at (now (way .exit)) ≡ take at (now (way .entry)) ⌝ }
 {
-    let m = strata.len();
+    let m = ss.len();
+    let g = f.groups;
     if at == m {
-        return judging::judge_way(
-            scores,
-            t,
-            p,
-            w,
-            x,
-            ks,
-            way,
-            total,
-            n,
-            m,
-            g,
-            columns,
-            lead,
-            barred,
-            observed,
-        );
+        return judging::judge_way(scores, t, p, w, x, ks, way, m, f, observed);
     }
-    let row = strata[at] as usize * g;
+    let row = ss[at] as usize * g;
     let mut location: usize = 0;
     let mut dispersion: usize = 0;
     let mut assignment: usize = 0;
@@ -72,25 +44,7 @@ pub fn walk(
         if left > 0 {
             counts[place] = left - 1;
             way[at] = j as u16;
-            let h = walk(
-                strata,
-                g,
-                at + 1,
-                counts,
-                way,
-                scores,
-                t,
-                p,
-                w,
-                x,
-                ks,
-                total,
-                n,
-                columns,
-                lead,
-                barred,
-                observed,
-            );
+            let h = walk(ss, at + 1, counts, way, scores, t, p, w, x, ks, f, observed);
             location += h.location;
             dispersion += h.dispersion;
             assignment += h.assignment;

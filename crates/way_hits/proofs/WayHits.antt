@@ -5,7 +5,8 @@ use Prim.Native.Nat.{ℕ}
 use lib.Dec.{leb}
 use Rattle.way_hits.specs.declared.Assignment.{Assignment}
 use Rattle.way_hits.specs.declared.Assignment.the-variants.{Right, Withheld}
-use Rattle.way_hits.specs.WayHits.{asRight, hitsOf}
+use Rattle.way_hits.specs.declared.Seen.{Seen}
+use Rattle.way_hits.specs.WayHits.{asRight, locationHit, dispersionHit, assignmentHit, hitsOf}
 
 pub none-seen : {o : Assignment} (s : Assignment) → o ≡ Withheld → false ≡ asRight o s
 unfolding asRight
@@ -20,7 +21,9 @@ pub both-right : {o s : Assignment} {a b : ℕ} → o ≡ Right a → s ≡ Righ
 unfolding asRight
 both-right e f = rw (e, f)
 
-pub hits-are : {a b c : Bool} {x y z : ℕ} {a′ b′ c′ : Bool} → a ≡ a′ → b ≡ b′ → c ≡ c′ → x ≡ cond a 1 0 → y ≡ cond b 1 0 → z ≡ cond c 1 0
-    → record { location = x; dispersion = y; assignment = z } ≡ hitsOf a′ b′ c′
-unfolding hitsOf
-hits-are ea eb ec ex ey ez = rw (ex, ey, ez, ea, eb, ec)
+-- 1 for each test that holds
+module _ (o f : Seen) {a b c : Bool} {x y z : ℕ} where
+  pub hits-are : a ≡ locationHit o f → b ≡ dispersionHit o f → c ≡ assignmentHit o f → x ≡ cond a 1 0 → y ≡ cond b 1 0 → z ≡ cond c 1 0
+      → record { location = x; dispersion = y; assignment = z } ≡ hitsOf o f
+  unfolding hitsOf
+  hits-are ea eb ec ex ey ez = rw (ex, ey, ez, ea, eb, ec)

@@ -2,7 +2,6 @@
 use statistics::Statistic;
 ghost use mathlib.Core.Path.{_≡_};
 ghost use mathlib.Core.Bool.{cond};
-ghost use Rattle.statistics.specs.Hits.{hit};
 ghost use Rattle.way_hits.specs.WayHits.{asRight, hitsOf};
 
 // How many kept samples were found to be in their own group, or none where `dapc` refuses.
@@ -48,7 +47,7 @@ fn one_if(yes: bool) -> usize
 
 // Which of the three that were observed a way's own are hits of: 1 for each.
 pub fn hits_of(observed: Seen, found: Seen) -> Hits
-    ensures { λ r. ⌜ r ≡ hitsOf (hit (observed .location) (found .location)) (hit (observed .dispersion) (found .dispersion)) (asRight (observed .assignment) (found .assignment)) ⌝ }
+    ensures { λ r. ⌜ r ≡ hitsOf observed found ⌝ }
 {
     let a = observed.location;
     let b = found.location;

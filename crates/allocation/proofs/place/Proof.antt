@@ -1,91 +1,112 @@
--- `allocation::place` meets its contract. Room of its own.
+-- `allocation::place` meets its contract. Directions, scores, groups.
 -- Assumes nothing.
-
-use mathlib.Core.Path.{sym}
-use Prim.Native.Nat.{_*_}
-use native.Mathlib.Nat.{mul-le-mul}
+use mathlib.Core.Path.{sym, ap, _∙_}
+use mathlib.Core.List.{List}
+use Prim.Native.Nat.{ℕ, _*_}
 use native.Mathlib.Omega.{arith}
+use borrow.Author.Needs.{needs}
+use lib.ListN.{length, replicate}
 use lib.Seq.{length-take-le}
+use lib.Ieee.{Float}
 use Rattle.float.specs.Floats.{zero⁺}
+use Rattle.lists.proofs.Rows.{part-rest}
 use Rattle.lists.proofs.Parts.{take-replicate}
-use Rattle.discriminant.proofs.Outputs.{axes-most}
+use Rattle.designs.proofs.Fronts.{Back, back}
+use Rattle.triangular.specs.Triangular.{solveRows}
+use Rattle.allocation.proofs.Outputs.{located, length-vectors, axes-few, directions-fit, centroids-fit}
 use Rattle.allocation.proofs.place.Statement.{statement}
 use Rattle.allocation.proofs.place.Tie as tie
 
-mul-vs : tie.Need-mul-vs
-mul-vs c =
-    let at-start = c .before .before .before .before .before .before .before .before .before .before in
-    let a = at-start .args in
-    omega (arith, mul-le-mul {n₁ = a .axes} {m₁ = a .p} {n₂ = 16} {m₂ = 16} (omega (arith, axes-most (a .axes) (a .g) (a .p) (at-start .pre .0 .axial), at-start .pre .0 .narrow)) (at-start .pre .0 .narrow))
+abbrev start : tie.After-solve-rows → tie.Start
+start c = c .before .before .before .before .before .before .before .before .before .before .before .before
 
-array-borrow-prefix-vs : tie.Need-array-borrow-prefix-vs
-array-borrow-prefix-vs c =
-    let at-start = c .before .before .before .before .before .before .before .before .before .before in
-    let a = at-start .args in
-    omega (arith, mul-le-mul {n₁ = a .axes} {m₁ = a .p} {n₂ = 16} {m₂ = 16} (omega (arith, axes-most (a .axes) (a .g) (a .p) (at-start .pre .0 .axial), at-start .pre .0 .narrow)) (at-start .pre .0 .narrow))
+abbrev solved : tie.After-write-scores → tie.After-solve-rows
+solved c = c .before .before .before .before .before
 
-slice-aggregate-locate : tie.Need-slice-aggregate-locate
-slice-aggregate-locate c =
-    let at-start = c .before .before .before .before .before .before .before .before .before .before .before in
-    let a = at-start .args in
-    sym (length-take-le _ _ (omega (arith, mul-le-mul {n₁ = a .axes} {m₁ = a .p} {n₂ = 16} {m₂ = 16} (omega (arith, axes-most (a .axes) (a .g) (a .p) (at-start .pre .0 .axial), at-start .pre .0 .narrow)) (at-start .pre .0 .narrow))))
+abbrev scored : tie.After-conclude → tie.After-write-scores
+scored c = c .before .before .before .before .before .before .before
 
-mul-cen : tie.Need-mul-cen
-mul-cen c =
-    let at-start = c .before .before .before .before .before .before .before .before .before .before .before in
-    let a = at-start .args in
-    omega (arith, mul-le-mul {n₁ = a .g} {m₁ = a .axes} {n₂ = 128} {m₂ = 16} (at-start .pre .0 .most) (omega (arith, axes-most (a .axes) (a .g) (a .p) (at-start .pre .0 .axial), at-start .pre .0 .narrow)))
+-- the directions stand at the front of an array of zeros
+abbrev zeros : List Float
+zeros = replicate 256 zero⁺
 
-array-borrow-prefix-cen : tie.Need-array-borrow-prefix-cen
-array-borrow-prefix-cen c =
-    let at-start = c .before .before .before .before .before .before .before .before .before .before .before in
-    let a = at-start .args in
-    omega (arith, mul-le-mul {n₁ = a .g} {m₁ = a .axes} {n₂ = 128} {m₂ = 16} (at-start .pre .0 .most) (omega (arith, axes-most (a .axes) (a .g) (a .p) (at-start .pre .0 .axial), at-start .pre .0 .narrow)))
+abbrev many : tie.Start → ℕ
+many s = s .args .sizes .axes * s .args .sizes .lead
 
-slice-aggregate-locate-2 : tie.Need-slice-aggregate-locate-2
-slice-aggregate-locate-2 c =
-    let at-start = c .before .before .before .before .before .before .before .before .before .before .before .before in
-    let a = at-start .args in
-    sym (length-take-le _ _ (omega (arith, mul-le-mul {n₁ = a .g} {m₁ = a .axes} {n₂ = 128} {m₂ = 16} (at-start .pre .0 .most) (omega (arith, axes-most (a .axes) (a .g) (a .p) (at-start .pre .0 .axial), at-start .pre .0 .narrow)))))
+directions : (c : tie.After-solve-rows) → Back (many (start c)) zeros (c .solve-rows .last .0)
+directions c = back (many (start c)) zeros (c .solve-rows .last .0) (directions-fit (start c .pre .ready)) (c .solve-rows .kept .0)
 
-array-borrow-prefix-d : tie.Need-array-borrow-prefix-d
-array-borrow-prefix-d c =
-    let pre = c .before .before .before .before .before .before .before .before .before .before .before .before .pre in
-    omega (arith, pre .0 .narrow)
+solve-rows-requires : tie.Need-solve-rows-requires
+solve-rows-requires c κs =
+    let s = c .before .before .before .before .before .before .before .before .before .before .before in
+    let p = s .args .sizes .lead in
+    (take-replicate (many s) 256 zero⁺ (directions-fit (s .pre .ready)), s .pre .factor, length-vectors p (p * p) (s .args .ev .now) (s .pre .pairs), axes-few (s .pre .ready))
 
-slice-aggregate-locate-3 : tie.Need-slice-aggregate-locate-3
-slice-aggregate-locate-3 c =
-    let pre = c .before .before .before .before .before .before .before .before .before .before .before .before .before .pre in
-    sym (length-take-le _ _ (omega (arith, pre .0 .narrow)))
+write-scores-requires : tie.Need-write-scores-requires
+write-scores-requires c κs =
+    let at = c .before .before .before .before in
+    let pre = start at .pre in
+    let r = pre .ready in
+    record {
+      room = r .room;
+      row = length-take-le _ _ (r .narrow);
+      values = omega (arith, pre .pairs, axes-few r);
+      directions = length-take-le _ _ (directions at .fits);
+      means = pre .means;
+      coordinates = r .coordinates;
+      leads = r .leads;
+    }
 
-locate-requires : tie.Need-locate-requires
-locate-requires c κs =
-    let at-start = c .before .before .before .before .before .before .before .before .before .before .before .before .before in
-    let a = at-start .args in
-    (at-start .pre .0, ((take-replicate (a .axes * a .p) 256 zero⁺ (omega (arith, mul-le-mul {n₁ = a .axes} {m₁ = a .p} {n₂ = 16} {m₂ = 16} (omega (arith, axes-most (a .axes) (a .g) (a .p) (at-start .pre .0 .axial), at-start .pre .0 .narrow)) (at-start .pre .0 .narrow))), take-replicate (a .g * a .axes) 2048 zero⁺ (omega (arith, mul-le-mul {n₁ = a .g} {m₁ = a .axes} {n₂ = 128} {m₂ = 16} (at-start .pre .0 .most) (omega (arith, axes-most (a .axes) (a .g) (a .p) (at-start .pre .0 .axial), at-start .pre .0 .narrow)))), length-take-le _ _ (omega (arith, at-start .pre .0 .narrow))), at-start .pre .1))
-
-same-length : tie.Need-same-length
-same-length c = c .before .before .before .before .before .before .before .locate .kept .0
-
-same-length-2 : tie.Need-same-length-2
-same-length-2 c = c .before .before .before .before .before .before .before .locate .kept .1 .0
+conclude-requires : tie.Need-conclude-requires
+conclude-requires c κs =
+    let at = c .before .before .before .before .before .before in
+    let s = start (solved at) in
+    let r = s .pre .ready in
+    record {
+      room = omega (arith, r .room, at .write-scores .kept .0);
+      places = r .places;
+      centroids = take-replicate (s .args .sizes .groups * s .args .sizes .axes) 2048 zero⁺ (centroids-fit r);
+      counted = s .pre .counted;
+      two = r .two;
+      most = r .most;
+      numbered = r .numbered;
+      few = r .few;
+    }
 
 returns : tie.Need-returns
-returns c = c .before .before .before .before .before .before .before .locate .ensures
+returns c =
+    let concluded = c .before .before .before .before .before in
+    let at = scored concluded in
+    let s = start (solved at) in
+    let a = s .args in
+    let d = a .sizes in
+    let r = s .pre .ready in
+    located (length (a .groups .now)) (d .columns) (d .lead) (d .axes) (d .groups) (a .x .now) (a .groups .now) (a .mean .now) (a .l .now) (a .ev .now) (a .out .now) (a .assigned .now)
+    (r .axial) (axes-few r) (omega (arith, s .pre .pairs))
+    (directions (solved at) .front ∙ solved at .solve-rows .ensures ∙ ap (solveRows (d .axes) (d .lead) (a .l .now)) (part-rest (a .ev .now) (d .lead)))
+    (at .write-scores .ensures) (concluded .conclude .ensures)
 
 pub place-spec : {M : Type 1} → statement M
 place-spec =
     tie.close
     (tie.spec
-    mul-vs
-    array-borrow-prefix-vs
-    slice-aggregate-locate
-    mul-cen
-    array-borrow-prefix-cen
-    slice-aggregate-locate-2
-    array-borrow-prefix-d
-    slice-aggregate-locate-3
-    locate-requires
-    same-length
-    same-length-2
+    (λ c. omega (arith, directions-fit (c .before .before .before .before .before .before .before .before .pre .ready)))
+    (λ c. omega (arith, centroids-fit (c .before .before .before .before .before .before .before .before .before .pre .ready)))
+    (λ c. directions-fit (c .before .before .before .before .before .before .before .before .before .pre .ready))
+    (λ c. sym (length-take-le _ _ (directions-fit (c .before .before .before .before .before .before .before .before .before .before .pre .ready))))
+    (λ c. search needs)
+    (λ c. search needs)
+    (λ c. search needs)
+    (λ c. search needs)
+    solve-rows-requires
+    (λ c. search needs)
+    (λ c. sym (length-take-le _ _ (start (c .before .before .before) .pre .ready .narrow)))
+    (λ c. directions (c .before .before .before) .fits)
+    (λ c. sym (length-take-le _ _ (directions (c .before .before .before .before) .fits)))
+    write-scores-requires
+    (λ c. centroids-fit (start (solved (c .before .before .before .before .before)) .pre .ready))
+    (λ c. sym (length-take-le _ _ (centroids-fit (start (solved (c .before .before .before .before .before .before)) .pre .ready))))
+    conclude-requires
+    (λ c. search needs)
+    (λ c. search needs)
     returns)

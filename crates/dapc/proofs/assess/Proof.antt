@@ -1,74 +1,81 @@
--- `dapc::assess` meets its contract. The groups that the labels give are ready for the scores.
+-- `dapc::assess` meets its contract. The design's groups on its samples are ready for the scores.
 -- Assumes nothing.
-
-use mathlib.Core.Path.{sym, ap, _∙_}
-use Prim.Native.Nat.{_-_}
+use mathlib.Core.Path.{_≡_, sym, subst, _∙_}
+use mathlib.Core.List.{List, _++_}
+use Prim.Native.Nat.{ℕ, _≤_}
 use native.Mathlib.Omega.{arith}
 use borrow.Author.Needs.{needs}
-use lib.ListN.{length, take}
+use lib.ListN.{length, take, drop, replicate}
 use lib.Seq.{length-take-le}
-use Rattle.discriminant.specs.Dapc.{discriminate}
-use Rattle.lists.proofs.Writes.{take-over}
-use Rattle.lot.specs.Kept.{groupEach}
-use Rattle.dapc.proofs.Grouping.{length-each}
-use Rattle.dapc.proofs.Whole.{kept-grouped, made-ready, assessed}
+use Rattle.lists.specs.Numbers.{Below}
+use Rattle.lot.specs.Lot.{none}
+use Rattle.kept.proofs.Placed.{placed-fits, placed-front}
+use Rattle.designs.specs.Designs.{keptOf, groupsOf}
+use Rattle.dapc.specs.Inner.{eachOf}
+use Rattle.dapc.proofs.Whole.{groups-ready, scores-are}
 use Rattle.dapc.proofs.assess.Statement.{statement}
 use Rattle.dapc.proofs.assess.Tie as tie
 
-leading-of-requires : tie.Need-leading-of-requires
-leading-of-requires c κs = search needs
+abbrev start : tie.After-each → tie.Start
+start c = c .before .before .before .before .before .before
 
-fill-group-each-requires : tie.Need-fill-group-each-requires
-fill-group-each-requires c κs =
-    let pre = c .before .before .before .before .before .before .before .before .pre in
-    (omega (arith, pre .0 .few), pre .1 .0, pre .0 .numbersFit)
+-- room for a group for each sample, none of which has one
+abbrev room : List ℕ
+room = replicate 256 none
 
-slice-reshare-prefix-discriminate : tie.Need-slice-reshare-prefix-discriminate
-slice-reshare-prefix-discriminate c =
-    let pre = c .before .before .before .before .before .before .before .before .before .before .before .before .before .pre in
-    omega (arith, c .before .before .before .before .fill-group-each .kept .1 .1 .0, pre .0 .numbersFit)
+room-long : (s : tie.Start) → length (take (s .args .d .n) room) ≡ s .args .d .n
+room-long s = length-take-le (s .args .d .n) room (s .pre .few)
 
-slice-aggregate-discriminate : tie.Need-slice-aggregate-discriminate
-slice-aggregate-discriminate c =
-    let fill-group-each = c .before .before .before .before .before .fill-group-each in
-    let args = c .before .before .before .before .before .before .before .before .before .before .before .before .before .before .args in
-    let pre = c .before .before .before .before .before .before .before .before .before .before .before .before .before .before .pre in
-    sym (length-take-le (length (args .labels .now)) (fill-group-each .last .1 .1 .0) (omega (arith, fill-group-each .kept .1 .1 .0, pre .0 .numbersFit)))
+samples-fit : (s : tie.Start) → s .args .d .kept ≤ length (s .args .d .samples)
+samples-fit s = let long : length (s .args .d .samples) ≡ 256 = search needs in omega (arith, s .pre .keptFew)
 
-discriminate-requires : tie.Need-discriminate-requires
-discriminate-requires c κs =
-    let after-fill-group-each = c .before .before .before .before .before in
-    let after-leading-of = after-fill-group-each .before .before in
-    let start = after-leading-of .before .before .before .before .before .before .before in
-    (made-ready (start .args .columns) (start .args .m) (start .args .g) (after-leading-of .leading-of .result) (start .args .x .now) (start .args .labels .now) (length (start .args .out .now)) (length (start .args .assigned .now)) (length (start .args .each .now)) (start .pre .0) (start .pre .1 .1) (start .pre .1 .2) (after-leading-of .leading-of .ensures) (take (length (start .args .labels .now)) (after-fill-group-each .fill-group-each .last .1 .1 .0)) (ap (take (length (start .args .labels .now))) (after-fill-group-each .fill-group-each .ensures) ∙ take-over (groupEach (start .args .labels .now)) (start .args .each .now) (length (start .args .labels .now)) (length-each (start .args .labels .now))) (start .pre .1 .3), kept-grouped (start .args .columns) (start .args .m) (start .args .g) (after-leading-of .leading-of .result) (start .args .x .now) (start .args .labels .now) (length (start .args .out .now)) (length (start .args .assigned .now)) (length (start .args .each .now)) (start .pre .0) (start .pre .1 .1) (start .pre .1 .2) (after-leading-of .leading-of .ensures) (take (length (start .args .labels .now)) (after-fill-group-each .fill-group-each .last .1 .1 .0)) (ap (take (length (start .args .labels .now))) (after-fill-group-each .fill-group-each .ensures) ∙ take-over (groupEach (start .args .labels .now)) (start .args .each .now) (length (start .args .labels .now)) (length-each (start .args .labels .now))))
+groups-fit : (s : tie.Start) → s .args .d .kept ≤ length (s .args .d .group)
+groups-fit s = let long : length (s .args .d .group) ≡ 256 = search needs in omega (arith, s .pre .keptFew)
 
-same-length : tie.Need-same-length
-same-length c = c .before .before .before .before .discriminate .kept .0
+abbrev begun : tie.After-place → tie.Start
+begun c = start (c .before .before .before)
 
-same-length-2 : tie.Need-same-length-2
-same-length-2 c = c .before .before .before .before .discriminate .kept .1 .0
+-- the groups of all samples
+abbrev each : tie.After-place → List ℕ
+each c = c .place .last .0 ++ drop (begun c .args .d .n) room
 
-same-length-3 : tie.Need-same-length-3
-same-length-3 c = c .before .before .before .before .before .before .before .before .before .before .fill-group-each .kept .1 .1 .0
+fits : (c : tie.After-place) → begun c .args .d .n ≤ length (each c)
+fits c =
+    let d = begun c .args .d in
+    placed-fits (d .n) (begun c .pre .few) (keptOf d) (groupsOf d) (c .place .ensures) (c .place .kept .0)
 
-returns : tie.Need-returns
-returns c =
-    let after-discriminate = c .before .before .before .before in
-    let after-fill-group-each = after-discriminate .before .before .before .before .before .before in
-    let after-leading-of = after-fill-group-each .before .before in
-    let start = after-leading-of .before .before .before .before .before .before .before in
-    assessed (start .args .columns) (start .args .m) (start .args .g) (after-leading-of .leading-of .result) (start .args .x .now) (start .args .labels .now) (length (start .args .out .now)) (length (start .args .assigned .now)) (length (start .args .each .now)) (start .pre .0) (start .pre .1 .1) (start .pre .1 .2) (after-leading-of .leading-of .ensures) (take (length (start .args .labels .now)) (after-fill-group-each .fill-group-each .last .1 .1 .0)) (ap (take (length (start .args .labels .now))) (after-fill-group-each .fill-group-each .ensures) ∙ take-over (groupEach (start .args .labels .now)) (start .args .each .now) (length (start .args .labels .now)) (length-each (start .args .labels .now))) (start .args .out .now) (start .args .assigned .now) (after-discriminate .discriminate .ensures)
+long : (c : tie.After-place) → length (take (begun c .args .d .n) (each c)) ≡ begun c .args .d .n
+long c = length-take-le (begun c .args .d .n) (each c) (fits c)
+
+front : (c : tie.After-place) → take (begun c .args .d .n) (each c) ≡ eachOf (begun c .args .d)
+front c =
+    let d = begun c .args .d in
+    placed-front (d .n) (begun c .pre .few) (keptOf d) (groupsOf d) (c .place .ensures) (c .place .kept .0)
+
+abbrev put : tie.After-each3 → tie.After-place
+put c = c .before .before .before .before .before
 
 pub assess-spec : {M : Type 1} → statement M
 assess-spec =
     tie.close
     (tie.spec
-    leading-of-requires
-    fill-group-each-requires
-    slice-reshare-prefix-discriminate
-    slice-aggregate-discriminate
-    discriminate-requires
-    same-length
-    same-length-2
-    same-length-3
-    returns)
+    (λ c. search needs)
+    (λ c. sym (room-long (start c)))
+    (λ c. samples-fit (start c))
+    (λ c. sym (length-take-le _ _ (samples-fit (start (c .before)))))
+    (λ c. groups-fit (start (c .before)))
+    (λ c. sym (length-take-le _ _ (groups-fit (start (c .before .before)))))
+    (λ c κs.
+    let s = start (c .before .before) in
+    (length-take-le _ _ (groups-fit s) ∙ sym (length-take-le _ _ (samples-fit s)), subst (λ (n : ℕ). Below n (keptOf (s .args .d))) (sym (room-long s)) (s .pre .samples)))
+    (λ c κs. search needs)
+    (λ c. fits (c .before .before .before .before))
+    (λ c. sym (long (put c)))
+    (λ c κs. groups-ready (begun (put c) .pre) (front (put c)) (c .before .before .before .leading-of .ensures))
+    (λ c. search needs)
+    (λ c. search needs)
+    (λ c.
+    let scored = c .before .before .before .before in
+    let at = put (scored .before) in
+    scores-are (begun at .pre) (front at) (scored .before .before .before .before .leading-of .ensures) (begun at .args .out .now) (begun at .args .assigned .now)
+    (long at) (scored .discriminate .ensures)))

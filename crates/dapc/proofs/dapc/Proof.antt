@@ -1,68 +1,44 @@
 -- `dapc::dapc` meets its contract. By whether a line of the table holds.
 -- Assumes nothing.
-
-use mathlib.Core.Path.{sym, ap, _∙_}
-use Prim.Native.Nat.{ℕ, _*_, _-_}
-use native.Mathlib.Omega.{arith}
+use mathlib.Core.Path.{_≡_, sym, _∙_}
 use borrow.Author.Needs.{needs}
 use lib.ListN.{length}
-use Rattle.dapc_lines.proofs.Lines.{passed-shape}
-use Rattle.dapc.proofs.Whole.{call-refused, call-passed}
+use Rattle.outcome.specs.declared.Check.the-variants.{Passed}
+use Rattle.outcome.specs.Refusals.{first}
+use Rattle.dapc_lines.specs.DapcLines.{shapeLines}
+use Rattle.dapc.proofs.Whole.{call-refused, call-sized, call-passed}
 use Rattle.dapc.proofs.dapc.Statement.{statement}
 use Rattle.dapc.proofs.dapc.Tie as tie
 
-check-requires : tie.Need-check-requires
-check-requires c κs = search needs
+abbrev start : tie.After-check → tie.Start
+start c = c .before .before .before .before .before
 
-enum-known-c : tie.Need-enum-known-c
-enum-known-c c = search needs
+abbrev checked : tie.After-enum-told → tie.After-check
+checked c = c .before .before
 
-enum-told : tie.Need-enum-told
-enum-told c = search needs
-
-judge-in-requires : tie.Need-judge-in-requires
-judge-in-requires c κs =
-    let args = c .before .before .before .before .before .before .before .before .before .args in
-    let s = passed-shape (args .n) (args .columns) (args .x .now) (length (args .labels .now)) (length (args .out .now)) (length (args .assigned .now)) (sym (c .before .before .enum-told .given .1) ∙ c .before .before .before .before .check .ensures) in
-    let e = s .labelled in
-    record {
-      coordinates = s .coordinates ∙ ap (λ (k : ℕ). k * args .columns) (sym e);
-      few = omega (arith, s .few);
-      narrow = s .narrow;
-      room = omega (arith, s .room, ap (λ (k : ℕ). k * args .columns) e);
-      places = omega (arith, s .places);
-      numbersFit = omega (arith, s .few);
-    }
-
-returns : tie.Need-returns
-returns c =
-    let after-check = c .before .before .before in
-    let start = after-check .before .before .before .before .before in
-    call-refused (start .args .n) (start .args .columns) (start .args .x .now) (start .args .labels .now) (start .args .out .now) (start .args .assigned .now) (sym (c .before .c .given .1) ∙ after-check .check .ensures)
-
-same-length : tie.Need-same-length
-same-length c = c .before .before .before .before .judge-in .kept .0
-
-same-length-2 : tie.Need-same-length-2
-same-length-2 c = c .before .before .before .before .judge-in .kept .1 .0
-
-returns-2 : tie.Need-returns-2
-returns-2 c =
-    let after-judge-in = c .before .before .before .before in
-    let after-enum-told = after-judge-in .before .before .before in
-    let after-check = after-enum-told .before .before in
-    let start = after-check .before .before .before .before .before in
-    call-passed (start .args .n) (start .args .columns) (start .args .x .now) (start .args .labels .now) (start .args .out .now) (start .args .assigned .now) (sym (after-enum-told .enum-told .given .1) ∙ after-check .check .ensures) (passed-shape (start .args .n) (start .args .columns) (start .args .x .now) (length (start .args .labels .now)) (length (start .args .out .now)) (length (start .args .assigned .now)) (sym (after-enum-told .enum-told .given .1) ∙ after-check .check .ensures) .labelled) (after-judge-in .judge-in .ensures)
+passed : (c : tie.After-enum-told) → let a = start (checked c) .args in
+    Passed ≡ first (shapeLines (a .n) (a .columns) (a .x .now) (length (a .labels .now)) (length (a .out .now)) (length (a .assigned .now)))
+passed c = sym (c .enum-told .given .1) ∙ checked c .check .ensures
 
 pub dapc-spec : {M : Type 1} → statement M
 dapc-spec =
     tie.close
     (tie.spec
-    check-requires
-    enum-known-c
-    enum-told
-    judge-in-requires
-    returns
-    same-length
-    same-length-2
-    returns-2)
+    (λ c κs. search needs)
+    (λ c. search needs)
+    (λ c. search needs)
+    (λ c κs.
+    let told = c .before .before in
+    let a = start (checked told) .args in
+    call-sized (a .n) (a .columns) (a .x .now) (a .labels .now) (a .out .now) (a .assigned .now) (passed told))
+    (λ c.
+    let at = c .before .before .before in
+    let a = start at .args in
+    call-refused (a .n) (a .columns) (a .x .now) (a .labels .now) (a .out .now) (a .assigned .now) (sym (c .before .c .given .1) ∙ at .check .ensures))
+    (λ c. search needs)
+    (λ c. search needs)
+    (λ c.
+    let judged = c .before .before .before .before in
+    let told = judged .before .before .before in
+    let a = start (checked told) .args in
+    call-passed (a .n) (a .columns) (a .x .now) (a .labels .now) (a .out .now) (a .assigned .now) (passed told) (judged .judge .ensures)))

@@ -1,127 +1,50 @@
--- `dapc::judge` meets its contract. By whether line 5 or 9 holds.
+-- `dapc::judge` meets its contract. By whether line 5 or 9 holds of the design.
 -- Assumes nothing.
-
-use mathlib.Core.Path.{sym, ap₂, _∙_}
-use Prim.Native.Nat.{ℕ, _-_}
-use native.Mathlib.Omega.{arith}
+use mathlib.Core.Path.{sym, _∙_}
 use borrow.Author.Needs.{needs}
-use lib.ListN.{length}
-use Rattle.discriminant.specs.Dapc.{axesOf, leading, dapc}
-use Rattle.discriminant.specs.Outputs.{leaves}
-use Rattle.dapc_lines.specs.DapcLines.{groupLines}
-use Rattle.lot.specs.Kept.{groupEach}
-use Rattle.lot.proofs.Fills.{filled-front, filled-part}
-use Rattle.lot.proofs.Samples.{names-few}
-use Rattle.dapc_lines.proofs.Lines.{passed-groups}
-use Rattle.dapc.proofs.Whole.{groups-refused, groups-passed, counts-are}
-use Rattle.outcome.specs.Refusals.{first}
+use Rattle.dapc.proofs.Whole.{scorable, groups-scored, groups-refused-by}
 use Rattle.dapc.proofs.judge.Statement.{statement}
 use Rattle.dapc.proofs.judge.Tie as tie
 
-group-requires : tie.Need-group-requires
-group-requires c κs =
-    let pre = c .before .before .before .before .before .before .before .before .before .before .pre in
-    (omega (arith, pre .0 .few), pre .1, pre .2, pre .0 .numbersFit)
+abbrev designed : tie.After-check-groups → tie.After-design-of
+designed c = c .before
 
-check-groups-requires : tie.Need-check-groups-requires
-check-groups-requires c κs = search needs
-
-enum-known-c : tie.Need-enum-known-c
-enum-known-c c = search needs
-
-enum-told : tie.Need-enum-told
-enum-told c = search needs
-
-slice-reshare-prefix-assess : tie.Need-slice-reshare-prefix-assess
-slice-reshare-prefix-assess c =
-    let group = c .before .before .before .before .before .before .before .before .before .before .before .before .group in
-    let args = c .before .before .before .before .before .before .before .before .before .before .before .before .before .before .before .before .before .before .before .before .before .before .before .args in
-    let pre = c .before .before .before .before .before .before .before .before .before .before .before .before .before .before .before .before .before .before .before .before .before .before .before .pre in
-    omega (arith, group .ensures .labelled .many, names-few (args .labels .now), pre .2, group .kept .1 .1 .0)
-
-slice-aggregate-assess : tie.Need-slice-aggregate-assess
-slice-aggregate-assess c =
-    let after-group = c .before .before .before .before .before .before .before .before .before .before .before .before .before in
-    filled-part _ (after-group .group .ensures .labelled)
+abbrev start : tie.After-design-of → tie.Start
+start c = c .before .before .before .before .before
 
 assess-requires : tie.Need-assess-requires
 assess-requires c κs =
-    let counts = counts-are (c .before .before .before .before .before .before .before .before .before .before .before .before .before .before .before .before .before .before .before .before .before .before .before .before .args .labels .now) (c .before .before .before .before .before .before .before .before .before .before .before .before .before .group .ensures) in
-    let passed = passed-groups (c .before .before .before .before .before .before .before .before .before .before .before .before .before .before .before .before .before .before .before .before .before .before .before .before .args .columns) (c .before .before .before .before .before .before .before .before .before .before .before .before .before .group .result .kept) (c .before .before .before .before .before .before .before .before .before .before .before .before .before .group .result .groups) (sym (c .before .before .before .before .enum-told .given .1) ∙ c .before .before .before .before .before .before .check-groups .ensures) in
-    let s = c .before .before .before .before .before .before .before .before .before .before .before .before .before .before .before .before .before .before .before .before .before .before .before .before .pre .0 in (
-      record {
-        coordinates = s .coordinates;
-        few = s .few;
-        narrow = s .narrow;
-        room = s .room;
-        places = s .places;
-        numbersFit = omega (arith, s .numbersFit, c .before .before .before .before .before .before .before .before .before .before .before .before .before .group .kept .1 .1 .1 .0);
-      },
-      (filled-front _ (c .before .before .before .before .before .before .before .before .before .before .before .before .before .group .ensures .labelled), counts .0, counts .1, passed .0),
-    )
-
-same-length : tie.Need-same-length
-same-length c = search needs
-
-same-length-2 : tie.Need-same-length-2
-same-length-2 c = search needs
-
-same-length-3 : tie.Need-same-length-3
-same-length-3 c = search needs
+    let told = c .before .before in
+    let checked = told .before .before in
+    let s = start (designed checked) in
+    scorable (s .args .columns) (s .args .x .now) (s .args .labels .now) (designed checked .design-of .ensures) (s .pre) (sym (told .enum-told .given .1) ∙ checked .check-groups .ensures)
 
 returns : tie.Need-returns
 returns c =
-    let after-check-groups = c .before .before .before in
-    let after-group = after-check-groups .before .before .before .before .before .before .before in
-    let start = after-group .before .before .before .before .before .before .before .before .before .before .before in
-    let counts = counts-are (start .args .labels .now) (after-group .group .ensures) in
-    groups-refused (length (start .args .labels .now)) (start .args .columns) (start .args .x .now) (start .args .labels .now) (start .args .out .now) (start .args .assigned .now) (sym (c .before .c .given .1) ∙ after-check-groups .check-groups .ensures ∙ ap₂ (λ (m g : ℕ). first (groupLines (start .args .columns) m g)) (counts .0) (counts .1))
-
-same-length-4 : tie.Need-same-length-4
-same-length-4 c = search needs
-
-same-length-5 : tie.Need-same-length-5
-same-length-5 c = search needs
-
-same-length-6 : tie.Need-same-length-6
-same-length-6 c = search needs
-
-same-length-7 : tie.Need-same-length-7
-same-length-7 c = search needs
-
-same-length-8 : tie.Need-same-length-8
-same-length-8 c = search needs
+    let checked = c .before .before .before in
+    let s = start (designed checked) in
+    groups-refused-by (s .args .columns) (s .args .x .now) (s .args .labels .now) (designed checked .design-of .ensures) (s .args .out .now) (s .args .assigned .now)
+    (sym (c .before .c .given .1) ∙ checked .check-groups .ensures)
 
 returns-2 : tie.Need-returns-2
 returns-2 c =
-    let after-assess = c .before .before .before .before .before .before in
-    let after-enum-told = after-assess .before .before .before .before .before in
-    let after-check-groups = after-enum-told .before .before in
-    let after-group = after-check-groups .before .before .before .before .before .before .before in
-    let start = after-group .before .before .before .before .before .before .before .before .before .before .before in
-    let counts = counts-are (start .args .labels .now) (after-group .group .ensures) in
-    groups-passed (length (start .args .labels .now)) (start .args .columns) (start .args .x .now) (start .args .labels .now) (start .args .out .now) (start .args .assigned .now) (sym (after-enum-told .enum-told .given .1) ∙ after-check-groups .check-groups .ensures ∙ ap₂ (λ (m g : ℕ). first (groupLines (start .args .columns) m g)) (counts .0) (counts .1))
-    (after-assess .assess .ensures
-    ∙ ap₂ (λ (m g : ℕ). leaves (length (start .args .labels .now)) (leading (start .args .columns) m g) (axesOf g (leading (start .args .columns) m g)) (dapc (length (start .args .labels .now)) (start .args .columns) (start .args .x .now) (groupEach (start .args .labels .now)) g) (start .args .out .now) (start .args .assigned .now)) (counts .0) (counts .1))
+    let assessed = c .before .before .before .before in
+    let told = assessed .before .before .before in
+    let checked = told .before .before in
+    let s = start (designed checked) in
+    groups-scored (s .args .columns) (s .args .x .now) (s .args .labels .now) (designed checked .design-of .ensures) (s .args .out .now) (s .args .assigned .now) (s .pre .few)
+    (sym (told .enum-told .given .1) ∙ checked .check-groups .ensures) (assessed .assess .ensures)
 
 pub judge-spec : {M : Type 1} → statement M
 judge-spec =
     tie.close
     (tie.spec
-    group-requires
-    check-groups-requires
-    enum-known-c
-    enum-told
-    slice-reshare-prefix-assess
-    slice-aggregate-assess
+    (λ c κs. search needs)
+    (λ c κs. search needs)
+    (λ c. search needs)
+    (λ c. search needs)
     assess-requires
-    same-length
-    same-length-2
-    same-length-3
     returns
-    same-length-4
-    same-length-5
-    same-length-6
-    same-length-7
-    same-length-8
+    (λ c. search needs)
+    (λ c. search needs)
     returns-2)

@@ -1,108 +1,100 @@
--- `exhaustive::exhaustive` meets its contract. Lines 1 to 5, and then the lot.
+-- `exhaustive::exhaustive` meets its contract. Lines 1 to 5, the design, line 8, and then the rest.
 -- Assumes nothing.
-use mathlib.Core.Path.{sym, _∙_}
-use Prim.Native.Nat.{_-_}
+use mathlib.Core.Path.{_≡_, sym, _∙_}
+use native.Mathlib.Omega.{arith}
 use borrow.Author.Needs.{needs}
-use Rattle.every_way.specs.Call.{slicesOf}
-use Rattle.passed_lot.proofs.Whole.{early-is, call-refused, short-is}
-use Rattle.lot.specs.Lot.{lotOf}
+use Rattle.outcome.specs.declared.Check.the-variants.{Passed}
+use Rattle.lot.specs.Lot.{Lot, lotOf}
+use Rattle.designs.specs.Designs.{Describes}
+use Rattle.designs.proofs.Designs.{designs-lot}
+use Rattle.ways.specs.Ways.{wayCount}
+use Rattle.ways.proofs.Number.{few-ways}
+use Rattle.every_way.specs.Call.{Slices, slicesOf, early}
+use Rattle.exhaustive.specs.Inner.{Passing}
+use Rattle.exhaustive.proofs.Passing.{designable, design-sound, same-n, passing-by}
+use Rattle.exhaustive.proofs.Whole.{short-is, early-is, call-refused, call-many, call-passed, call-by}
 use Rattle.exhaustive.proofs.exhaustive.Statement.{statement}
 use Rattle.exhaustive.proofs.exhaustive.Tie as tie
 
-too-short-requires : tie.Need-too-short-requires
-too-short-requires c κs = search needs
+-- ---- once the table is asked
 
-check-lot-requires : tie.Need-check-lot-requires
-check-lot-requires c κs = search needs
+abbrev start : tie.After-check-lot → tie.Start
+start c = c .before .before .before .before .before .before .before .before .before .before .before .before .before .before .before
 
-enum-known-c : tie.Need-enum-known-c
-enum-known-c c = search needs
+abbrev lot : tie.After-check-lot → Lot
+lot c = let a = start c .args in lotOf (a .n) (a .distances .now) (a .labels .now) (a .stratified) (a .strata .now) (a .weighted) (a .weights .now)
 
-enum-told : tie.Need-enum-told
-enum-told c = search needs
+abbrev lent : tie.After-check-lot → Slices
+lent c =
+    let a = start c .args in
+    slicesOf (a .names .now) (a .counts .now) (a .means .now) (a .terms .now) (a .pulls .now) (a .coords .now) (a .room .now) (a .vectors .now) (a .rows .now)
 
-judge-requires : tie.Need-judge-requires
-judge-requires c κs =
-    let after-enum-told = c .before .before .before .before .before .before .before .before .before in
-    let after-check-lot = after-enum-told .before .before in
-    let after-too-short = after-check-lot .before in
-    let start = after-too-short .before .before .before .before .before .before .before .before .before .before .before .before .before .before in
-    sym (early-is (lotOf (start .args .n) (start .args .distances .now) (start .args .labels .now) (start .args .stratified) (start .args .strata .now) (start .args .weighted) (start .args .weights .now)) (slicesOf (start .args .names .now) (start .args .counts .now) (start .args .means .now) (start .args .terms .now) (start .args .pulls .now) (start .args .coords .now) (start .args .room .now) (start .args .vectors .now) (start .args .rows .now)) (short-is (lotOf (start .args .n) (start .args .distances .now) (start .args .labels .now) (start .args .stratified) (start .args .strata .now) (start .args .weighted) (start .args .weights .now)) (slicesOf (start .args .names .now) (start .args .counts .now) (start .args .means .now) (start .args .terms .now) (start .args .pulls .now) (start .args .coords .now) (start .args .room .now) (start .args .vectors .now) (start .args .rows .now)) (after-too-short .too-short .ensures)) (after-check-lot .check-lot .ensures)) ∙ after-enum-told .enum-told .given .1
+told : (c : tie.After-check-lot) → c .check-lot .result ≡ early (lot c) (lent c)
+told c = early-is (lot c) (lent c) (short-is (lot c) (lent c) (c .before .too-short .ensures)) (c .check-lot .ensures)
 
-returns : tie.Need-returns
-returns c =
-    let after-check-lot = c .before .before .before in
-    let after-too-short = after-check-lot .before in
-    let start = after-too-short .before .before .before .before .before .before .before .before .before .before .before .before .before .before in
-    call-refused (lotOf (start .args .n) (start .args .distances .now) (start .args .labels .now) (start .args .stratified) (start .args .strata .now) (start .args .weighted) (start .args .weights .now)) (slicesOf (start .args .names .now) (start .args .counts .now) (start .args .means .now) (start .args .terms .now) (start .args .pulls .now) (start .args .coords .now) (start .args .room .now) (start .args .vectors .now) (start .args .rows .now)) (sym (c .before .c .given .1) ∙ early-is (lotOf (start .args .n) (start .args .distances .now) (start .args .labels .now) (start .args .stratified) (start .args .strata .now) (start .args .weighted) (start .args .weights .now)) (slicesOf (start .args .names .now) (start .args .counts .now) (start .args .means .now) (start .args .terms .now) (start .args .pulls .now) (start .args .coords .now) (start .args .room .now) (start .args .vectors .now) (start .args .rows .now)) (short-is (lotOf (start .args .n) (start .args .distances .now) (start .args .labels .now) (start .args .stratified) (start .args .strata .now) (start .args .weighted) (start .args .weights .now)) (slicesOf (start .args .names .now) (start .args .counts .now) (start .args .means .now) (start .args .terms .now) (start .args .pulls .now) (start .args .coords .now) (start .args .room .now) (start .args .vectors .now) (start .args .rows .now)) (after-too-short .too-short .ensures)) (after-check-lot .check-lot .ensures))
+-- ---- once it lets the lot pass
 
-same-length : tie.Need-same-length
-same-length c =
-    let after-judge = c .before .before .before .before .before .before .before .before .before .before .before .before .before .before .before .before .before .before in
-    after-judge .judge .kept .0
+abbrev asked : tie.After-design-of → tie.After-check-lot
+asked c = c .before .before .before
 
-same-length-2 : tie.Need-same-length-2
-same-length-2 c =
-    let after-judge = c .before .before .before .before .before .before .before .before .before .before .before .before .before .before .before .before .before .before in
-    after-judge .judge .kept .1 .0
+passed : (c : tie.After-enum-told) → early (lot (c .before .before)) (lent (c .before .before)) ≡ Passed
+passed c = sym (told (c .before .before)) ∙ c .enum-told .given .1
 
-same-length-3 : tie.Need-same-length-3
-same-length-3 c =
-    let after-judge = c .before .before .before .before .before .before .before .before .before .before .before .before .before .before .before .before .before .before in
-    after-judge .judge .kept .1 .1 .0
+design : (c : tie.After-design-of) → Describes (lot (asked c)) (c .design-of .result)
+design c = designs-lot (lot (asked c)) (c .design-of .ensures)
 
-same-length-4 : tie.Need-same-length-4
-same-length-4 c =
-    let after-judge = c .before .before .before .before .before .before .before .before .before .before .before .before .before .before .before .before .before .before in
-    after-judge .judge .kept .1 .1 .1 .0
+-- ---- once its ways are few
 
-same-length-5 : tie.Need-same-length-5
-same-length-5 c =
-    let after-judge = c .before .before .before .before .before .before .before .before .before .before .before .before .before .before .before .before .before .before in
-    after-judge .judge .kept .1 .1 .1 .1 .0
+abbrev designed : tie.After-ways-of → tie.After-design-of
+designed c = c .before
 
-same-length-6 : tie.Need-same-length-6
-same-length-6 c =
-    let after-judge = c .before .before .before .before .before .before .before .before .before .before .before .before .before .before .before .before .before .before in
-    after-judge .judge .kept .1 .1 .1 .1 .1 .0
+abbrev few : tie.After-settle-arg9 → tie.After-ways-of
+few c = c .before .before .before .before .before .before .before .before .before .before
 
-same-length-7 : tie.Need-same-length-7
-same-length-7 c =
-    let after-judge = c .before .before .before .before .before .before .before .before .before .before .before .before .before .before .before .before .before .before in
-    after-judge .judge .kept .1 .1 .1 .1 .1 .1 .0
+same-ways : (c : tie.After-settle-arg9) → few c .ways-of .result ≡ wayCount (lot (asked (designed (few c))))
+same-ways c = let d = designed (few c) in few-ways (wayCount (lot (asked d))) (few c .ways-of .ensures (lot (asked d)) (design d)) (c .before .before .before .before .before .before .before .before .before .if1 .left)
 
-same-length-8 : tie.Need-same-length-8
-same-length-8 c =
-    let after-judge = c .before .before .before .before .before .before .before .before .before .before .before .before .before .before .before .before .before .before in
-    after-judge .judge .kept .1 .1 .1 .1 .1 .1 .1 .0
+passing : (c : tie.After-settle-arg9) → let d = designed (few c) in
+    let a = start (asked d) .args in
+    Passing (lotOf (d .design-of .result .n) (a .distances .now) (a .labels .now) (a .stratified) (a .strata .now) (a .weighted) (a .weights .now)) (d .design-of .result) (few c .ways-of .result) (lent (asked d))
+passing c =
+    let d = designed (few c) in
+    let a = start (asked d) .args in
+    passing-by (a .n) (a .distances .now) (a .labels .now) (a .stratified) (a .strata .now) (a .weighted) (a .weights .now) (lent (asked d)) (passed (d .before)) (design d) (same-ways c) (c .before .before .before .before .before .before .before .before .before .if1 .left)
 
-same-length-9 : tie.Need-same-length-9
-same-length-9 c =
-    let after-judge = c .before .before .before .before .before .before .before .before .before .before .before .before .before .before .before .before .before .before in
-    after-judge .judge .kept .1 .1 .1 .1 .1 .1 .1 .1 .0
+abbrev settled : tie.After-slice-known18 → tie.After-settle
+settled c = c .before .before .before .before .before .before .before .before .before .before .before .before .before .before .before .before .before .before
 
-returns-2 : tie.Need-returns-2
-returns-2 c =
-    let after-judge = c .before .before .before .before .before .before .before .before .before .before .before .before .before .before .before .before .before .before in
-    after-judge .judge .ensures
+returns-3 : tie.Need-returns-3
+returns-3 c =
+    let at = settled c .before in
+    let d = designed (few at) in
+    let q = asked d in
+    let a = start q .args in
+    call-passed (lot q) (lent q) (passed (d .before)) (omega (arith, same-ways at, at .before .before .before .before .before .before .before .before .before .if1 .left))
+    (call-by (a .n) (a .distances .now) (a .labels .now) (a .stratified) (a .strata .now) (a .weighted) (a .weights .now) (lent q) (same-n (lot q) (lent q) (passed (d .before)) (design d))
+    (settled c .settle .ensures (a .labels .now) (a .stratified) (a .strata .now) (passing at)))
 
 pub exhaustive-spec : {M : Type 1} → statement M
 exhaustive-spec =
     tie.close
     (tie.spec
-    too-short-requires
-    check-lot-requires
-    enum-known-c
-    enum-told
-    judge-requires
-    returns
-    same-length
-    same-length-2
-    same-length-3
-    same-length-4
-    same-length-5
-    same-length-6
-    same-length-7
-    same-length-8
-    same-length-9
-    returns-2)
+    (λ c κs. search needs)
+    (λ c κs. search needs)
+    (λ c. search needs)
+    (λ c. search needs)
+    (λ c κs. let q = c .before .before in designable (lot q) (lent q) (passed c))
+    (λ c κs. let q = asked c in design-sound (lot q) (lent q) (passed (c .before)) (design c))
+    (λ c. let d = designed (c .before) in let q = asked d in call-many (lot q) (lent q) (passed (d .before)) (c .before .ways-of .ensures (lot q) (design d)) (c .if1 .taken))
+    (λ c κs. let a = start (asked (designed (few c))) .args in record { labels = a .labels .now; stratified = a .stratified; strata = a .strata .now; passing = passing c })
+    (λ c. let q = c .before .before .before in call-refused (lot q) (lent q) (sym (c .before .c .given .1) ∙ told q))
+    (λ c. settled c .settle .kept .0)
+    (λ c. settled c .settle .kept .1 .0)
+    (λ c. settled c .settle .kept .1 .1 .0)
+    (λ c. settled c .settle .kept .1 .1 .1 .0)
+    (λ c. settled c .settle .kept .1 .1 .1 .1 .0)
+    (λ c. settled c .settle .kept .1 .1 .1 .1 .1 .0)
+    (λ c. settled c .settle .kept .1 .1 .1 .1 .1 .1 .0)
+    (λ c. settled c .settle .kept .1 .1 .1 .1 .1 .1 .1 .0)
+    (λ c. settled c .settle .kept .1 .1 .1 .1 .1 .1 .1 .1 .0)
+    returns-3)

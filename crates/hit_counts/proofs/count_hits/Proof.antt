@@ -1,40 +1,67 @@
--- `hit_counts::count_hits` meets its contract. Room for 256 samples.
+-- `hit_counts::count_hits` meets its contract. The rows are filled, and the walk starts at the first sample.
 -- Assumes nothing.
-use mathlib.Core.Path.{sym}
-use Prim.Native.Nat.{_-_}
+use mathlib.Core.Path.{_≡_, sym}
+use mathlib.Core.List.{List}
+use Prim.Native.Nat.{ℕ}
 use native.Mathlib.Omega.{arith}
 use borrow.Author.Needs.{needs}
+use lib.ListN.{length, take, replicate}
 use lib.Seq.{length-take-le}
+use Rattle.ways.specs.Onward.{HasRows}
+use Rattle.ways.proofs.Counts.{zeros-cleared}
+use Rattle.hit_counts.proofs.Started.{rows-longer, start-walking, all-counted}
 use Rattle.hit_counts.proofs.count_hits.Statement.{statement}
 use Rattle.hit_counts.proofs.count_hits.Tie as tie
 
-array-borrow-prefix-way : tie.Need-array-borrow-prefix-way
-array-borrow-prefix-way c = search needs
+abbrev start : tie.After-clear-u16 → tie.Start
+start c = c .before .before .before .before .before .before .before .before .before .before .before
 
-slice-aggregate-count-with : tie.Need-slice-aggregate-count-with
-slice-aggregate-count-with c = sym (length-take-le _ _ (omega (arith, c .before .before .before .before .before .before .before .before .before .before .before .pre .0 .kept)))
+rows : (c : tie.After-clear-u16) → HasRows (start c .args .f .groups) (start c .args .strata .now) (c .clear-u16 .last .0)
+rows c = let s = start c in rows-longer (s .args .f .groups) (s .args .strata .now) (s .args .counts .now) (c .clear-u16 .last .0) (s .pre .1 .1) (c .clear-u16 .kept .0)
 
-count-with-requires : tie.Need-count-with-requires
-count-with-requires c κs =
-    let pre = c .before .before .before .before .before .before .before .before .before .before .before .before .pre in
-    (pre .0, (pre .1, length-take-le _ _ (omega (arith, pre .0 .kept))))
+abbrev clear : tie.After-fill-counts → tie.After-clear-u16
+clear c = c .before .before .before .before
 
-same-length : tie.Need-same-length
-same-length c = search needs
+-- room for a way, of zeros
+abbrev room : tie.Start → List ℕ
+room s = take (length (s .args .strata .now)) (replicate 256 0)
 
-same-length-2 : tie.Need-same-length-2
-same-length-2 c = search needs
+room-long : (s : tie.Start) → length (room s) ≡ length (s .args .strata .now)
+room-long s = length-take-le (length (s .args .strata .now)) (replicate 256 0) (s .pre .0 .placing .framed .kept)
+
+abbrev filled : tie.After-walk-arg2 → tie.After-fill-counts
+filled c = c .before .before .before .before .before
+
+fill-counts-requires : tie.Need-fill-counts-requires
+fill-counts-requires c κs =
+    let at = c .before .before .before in
+    let s = start at in
+    (s .pre .0 .placing .framed .kept, (s .pre .1 .0 .grouped, (s .pre .1 .0 .below, (rows at, zeros-cleared (s .args .counts .now) (at .clear-u16 .ensures)))))
+
+walk-requires : tie.Need-walk-requires
+walk-requires c κs =
+    let at = clear (filled c) in
+    let s = start at in
+    let a = s .args in
+    start-walking (a .f) (a .strata .now) (a .gs .now) (at .clear-u16 .last .0) (rows at) (filled c .fill-counts .ensures) (room s) (s .pre .0) (s .pre .1 .0) (room-long s)
 
 returns : tie.Need-returns
-returns c = search needs
+returns c =
+    let walked = c .before .before .before .before .before in
+    let at = clear (filled (walked .before)) in
+    let s = start at in
+    let a = s .args in
+    all-counted (a .f .groups) (a .strata .now) (a .gs .now) (at .clear-u16 .last .0) (rows at) (filled (walked .before) .fill-counts .ensures) (room s) (walked .walk .ensures .0)
 
 pub count-hits-spec : {M : Type 1} → statement M
 count-hits-spec =
     tie.close
     (tie.spec
-    array-borrow-prefix-way
-    slice-aggregate-count-with
-    count-with-requires
-    same-length
-    same-length-2
+    (λ c κs. search needs)
+    fill-counts-requires
+    (λ c. search needs)
+    (λ c. sym (room-long (start (clear (c .before .before .before .before)))))
+    walk-requires
+    (λ c. search needs)
+    (λ c. search needs)
     returns)

@@ -1,54 +1,83 @@
--- `judging::assignment_of` meets its contract. None where the coordinates are barred, else by the scores.
+-- `judging::assignment_of` meets its contract. None where the coordinates are barred, else by the scores of the way's groups.
 -- Assumes nothing.
-use mathlib.Core.Path.{sym}
-use native.Mathlib.Omega.{arith}
+use mathlib.Core.Path.{_≡_, sym, subst, _∙_}
+use mathlib.Core.List.{List, _++_}
+use Prim.Native.Nat.{ℕ, _≤_}
 use borrow.Author.Needs.{needs}
+use lib.ListN.{length, take, drop, replicate}
 use lib.Seq.{length-take-le}
+use Rattle.lists.specs.Numbers.{Below}
 use Rattle.lot.specs.Lot.{none}
-use Rattle.lists.proofs.Parts.{take-replicate}
-use Rattle.judging.proofs.Cases.{assignment-barred, assignment-found}
+use Rattle.kept.specs.Placed.{placed}
+use Rattle.kept.proofs.Placed.{placed-fits, placed-front}
+use Rattle.judging.proofs.Cases.{found-by, way-ready, way-found, assignment-barred}
 use Rattle.judging.proofs.assignment_of.Statement.{statement}
 use Rattle.judging.proofs.assignment_of.Tie as tie
 
-returns : tie.Need-returns
-returns c = assignment-barred _ _ _ _ _ _ _ (c .if1 .taken)
+abbrev start : tie.Else1 → tie.Start
+start c = c .before .before .before .before .before
 
-array-borrow-prefix-assigned : tie.Need-array-borrow-prefix-assigned
-array-borrow-prefix-assigned c = omega (arith, c .before .before .before .before .before .before .pre .few)
+-- room for a group for each sample, none of which has one
+abbrev room : List ℕ
+room = replicate 256 none
 
-slice-aggregate-assign-with : tie.Need-slice-aggregate-assign-with
-slice-aggregate-assign-with c = sym (length-take-le _ _ (omega (arith, c .before .before .before .before .before .before .before .pre .few)))
+room-long : (c : tie.Else1) → length (take (start c .args .f .n) room) ≡ start c .args .f .n
+room-long c = length-take-le (start c .args .f .n) room (start c .pre .0 .framed .few)
 
-array-borrow-prefix-each : tie.Need-array-borrow-prefix-each
-array-borrow-prefix-each c = omega (arith, c .before .before .before .before .before .before .before .pre .few)
+abbrev put : tie.After-assigned → tie.After-place
+put c = c .before .before .before
 
-slice-aggregate-assign-with-2 : tie.Need-slice-aggregate-assign-with-2
-slice-aggregate-assign-with-2 c = sym (length-take-le _ _ (omega (arith, c .before .before .before .before .before .before .before .before .pre .few)))
+abbrev free : tie.After-place → tie.Else1
+free c = c .before .before
 
-assign-with-requires : tie.Need-assign-with-requires
-assign-with-requires c κs =
-    let args = c .before .before .before .before .before .before .before .before .args in
-    let pre = c .before .before .before .before .before .before .before .before .pre in
-    (pre, length-take-le _ _ (omega (arith, pre .few)), take-replicate (args .n) 256 none (omega (arith, pre .few)))
+-- the groups of all samples
+abbrev each : tie.After-place → List ℕ
+each c = c .place .last .0 ++ drop (start (free c) .args .f .n) room
 
-same-length : tie.Need-same-length
-same-length c = search needs
+fits : (c : tie.After-place) → start (free c) .args .f .n ≤ length (each c)
+fits c =
+    let s = start (free c) in
+    placed-fits (s .args .f .n) (s .pre .0 .framed .few) (s .args .ks .now) (s .args .way .now) (c .place .ensures) (c .place .kept .0)
+
+long : (c : tie.After-place) → length (take (start (free c) .args .f .n) (each c)) ≡ start (free c) .args .f .n
+long c = length-take-le (start (free c) .args .f .n) (each c) (fits c)
+
+front : (c : tie.After-place) → let a = start (free c) .args in take (a .f .n) (each c) ≡ placed (a .f .n) (a .ks .now) (a .way .now)
+front c =
+    let s = start (free c) in
+    placed-front (s .args .f .n) (s .pre .0 .framed .few) (s .args .ks .now) (s .args .way .now) (c .place .ensures) (c .place .kept .0)
+
+place-requires : tie.Need-place-requires
+place-requires c κs =
+    let s = start (c .before) in
+    (s .pre .1 .all ∙ sym (s .pre .0 .samples), subst (λ (k : ℕ). Below k (s .args .ks .now)) (sym (room-long (c .before))) (s .pre .0 .places))
+
+discriminate-requires : tie.Need-discriminate-requires
+discriminate-requires c κs =
+    let at = put (c .before) in
+    let s = start (free at) in
+    way-ready (s .pre .0) (s .pre .1) (front at) (long at)
 
 returns-2 : tie.Need-returns-2
 returns-2 c =
-    let after-assign-with = c .before .before .before .before in
-    let at-if1 = after-assign-with .before .before .before .before in
-    assignment-found _ _ _ _ _ _ _ (at-if1 .if1 .left) (after-assign-with .assign-with .ensures)
+    let answered = c .before .before .before .before in
+    let at = put (answered .before .before) in
+    let s = start (free at) in
+    way-found (s .pre .0) (s .pre .1) (front at) (long at) (free at .if1 .left)
+    (found-by _ _ _ _ _ _ (answered .discriminate .result) (c .right-of .ensures) (answered .discriminate .ensures))
 
 pub assignment-of-spec : {M : Type 1} → statement M
 assignment-of-spec =
     tie.close
     (tie.spec
-    returns
-    array-borrow-prefix-assigned
-    slice-aggregate-assign-with
-    array-borrow-prefix-each
-    slice-aggregate-assign-with-2
-    assign-with-requires
-    same-length
+    (λ c. let a = c .before .before .before .before .before .args in assignment-barred (a .f) (a .x .now) (a .ks .now) (a .way .now) (c .if1 .taken))
+    (λ c. search needs)
+    (λ c. sym (room-long (c .before)))
+    place-requires
+    (λ c. search needs)
+    (λ c. fits (put c))
+    (λ c. sym (long (put (c .before))))
+    discriminate-requires
+    (λ c κs. search needs)
+    (λ c. search needs)
     returns-2)

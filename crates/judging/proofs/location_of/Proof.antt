@@ -1,33 +1,14 @@
 -- `judging::location_of` meets its contract. F over the members of the groups.
 -- Assumes nothing.
-use mathlib.Core.Path.{ap, _∙_}
-use Prim.Native.Nat.{_-_}
 use borrow.Author.Needs.{needs}
-use lib.Ieee.{Float}
-use Rattle.location.specs.Location.{within, pseudoF}
-use Rattle.statistics.specs.Hits.{statistic}
-use Rattle.judging.specs.Judging.{locationBy}
-use Rattle.location.specs.Location.{within, pseudoF}
-use Rattle.statistics.specs.Hits.{statistic}
-use Rattle.judging.specs.Judging.{locationBy}
+use Rattle.judging.proofs.Cases.{location-is}
 use Rattle.judging.proofs.location_of.Statement.{statement}
 use Rattle.judging.proofs.location_of.Tie as tie
 
-within-requires : tie.Need-within-requires
-within-requires c κs = search needs
-
-pseudo-f-requires : tie.Need-pseudo-f-requires
-pseudo-f-requires c κs = search needs
-
-statistic-of-requires : tie.Need-statistic-of-requires
-statistic-of-requires c κs = search needs
-
 returns : tie.Need-returns
-unfolding locationBy
 returns c =
-    let start = c .before .before .before .before .before .before .before .before in
-    c .statistic-of .ensures ∙ ap statistic (c .before .pseudo-f .ensures ∙ ap (λ (x : Float). pseudoF (start .args .total) x (start .args .m) (start .args .g)) (c .before .before .within .ensures))
+    let a = c .before .before .before .before .before .before .before .before .args in
+    location-is (a .f) (a .m) (a .t .now) (a .t .now) (a .w .now) (a .way .now) (c .statistic-of .ensures) (c .before .pseudo-f .ensures) (c .before .before .within .ensures)
 
 pub location-of-spec : {M : Type 1} → statement M
-location-of-spec =
-    tie.close (tie.spec within-requires pseudo-f-requires statistic-of-requires returns)
+location-of-spec = tie.close (tie.spec (λ c κs. search needs) (λ c κs. search needs) (λ c κs. search needs) returns)

@@ -1,4 +1,4 @@
--- `lot::lines::any_outside` meets its contract. None of the entries passed is outside. Assumes nothing.
+-- `lines::any_outside` meets its contract. None of the entries passed is outside. Assumes nothing.
 use mathlib.Core.Path.{_≡_, refl, sym, _∙_}
 use mathlib.Core.Bool.{Bool, not, _&&_}
 use Prim.Native.Nat.{_-_}

@@ -1,111 +1,92 @@
--- `lot::lines::check_lot` meets its contract: at each place the lines above are known not to hold, and an answer is the next line's. Assumes nothing.
-use mathlib.Core.Path.{_≡_, sym, ap, ap₂, _∙_}
-use mathlib.Core.Bool.{Bool, false, _||_}
-use mathlib.Core.List.{[]}
-use Prim.Native.Nat.{ℕ}
+-- `lines::check_lot` meets its contract: the groups go one after another, and the first that refuses wins. Assumes nothing.
+use mathlib.Core.Path.{_≡_, sym, ap, _∙_}
+use mathlib.Core.Bool.{Bool, _||_}
+use mathlib.Core.List.{List, _++_}
 use native.Mathlib.Omega.{arith}
 use borrow.Author.Needs.{needs}
-use borrow.Author.Tests.{lt-ltb, le-ltb}
-use lib.ListN.{drop}
-use Rattle.outcome.specs.declared.Refusal.the-variants.{Length, Limit, Value, Weight, Labels}
-use Rattle.outcome.specs.Refusals.{first}
-use Rattle.outcome.proofs.Table.{first-holds, first-passes}
+use Rattle.outcome.specs.declared.Check.the-variants.{Passed}
+use Rattle.outcome.specs.Refusals.{Line, first}
+use Rattle.outcome.proofs.Table.{told-refused, told-next}
+use Rattle.lists.proofs.Truths.{or-neither}
 use Rattle.lot.specs.Lot.{Lot, lotOf}
-use Rattle.lot.specs.Lines.{misfits, testLines}
-use Rattle.lot.proofs.Checks.{parts-fit}
+use Rattle.lot.specs.Lines.{misfits, sizeLines, matrixLines, labelLines, testLines}
+use Rattle.lot.proofs.Checks.{Sized, sizes-known, parts-fit}
 use Rattle.lines.proofs.check_lot.Statement.{statement}
 use Rattle.lines.proofs.check_lot.Tie as tie
 
--- the lot that is lent
-abbrev given : tie.Start → Lot
-given s = let a = s .args in lotOf (a .n) (a .distances .now) (a .labels .now) (a .stratified) (a .strata .now) (a .weighted) (a .weights .now)
+-- ---- once the sizes are judged
 
-abbrev entry : tie.After-misfits → tie.Start
-entry c = c .before .before .before .before .before
+abbrev start : tie.After-check-sizes → tie.Start
+start c = c .before .before .before .before .before .before
 
--- the first k lines do not hold
-abbrev Past : tie.Start → ℕ → Type 0
-Past s k = let lines = testLines (given s) (s .args .short) (s .args .beyond) in first lines ≡ first (drop k lines)
+-- the lot that is lent, and its groups of lines
+abbrev lot : tie.Start → Lot
+lot s = let a = s .args in lotOf (a .n) (a .distances .now) (a .labels .now) (a .stratified) (a .strata .now) (a .weighted) (a .weights .now)
 
-fits : (c : tie.Else1) → misfits (given (entry (c .before))) ≡ false
+abbrev sizes : tie.Start → List Line
+sizes s = sizeLines (misfits (lot s) || s .args .short) (s .args .n) (s .args .beyond)
+
+abbrev matrix : tie.Start → List Line
+matrix s = matrixLines (s .args .distances .now)
+
+abbrev labels : tie.Start → List Line
+labels s = labelLines (s .args .labels .now) (s .args .weighted) (s .args .weights .now)
+
+sized : (c : tie.After-check-sizes) → c .check-sizes .result ≡ first (sizes (start c))
 unfolding misfits
-fits c = sym (c .before .misfits .ensures) ∙ c .if1 .left
+sized c = c .check-sizes .ensures ∙ ap (λ (b : Bool). first (sizeLines b (start c .args .n) (start c .args .beyond))) (c .before .misfits .ensures)
 
-past-1 : (c : tie.Else2) → Past (entry (c .before .before)) 1
-unfolding testLines
-past-1 c = first-passes Length _ (ap₂ (λ (a b : Bool). a || b) (fits (c .before)) (c .if2 .left))
+-- ---- once they let the lot pass
 
-past-2 : (c : tie.Else4) → Past (entry (c .before .before .before .before)) 2
-unfolding testLines
-past-2 c = past-1 (c .before .before) ∙ first-passes Limit _ (ap₂ (λ (a b : Bool). a || b) (le-ltb _ _ (c .before .if3 .left)) (c .if4 .left))
+abbrev asked : tie.After-enum-told → tie.After-check-sizes
+asked c = c .before .before
 
-past-3 : (c : tie.Else5) → Past (entry (c .before .before .before .before .before .before)) 3
-unfolding testLines
-past-3 c = past-2 (c .before .before) ∙ first-passes Value _ (sym (c .before .any-outside .ensures) ∙ c .if5 .left)
+known : (c : tie.After-enum-told) → Sized (misfits (lot (start (asked c))) || start (asked c) .args .short) (start (asked c) .args .n) (start (asked c) .args .beyond)
+known c = sizes-known _ _ _ (sym (sized (asked c)) ∙ c .enum-told .given .1)
 
-past-4 : (c : tie.Else6) → Past (entry (c .before .before .before .before .before .before .before .before)) 4
-unfolding testLines
-past-4 c = past-3 (c .before .before) ∙ first-passes Weight _ (sym (c .before .bad-weights .ensures) ∙ c .if6 .left)
-
-misfits-requires : tie.Need-misfits-requires
-misfits-requires c κs = search needs
+-- ---- what is left
 
 returns : tie.Need-returns
-unfolding misfits testLines
-returns c = sym (first-holds Length _ (ap (λ (a : Bool). a || entry (c .before) .args .short) (sym (c .before .misfits .ensures) ∙ c .if1 .taken)))
+unfolding testLines
+returns c =
+    let q = c .before .before in
+    told-refused (sizes (start q)) (matrix (start q) ++ labels (start q)) (sized q) (c .enum-told2 .given .1)
 
 returns-2 : tie.Need-returns-2
 unfolding testLines
-returns-2 c = sym (first-holds Length _ (ap₂ (λ (a b : Bool). a || b) (fits (c .before)) (c .if2 .taken)))
+returns-2 c =
+    let passed = c .before .before .before in
+    let q = asked passed in
+    told-next (sizes (start q)) (matrix (start q) ++ labels (start q)) (sized q) (passed .enum-told .given .1)
+    (told-refused (matrix (start q)) (labels (start q)) (c .before .before .check-matrix .ensures) (c .enum-told4 .given .1))
+
+check-labels-requires : tie.Need-check-labels-requires
+check-labels-requires c κs =
+    let passed = c .before .before .before in
+    let s = start (asked passed) in
+    omega (arith, parts-fit (lot s) (or-neither _ _ (known passed .fit) .0) .labelsFit, known passed .few)
 
 returns-3 : tie.Need-returns-3
 unfolding testLines
-returns-3 c = sym (past-1 (c .before) ∙ first-holds Limit _ (ap (λ (a : Bool). a || entry (c .before .before .before) .args .beyond) (lt-ltb _ _ (c .if3 .taken))))
-
-returns-4 : tie.Need-returns-4
-unfolding testLines
-returns-4 c = sym (past-1 (c .before .before) ∙ first-holds Limit _ (ap₂ (λ (a b : Bool). a || b) (le-ltb _ _ (c .before .if3 .left)) (c .if4 .taken)))
-
-any-outside-requires : tie.Need-any-outside-requires
-any-outside-requires c κs = search needs
-
-returns-5 : tie.Need-returns-5
-unfolding testLines
-returns-5 c = sym (past-2 (c .before .before) ∙ first-holds Value _ (sym (c .before .any-outside .ensures) ∙ c .if5 .taken))
-
-bad-weights-requires : tie.Need-bad-weights-requires
-bad-weights-requires c κs = search needs
-
-returns-6 : tie.Need-returns-6
-unfolding testLines
-returns-6 c = sym (past-3 (c .before .before) ∙ first-holds Weight _ (sym (c .before .bad-weights .ensures) ∙ c .if6 .taken))
-
-few-labels-requires : tie.Need-few-labels-requires
-few-labels-requires c κs =
-    let passed = c .before .before .before .before .before .before .before in
-    omega (arith, parts-fit (given (entry (passed .before))) (fits passed) .labelsFit, c .before .before .before .before .before .if3 .left)
-
-returns-7 : tie.Need-returns-7
-unfolding testLines
-returns-7 c = sym (past-4 (c .before .before) ∙ first-holds Labels _ (sym (c .before .few-labels .ensures) ∙ c .if7 .taken))
-
-returns-8 : tie.Need-returns-8
-unfolding testLines first
-returns-8 c = sym (past-4 (c .before .before) ∙ first-passes Labels [] (sym (c .before .few-labels .ensures) ∙ c .if7 .left))
+returns-3 c =
+    let at = c .before in
+    let passed = at .before .before .before in
+    let q = asked passed in
+    told-next (sizes (start q)) (matrix (start q) ++ labels (start q)) (sized q) (passed .enum-told .given .1)
+    (told-next (matrix (start q)) (labels (start q)) (at .before .before .check-matrix .ensures) (at .enum-told3 .given .1) (c .check-labels .ensures))
 
 pub check-lot-spec : {M : Type 1} → statement M
 check-lot-spec =
     tie.close
     (tie.spec
-    misfits-requires
+    (λ c κs. search needs)
+    (λ c κs. search needs)
+    (λ c. search needs)
+    (λ c. search needs)
     returns
+    (λ c κs. search needs)
+    (λ c. search needs)
+    (λ c. search needs)
     returns-2
-    returns-3
-    returns-4
-    any-outside-requires
-    returns-5
-    bad-weights-requires
-    returns-6
-    few-labels-requires
-    returns-7
-    returns-8)
+    check-labels-requires
+    returns-3)

@@ -1,4 +1,4 @@
--- `lot::lines::misfits` meets its contract. Each answer is what the tests that led there give. Assumes nothing.
+-- `lines::misfits` meets its contract. Each answer is what the tests that led there give. Assumes nothing.
 use mathlib.Core.Path.{_≡_, sym, _∙_}
 use mathlib.Core.Bool.{true}
 use Prim.Native.Nat.{_*_, _-_}
@@ -12,35 +12,32 @@ use Rattle.lines.proofs.misfits.Tie as tie
 squared : (c : tie.Else1) → eqb (c .before .before .args .distances) (c .before .before .args .n * c .before .before .args .n) ≡ true
 squared c = sym (c .before .is-square .ensures) ∙ not-false _ (c .if1 .left)
 
-is-square-requires : tie.Need-is-square-requires
-is-square-requires c κs = search needs
-
-returns : tie.Need-returns
-returns c = rw (sym (c .before .is-square .ensures) ∙ not-true _ (c .if1 .taken))
-
-returns-2 : tie.Need-returns-2
-returns-2 c = rw (squared (c .before), ne-eqb _ _ (c .if2 .taken))
-
-unfit-requires : tie.Need-unfit-requires
-unfit-requires c κs = search needs
-
 returns-3 : tie.Need-returns-3
-returns-3 c = rw (squared (c .before .before .before), eq-eqb _ _ (c .before .before .if2 .left), sym (c .before .unfit .ensures) ∙ c .if3 .taken)
-
-unfit-requires-2 : tie.Need-unfit-requires-2
-unfit-requires-2 c κs = search needs
+returns-3 c =
+    let fits = c .before .before in
+    rw (squared (fits .before), eq-eqb _ _ (fits .if2 .left), sym (c .before .unfit .ensures) ∙ c .if3 .taken)
 
 returns-4 : tie.Need-returns-4
-returns-4 c = rw (squared (c .before .before .before .before), eq-eqb _ _ (c .before .before .before .if2 .left), sym (c .before .before .unfit .ensures) ∙ c .before .if3 .left) (c .unfit2 .ensures)
+returns-4 c =
+    let strata = c .before .before in
+    let fits = strata .before .before in
+    rw (squared (fits .before), eq-eqb _ _ (fits .if2 .left), sym (strata .before .unfit .ensures) ∙ strata .if3 .left, sym (c .before .unfit2 .ensures) ∙ c .if4 .taken)
+
+returns-5 : tie.Need-returns-5
+returns-5 c =
+    let strata = c .before .before in
+    let fits = strata .before .before in
+    rw (squared (fits .before), eq-eqb _ _ (fits .if2 .left), sym (strata .before .unfit .ensures) ∙ strata .if3 .left, sym (c .before .unfit2 .ensures) ∙ c .if4 .left)
 
 pub misfits-spec : {M : Type 1} → statement M
 misfits-spec =
     tie.close
     (tie.spec
-    is-square-requires
-    returns
-    returns-2
-    unfit-requires
+    (λ c κs. search needs)
+    (λ c. rw (sym (c .before .is-square .ensures) ∙ not-true _ (c .if1 .taken)))
+    (λ c. rw (squared (c .before), ne-eqb _ _ (c .if2 .taken)))
+    (λ c κs. search needs)
     returns-3
-    unfit-requires-2
-    returns-4)
+    (λ c κs. search needs)
+    returns-4
+    returns-5)

@@ -1,83 +1,86 @@
--- `moments::fill` meets its contract. Room of its own.
+-- `moments::fill` meets its contract. Means, then the scatter about them.
 -- Assumes nothing.
-
-use mathlib.Core.Path.{sym}
-use Prim.Native.Nat.{_*_}
+use mathlib.Core.Path.{sym, ap, _∙_}
+use mathlib.Core.List.{List}
+use Prim.Native.Nat.{ℕ, _*_}
 use native.Mathlib.Omega.{arith}
-use Rattle.float.specs.Floats.{zero⁺}
-use native.Mathlib.Nat.{mul-le-mul}
+use borrow.Author.Needs.{needs}
+use lib.ListN.{length, replicate, length-replicate}
 use lib.Seq.{length-take-le}
+use lib.Ieee.{Float}
+use Rattle.float.specs.Floats.{zero⁺, zero⁻}
 use Rattle.lists.proofs.Parts.{take-replicate}
+use Rattle.designs.proofs.Fronts.{Back, back}
+use Rattle.moments.proofs.Filling.{filled-is, kept-few, means-fit}
 use Rattle.moments.proofs.fill.Statement.{statement}
 use Rattle.moments.proofs.fill.Tie as tie
 
-mul-k : tie.Need-mul-k
-mul-k c =
-    let args = c .before .before .before .before .before .before .args in
-    let pre = c .before .before .before .before .before .before .pre in
-    omega (arith, mul-le-mul {n₁ = args .g} {m₁ = args .p} {n₂ = 128} {m₂ = 16} (pre .1 .3) (pre .1 .2))
+abbrev start : tie.After-fill-mean → tie.Start
+start c = c .before .before .before .before .before .before .before .before
 
-array-borrow-prefix-mu : tie.Need-array-borrow-prefix-mu
-array-borrow-prefix-mu c =
-    let args = c .before .before .before .before .before .before .before .before .before .before .args in
-    let pre = c .before .before .before .before .before .before .before .before .before .before .pre in
-    omega (arith, mul-le-mul {n₁ = args .g} {m₁ = args .p} {n₂ = 128} {m₂ = 16} (pre .1 .3) (pre .1 .2))
+abbrev meant : tie.After-fill-group-means → tie.After-fill-mean
+meant c = c .before .before .before .before .before
 
-slice-aggregate-fill-in : tie.Need-slice-aggregate-fill-in
-slice-aggregate-fill-in c =
-    let args = c .before .before .before .before .before .before .before .before .before .before .before .args in
-    let pre = c .before .before .before .before .before .before .before .before .before .before .before .pre in
-    sym (length-take-le _ _ (omega (arith, mul-le-mul {n₁ = args .g} {m₁ = args .p} {n₂ = 128} {m₂ = 16} (pre .1 .3) (pre .1 .2))))
+abbrev grouped : tie.After-fill-scatter → tie.After-fill-group-means
+grouped c = c .before .before .before .before .before .before .before .before .before .before .before
 
-array-borrow-prefix-d : tie.Need-array-borrow-prefix-d
-array-borrow-prefix-d c = omega arith
+-- the groups' means stand at the front of an array of zeros
+abbrev zeros : List Float
+zeros = replicate 2048 zero⁺
 
-slice-aggregate-fill-in-2 : tie.Need-slice-aggregate-fill-in-2
-slice-aggregate-fill-in-2 c = sym (length-take-le _ _ (omega arith))
+abbrev many : tie.Start → ℕ
+many s = s .args .sizes .groups * s .args .sizes .lead
 
-array-borrow-prefix-s : tie.Need-array-borrow-prefix-s
-array-borrow-prefix-s c = omega arith
+means : (c : tie.After-fill-group-means) → Back (many (start (meant c))) zeros (c .fill-group-means .last .0)
+means c = let s = start (meant c) in back (many s) zeros (c .fill-group-means .last .0) (means-fit (s .pre .0)) (c .fill-group-means .kept .0)
 
-slice-aggregate-fill-in-3 : tie.Need-slice-aggregate-fill-in-3
-slice-aggregate-fill-in-3 c = sym (length-take-le _ _ (omega arith))
+fill-mean-requires : tie.Need-fill-mean-requires
+fill-mean-requires c κs =
+    let pre = c .before .before .before .before .before .before .before .pre in
+    (pre .1 .means, pre .0 .coordinates, pre .0 .leads, pre .0 .members, kept-few (pre .0))
 
-fill-in-requires : tie.Need-fill-in-requires
-fill-in-requires c κs =
-    let args = c .before .before .before .before .before .before .before .before .before .before .before .before .before .args in
-    let pre = c .before .before .before .before .before .before .before .before .before .before .before .before .before .pre in (
-      (pre .0 .0, pre .0 .1, pre .0 .2, pre .0 .3, take-replicate (args .g * args .p) 2048 zero⁺ (omega (arith, mul-le-mul {n₁ = args .g} {m₁ = args .p} {n₂ = 128} {m₂ = 16} (pre .1 .3) (pre .1 .2))), length-take-le _ _ (omega arith), length-take-le _ _ (omega arith)),
-      pre .1,
+fill-group-means-requires : tie.Need-fill-group-means-requires
+fill-group-means-requires c κs =
+    let s = start (c .before .before .before .before) in
+    let sized = s .pre .0 in
+    (take-replicate (many s) 2048 zero⁺ (means-fit sized), s .pre .1 .counted, sized .coordinates, sized .leads, sized .most, sized .numbered, sized .few)
+
+fill-scatter-requires : tie.Need-fill-scatter-requires
+fill-scatter-requires c κs =
+    let at = c .before .before .before .before .before .before .before .before .before .before in
+    let s = start (meant at) in
+    let sized = s .pre .0 in
+    let mean-long = meant at .fill-mean .kept .0 ∙ ap length (s .pre .1 .means) ∙ length-replicate (s .args .sizes .lead) zero⁻ in (
+      (s .pre .1 .within, s .pre .1 .between, length-take-le _ _ (sized .narrow), length-take-le _ _ (sized .narrow)),
+      ((sized .coordinates, sized .leads, sized .narrow, sized .numbered), (length-take-le _ _ (means at .fits), mean-long, at .fill-group-means .ensures .1)),
     )
 
-same-length : tie.Need-same-length
-same-length c = c .before .before .before .before .before .before .before .before .before .before .before .fill-in .kept .0
-
-same-length-2 : tie.Need-same-length-2
-same-length-2 c = c .before .before .before .before .before .before .before .before .before .before .before .fill-in .kept .1 .0
-
-same-length-3 : tie.Need-same-length-3
-same-length-3 c = c .before .before .before .before .before .before .before .before .before .before .before .fill-in .kept .1 .1 .0
-
-same-length-4 : tie.Need-same-length-4
-same-length-4 c = c .before .before .before .before .before .before .before .before .before .before .before .fill-in .kept .1 .1 .1 .0
-
 returns : tie.Need-returns
-returns c = c .before .before .before .before .before .before .before .before .before .before .before .fill-in .ensures
+returns c =
+    let scattered = c .before .before .before .before .before .before in
+    let at = grouped scattered in
+    let a = start (meant at) .args in
+    let e = at .fill-group-means .ensures in
+    filled-is (a .sizes) (a .x .now) (a .groups .now) (meant at .fill-mean .ensures) (e .0) (means at .front) (e .1) (scattered .fill-scatter .ensures)
 
 pub fill-spec : {M : Type 1} → statement M
 fill-spec =
     tie.close
     (tie.spec
-    mul-k
-    array-borrow-prefix-mu
-    slice-aggregate-fill-in
-    array-borrow-prefix-d
-    slice-aggregate-fill-in-2
-    array-borrow-prefix-s
-    slice-aggregate-fill-in-3
-    fill-in-requires
-    same-length
-    same-length-2
-    same-length-3
-    same-length-4
+    (λ c. omega (arith, means-fit (c .before .before .before .before .before .before .pre .0)))
+    fill-mean-requires
+    (λ c. means-fit (start (c .before .before) .pre .0))
+    (λ c. sym (length-take-le _ _ (means-fit (start (c .before .before .before) .pre .0))))
+    fill-group-means-requires
+    (λ c. search needs)
+    (λ c. sym (length-take-le _ _ (start (meant (c .before .before .before .before .before .before)) .pre .0 .narrow)))
+    (λ c. search needs)
+    (λ c. sym (length-take-le _ _ (start (meant (c .before .before .before .before .before .before .before)) .pre .0 .narrow)))
+    (λ c. means (c .before .before .before .before .before .before .before) .fits)
+    (λ c. sym (length-take-le _ _ (means (c .before .before .before .before .before .before .before .before) .fits)))
+    fill-scatter-requires
+    (λ c. search needs)
+    (λ c. search needs)
+    (λ c. search needs)
+    (λ c. search needs)
     returns)

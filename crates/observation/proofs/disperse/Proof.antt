@@ -1,39 +1,43 @@
--- `observation::disperse` meets its contract. The values' distances, and their F.
+-- `observation::disperse` meets its contract. The values' distances, and their F; 256 samples have room.
 -- Assumes nothing.
-
 use mathlib.Core.Path.{_∙_}
-use Prim.Native.Nat.{_-_}
 use native.Mathlib.Omega.{arith}
 use borrow.Author.Needs.{needs}
-use Rattle.observation.specs.Observed.{spread}
+use Rattle.observation.proofs.Lots.{spread-is}
 use Rattle.observation.proofs.disperse.Statement.{statement}
 use Rattle.observation.proofs.disperse.Tie as tie
 
+abbrev filled : tie.After-gw3 → tie.After-fill-z
+filled c = c .before .before .before .before .before .before
+
+abbrev start : tie.After-fill-z → tie.Start
+start c = c .before .before .before .before .before .before .before .before .before .before .before
+
 fill-z-requires : tie.Need-fill-z-requires
-fill-z-requires c κs = search needs
+fill-z-requires c κs =
+    let p = c .before .before .before .before .before .before .before .before .before .before .pre in
+    (p .0, (p .1 .0, omega (arith, p .1 .4, p .1 .5), omega (arith, p .1 .4, p .1 .5), p .1 .2))
 
 anova-f-requires : tie.Need-anova-f-requires
 anova-f-requires c κs =
-    let fill-z = c .before .before .before .before .before .before .before .before .fill-z in
-    let pre = c .before .before .before .before .before .before .before .before .before .before .before .before .before .before .before .before .before .before .before .before .before .pre in
-    ((fill-z .kept .1 .1 .1 .1 .1 .1 .1 .1 .1 .1 .0 ∙ pre .1 .4, pre .0 .3, pre .0 .4, pre .1 .0, pre .1 .1), (omega (arith, fill-z .kept .1 .1 .1 .1 .1 .1 .1 .1 .0), pre .1 .5, pre .1 .6, pre .1 .7))
-
-same-length : tie.Need-same-length
-same-length c = search needs
-
-same-length-2 : tie.Need-same-length-2
-same-length-2 c = search needs
-
-same-length-3 : tie.Need-same-length-3
-same-length-3 c = search needs
+    let at = filled c in
+    let p = start at .pre in
+    ((at .fill-z .kept .1 .1 .1 .1 .1 .1 .1 .1 .1 .1 .0 ∙ p .1 .2, p .0 .3, p .0 .4, p .1 .0, p .1 .1), (omega (arith, p .1 .4, p .1 .5), p .1 .3, p .1 .4, p .1 .5))
 
 returns : tie.Need-returns
-unfolding spread
 returns c =
-    let fill-z = c .before .before .before .before .before .before .before .before .before .before .before .fill-z in
-    (rw (c .before .before .anova-f .ensures, fill-z .ensures .0, fill-z .ensures .1), fill-z .ensures .1)
+    let told = filled (c .before .before) .fill-z .ensures in
+    let a = start (filled (c .before .before)) .args in
+    (spread-is (a .p .now) (a .t .now) (a .w .now) (a .gs .now) (a .m) (a .g) (c .before .anova-f .ensures) (told .1) (told .0), told .1)
 
 pub disperse-spec : {M : Type 1} → statement M
 disperse-spec =
     tie.close
-    (tie.spec fill-z-requires anova-f-requires same-length same-length-2 same-length-3 returns)
+    (tie.spec
+    (λ c. search needs)
+    (λ c. search needs)
+    fill-z-requires
+    (λ c. search needs)
+    anova-f-requires
+    (λ c. search needs)
+    returns)

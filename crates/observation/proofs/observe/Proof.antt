@@ -1,51 +1,56 @@
--- `observation::observe` meets its contract. 256 samples have room.
+-- `observation::observe` meets its contract. The design's groups are the labels, and what is observed over the lot's own terms is the lot's.
 -- Assumes nothing.
-
-use Prim.Native.Nat.{_-_}
+use mathlib.Core.Path.{_≡_, sym, _∙_}
+use Prim.Native.Nat.{_≤_}
 use native.Mathlib.Omega.{arith}
 use borrow.Author.Needs.{needs}
+use lib.ListN.{length}
+use lib.Seq.{length-take-le}
+use Rattle.designs.proofs.Fronts.{Back, back}
+use Rattle.observation.proofs.Lots.{observes}
 use Rattle.observation.proofs.observe.Statement.{statement}
 use Rattle.observation.proofs.observe.Tie as tie
 
-slice-aggregate-observe-with : tie.Need-slice-aggregate-observe-with
-slice-aggregate-observe-with c = search needs
+fits : (c : tie.Start) → c .args .d .kept ≤ length (c .args .d .group)
+fits c = let few = c .pre .weighed .sound .few in let long : length (c .args .d .group) ≡ 256 = search needs in omega arith
 
-slice-aggregate-observe-with-2 : tie.Need-slice-aggregate-observe-with-2
-slice-aggregate-observe-with-2 c = search needs
+abbrev start : tie.After-gs2 → tie.Start
+start c = c .before .before .before .before .before .before .before .before
 
-slice-aggregate-observe-with-3 : tie.Need-slice-aggregate-observe-with-3
-slice-aggregate-observe-with-3 c = search needs
+abbrev called : tie.After-observe-kept-arg3 → tie.Start
+called c = start (c .before .before .before)
 
-slice-aggregate-observe-with-4 : tie.Need-slice-aggregate-observe-with-4
-slice-aggregate-observe-with-4 c = search needs
+z-back : (c : tie.After-observe-kept) → Back (called (c .before) .args .d .kept) (called (c .before) .args .z .now) (c .observe-kept .last .1 .1 .1 .1 .1 .1 .0)
+z-back c = let s = called (c .before) in back (s .args .d .kept) (s .args .z .now) (c .observe-kept .last .1 .1 .1 .1 .1 .1 .0) (s .pre .zRoom) (c .observe-kept .kept .1 .1 .1 .1 .1 .1 .0)
 
-observe-with-requires : tie.Need-observe-with-requires
-observe-with-requires c κs =
-    let pre = c .before .before .before .before .before .before .before .before .before .before .before .before .before .before .pre in
-    ((pre .0, pre .1, pre .2, pre .3), (omega (arith, pre .0 .enough, pre .0 .few), search needs, omega (arith, pre .0 .enough, pre .0 .few), omega (arith, pre .0 .enough, pre .0 .few)))
-
-same-length : tie.Need-same-length
-same-length c = search needs
-
-same-length-2 : tie.Need-same-length-2
-same-length-2 c = search needs
-
-same-length-3 : tie.Need-same-length-3
-same-length-3 c = search needs
+observe-kept-requires : tie.Need-observe-kept-requires
+observe-kept-requires c κs =
+    let s = called c in
+    let w = s .pre .weighed in
+    let sound = w .sound in (
+      record { pulls = w .pulls; terms = w .terms; weights = w .weights; labels = length-take-le _ _ (fits s); groups = sound .groups; some = sound .some; enough = sound .enough; few = sound .few },
+      length-take-le _ _ (s .pre .zRoom),
+      s .pre .countsRoom,
+      s .pre .meansRoom,
+    )
 
 returns : tie.Need-returns
-returns c = search needs
+returns c lot e =
+    let at = c .before .before .before .before .before .before in
+    let a = called (at .before) .args in
+    let told = at .observe-kept .ensures in
+    observes lot e (a .counts .now) (a .means .now) (told .0, z-back at .front ∙ told .1, told .2, told .3)
 
 pub observe-spec : {M : Type 1} → statement M
 observe-spec =
     tie.close
     (tie.spec
-    slice-aggregate-observe-with
-    slice-aggregate-observe-with-2
-    slice-aggregate-observe-with-3
-    slice-aggregate-observe-with-4
-    observe-with-requires
-    same-length
-    same-length-2
-    same-length-3
+    (λ c. fits (c .before .before .before .before .before .before .before))
+    (λ c. sym (length-take-le _ _ (fits (start c))))
+    (λ c. search needs)
+    (λ c. sym (length-take-le _ _ (start (c .before) .pre .zRoom)))
+    observe-kept-requires
+    (λ c. search needs)
+    (λ c. search needs)
+    (λ c. search needs)
     returns)

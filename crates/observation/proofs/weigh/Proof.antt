@@ -1,57 +1,68 @@
--- `observation::weigh` meets its contract. Weights first, then what is made of them.
+-- `observation::weigh` meets its contract. The design's samples are weighed into the fronts of three slices.
 -- Assumes nothing.
-
-use mathlib.Core.Path.{ap, _∙_}
+use mathlib.Core.Path.{_≡_, sym, _∙_}
 use mathlib.Core.List.{List}
-use Prim.Native.Nat.{_-_}
+use Prim.Native.Nat.{ℕ, _*_, _≤_}
 use native.Mathlib.Omega.{arith}
 use borrow.Author.Needs.{needs}
+use lib.ListN.{length}
+use lib.Seq.{length-take-le}
 use lib.Ieee.{Float}
-use Rattle.squares.specs.Squares.{terms, pulls}
+use Rattle.designs.proofs.Fronts.{Back, back}
+use Rattle.observation.proofs.Lots.{weighs}
 use Rattle.observation.proofs.weigh.Statement.{statement}
 use Rattle.observation.proofs.weigh.Tie as tie
 
-fill-weights-requires : tie.Need-fill-weights-requires
-fill-weights-requires c κs =
-    let pre = c .before .before .before .before .before .before .before .pre in
-    (omega arith, λ e x h. omega (arith, pre .0 .3 e, pre .0 .2 x h))
+fits : (c : tie.Start) → c .args .d .kept ≤ length (c .args .d .samples)
+fits c = let few = c .pre .sound .few in let long : length (c .args .d .samples) ≡ 256 = search needs in omega arith
 
-fill-terms-requires : tie.Need-fill-terms-requires
-fill-terms-requires c κs =
-    let after-fill-weights = c .before .before .before .before in
-    let start = after-fill-weights .before .before .before .before .before .before .before .before in
-    (start .pre .1 .1, start .pre .0 .1, after-fill-weights .fill-weights .kept .0 ∙ start .pre .1 .0, start .pre .0 .0, start .pre .0 .2)
+abbrev square : tie.Start → ℕ
+square c = c .args .d .kept * c .args .d .kept
 
-fill-pulls-requires : tie.Need-fill-pulls-requires
-fill-pulls-requires c κs =
-    let after-fill-weights = c .before .before .before .before .before .before .before .before .before in
-    let start = after-fill-weights .before .before .before .before .before .before .before .before in
-    (start .pre .1 .2, start .pre .0 .1, after-fill-weights .fill-weights .kept .0 ∙ start .pre .1 .0, start .pre .0 .0, start .pre .0 .2)
+abbrev start : tie.After-ks2 → tie.Start
+start c = c .before .before .before .before .before .before .before
 
-same-length : tie.Need-same-length
-same-length c = search needs
+abbrev called : tie.After-weigh-kept → tie.Start
+called c = start (c .before .before .before .before)
 
-same-length-2 : tie.Need-same-length-2
-same-length-2 c = search needs
+w-back : (c : tie.After-weigh-kept) → Back (called c .args .d .kept) (called c .args .w .now) (c .weigh-kept .last .1 .1 .1 .1 .1 .1 .0)
+w-back c = back (called c .args .d .kept) (called c .args .w .now) _ (called c .pre .weightsRoom) (c .weigh-kept .kept .1 .1 .1 .1 .1 .1 .0)
 
-same-length-3 : tie.Need-same-length-3
-same-length-3 c = search needs
+t-back : (c : tie.After-weigh-kept) → Back (square (called c)) (called c .args .terms .now) (c .weigh-kept .last .1 .1 .1 .1 .1 .1 .1 .0)
+t-back c = back (square (called c)) (called c .args .terms .now) _ (called c .pre .termsRoom) (c .weigh-kept .kept .1 .1 .1 .1 .1 .1 .1 .0)
+
+p-back : (c : tie.After-weigh-kept) → Back (square (called c)) (called c .args .pulls .now) (c .weigh-kept .last .1 .1 .1 .1 .1 .1 .1 .1 .0)
+p-back c = back (square (called c)) (called c .args .pulls .now) _ (called c .pre .pullsRoom) (c .weigh-kept .kept .1 .1 .1 .1 .1 .1 .1 .1 .0)
+
+weigh-kept-requires : tie.Need-weigh-kept-requires
+weigh-kept-requires c κs =
+    let s = start (c .before .before .before) in (
+      (s .pre .distancesFit, length-take-le _ _ (fits s), s .pre .samples, s .pre .weightsFit),
+      (length-take-le _ _ (s .pre .weightsRoom), length-take-le _ _ (s .pre .termsRoom), length-take-le _ _ (s .pre .pullsRoom)),
+    )
 
 returns : tie.Need-returns
-returns c =
-    let after-fill-terms = c .before .before .before .before .before .before .before in
-    let after-fill-weights = after-fill-terms .before .before .before .before .before in
-    let start = after-fill-weights .before .before .before .before .before .before .before .before in
-    (after-fill-weights .fill-weights .ensures, after-fill-terms .fill-terms .ensures ∙ ap (λ (l : List Float). terms (start .args .d .now) (start .args .n) (start .args .ks .now) l (start .args .m)) (after-fill-weights .fill-weights .ensures), c .before .before .fill-pulls .ensures ∙ ap (λ (l : List Float). pulls (start .args .d .now) (start .args .n) (start .args .ks .now) l (start .args .m)) (after-fill-weights .fill-weights .ensures))
+returns c labels stratified strata e =
+    let at = c .before .before .before .before .before .before in
+    let a = called at .args in
+    let told = at .weigh-kept .ensures in
+    weighs (a .d) (a .distances .now) labels stratified strata (a .weighted) (a .weights .now) e (w-back at .front ∙ told .0) (t-back at .front ∙ told .1) (p-back at .front ∙ told .2)
 
 pub weigh-spec : {M : Type 1} → statement M
 weigh-spec =
     tie.close
     (tie.spec
-    fill-weights-requires
-    fill-terms-requires
-    fill-pulls-requires
-    same-length
-    same-length-2
-    same-length-3
+    (λ c. search needs)
+    (λ c. fits (c .before .before .before .before .before .before))
+    (λ c. sym (length-take-le _ _ (fits (start c))))
+    (λ c. search needs)
+    (λ c. sym (length-take-le _ _ (start (c .before) .pre .weightsRoom)))
+    (λ c. search needs)
+    (λ c. sym (length-take-le _ _ (start (c .before .before) .pre .termsRoom)))
+    (λ c. search needs)
+    (λ c. sym (length-take-le _ _ (start (c .before .before .before) .pre .pullsRoom)))
+    weigh-kept-requires
+    (λ c. search needs)
+    (λ c. search needs)
+    (λ c. search needs)
     returns)

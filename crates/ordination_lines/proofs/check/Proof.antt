@@ -1,124 +1,87 @@
--- `ordination_lines::check` meets its contract. The lines go by their numbers.
+-- `ordination_lines::check` meets its contract. The groups of lines go one after another, and the first that refuses wins.
 -- Assumes nothing.
-use mathlib.Core.Path.{sym, ap, _∙_}
-use Prim.Native.Nat.{ℕ, _-_}
-use native.Mathlib.Nat.{min-le-right}
-use native.Mathlib.Omega.{arith}
+use mathlib.Core.Path.{_≡_, sym, _∙_}
+use mathlib.Core.List.{List, [], _++_}
 use borrow.Author.Needs.{needs}
-use borrow.Author.Tests.{lt-ltb, le-ltb, not-true, not-false}
-use Rattle.ordination_lines.specs.Lengths.{tooShort}
-use Rattle.ordination_lines.proofs.Lines.{line-distances, line-short, line-samples, line-components, line-value, line-three, line-none}
+use borrow.Author.Tests.{lt-ltb, le-ltb}
+use Rattle.outcome.specs.declared.Refusal.the-variants.{Ordination}
+use Rattle.outcome.specs.declared.Check.{Check}
+use Rattle.outcome.specs.Refusals.{Line, first}
+use Rattle.outcome.proofs.Table.{first-holds, first-passes, told-refused, told-next}
+use Rattle.lot.specs.Lines.{matrixLines}
+use Rattle.ordination_lines.specs.Lines.{fewLines, pcoaLines}
+use Rattle.ordination_lines.proofs.Lines.{sizesOf, sizes-told}
 use Rattle.ordination_lines.proofs.check.Statement.{statement}
 use Rattle.ordination_lines.proofs.check.Tie as tie
 
-is-square-requires : tie.Need-is-square-requires
-is-square-requires c κs = search needs
+-- ---- once the sizes are judged
+
+abbrev start : tie.After-check-sizes → tie.Start
+start c = c .before .before .before .before
+
+-- the groups of lines
+abbrev sizes : tie.Start → List Line
+sizes s = let a = s .args in sizesOf (a .components) (a .n) (a .d .now) (a .out) (a .b) (a .w) (a .m) (a .v)
+
+abbrev rest : tie.Start → List Line
+rest s = matrixLines (s .args .d .now) ++ fewLines (s .args .n)
+
+sized : (c : tie.After-check-sizes) → c .check-sizes .result ≡ first (sizes (start c))
+sized c =
+    let a = start c .args in
+    sizes-told (a .components) (a .n) (a .d .now) (a .out) (a .b) (a .w) (a .m) (a .v) (start c .pre) (c .before .before .misfits .ensures) (c .before .bad-components .ensures) (c .check-sizes .ensures)
+
+-- ---- once the matrix is judged too
+
+abbrev asked : tie.After-check-matrix → tie.After-check-sizes
+asked c = c .before .before .before
+
+-- where it refuses, and where what follows tells the line
+refused : (c : tie.After-enum-told4) → let at = c .before .before in at .check-matrix .result ≡ first (sizes (start (asked at)) ++ rest (start (asked at)))
+refused c =
+    let at = c .before .before in
+    let s = start (asked at) in
+    told-next (sizes s) (rest s) (sized (asked at)) (at .before .enum-told .given .1)
+    (told-refused (matrixLines (s .args .d .now)) (fewLines (s .args .n)) (at .check-matrix .ensures) (c .enum-told4 .given .1))
+
+passed : (c : tie.After-enum-told3) {t : Check} → let s = start (asked (c .before .before)) in t ≡ first (fewLines (s .args .n)) → t ≡ first (sizes s ++ rest s)
+passed c e =
+    let at = c .before .before in
+    let s = start (asked at) in
+    told-next (sizes s) (rest s) (sized (asked at)) (at .before .enum-told .given .1)
+    (told-next (matrixLines (s .args .d .now)) (fewLines (s .args .n)) (at .check-matrix .ensures) (c .enum-told3 .given .1) e)
+
+-- ---- what is left
 
 returns : tie.Need-returns
-returns c =
-    let at-is-square = c .before in
-    let at-start = at-is-square .before .before in
-    let a = at-start .args in
-    line-distances (a .components) (a .n) (a .d .now) (a .out) (a .b) (a .w) (a .m) (a .v) (sym (at-is-square .is-square .ensures) ∙ not-true _ (c .if1 .taken))
-
-too-short-requires : tie.Need-too-short-requires
-too-short-requires c κs =
-    let at-start = c .before .before .before in
-    omega (arith, at-start .pre, min-le-right (at-start .args .components) (at-start .args .n))
+unfolding pcoaLines
+returns c = let q = c .before .before in told-refused (sizes (start q)) (rest (start q)) (sized q) (c .enum-told2 .given .1)
 
 returns-2 : tie.Need-returns-2
-returns-2 c =
-    let at-too-short = c .before in
-    let at-if = at-too-short .before in
-    let at-is-square = at-if .before in
-    let at-start = at-is-square .before .before in
-    let a = at-start .args in
-    line-short (a .components) (a .n) (a .d .now) (a .out) (a .b) (a .w) (a .m) (a .v) (sym (at-is-square .is-square .ensures) ∙ not-false _ (at-if .if1 .left)) (ap (λ (k : ℕ). tooShort k (a .n) (a .out) (a .b) (a .w) (a .m) (a .v)) (sym (at-start .pre)) ∙ sym (at-too-short .too-short .ensures) ∙ c .if2 .taken)
+unfolding pcoaLines
+returns-2 c = refused c
 
 returns-3 : tie.Need-returns-3
-returns-3 c =
-    let at-if-2 = c .before in
-    let at-too-short = at-if-2 .before in
-    let at-if = at-too-short .before in
-    let at-is-square = at-if .before in
-    let at-start = at-is-square .before .before in
-    let a = at-start .args in
-    line-samples (a .components) (a .n) (a .d .now) (a .out) (a .b) (a .w) (a .m) (a .v) (sym (at-is-square .is-square .ensures) ∙ not-false _ (at-if .if1 .left)) (ap (λ (k : ℕ). tooShort k (a .n) (a .out) (a .b) (a .w) (a .m) (a .v)) (sym (at-start .pre)) ∙ sym (at-too-short .too-short .ensures) ∙ at-if-2 .if2 .left) (lt-ltb _ _ (c .if3 .taken))
-
-bad-components-requires : tie.Need-bad-components-requires
-bad-components-requires c κs = search needs
+unfolding pcoaLines
+returns-3 c = passed (c .before) (sym (first-holds Ordination [] (lt-ltb _ _ (c .if1 .taken))))
 
 returns-4 : tie.Need-returns-4
-returns-4 c =
-    let at-bad-components = c .before in
-    let at-if-3 = at-bad-components .before in
-    let at-if-2 = at-if-3 .before in
-    let at-too-short = at-if-2 .before in
-    let at-if = at-too-short .before in
-    let at-is-square = at-if .before in
-    let at-start = at-is-square .before .before in
-    let a = at-start .args in
-    line-components (a .components) (a .n) (a .d .now) (a .out) (a .b) (a .w) (a .m) (a .v) (sym (at-is-square .is-square .ensures) ∙ not-false _ (at-if .if1 .left)) (ap (λ (k : ℕ). tooShort k (a .n) (a .out) (a .b) (a .w) (a .m) (a .v)) (sym (at-start .pre)) ∙ sym (at-too-short .too-short .ensures) ∙ at-if-2 .if2 .left) (le-ltb _ _ (at-if-3 .if3 .left)) (sym (at-bad-components .bad-components .ensures) ∙ c .if4 .taken)
-
-any-outside-requires : tie.Need-any-outside-requires
-any-outside-requires c κs = search needs
-
-returns-5 : tie.Need-returns-5
-returns-5 c =
-    let at-any-outside = c .before in
-    let at-if-4 = at-any-outside .before in
-    let at-bad-components = at-if-4 .before in
-    let at-if-3 = at-bad-components .before in
-    let at-if-2 = at-if-3 .before in
-    let at-too-short = at-if-2 .before in
-    let at-if = at-too-short .before in
-    let at-is-square = at-if .before in
-    let at-start = at-is-square .before .before in
-    let a = at-start .args in
-    line-value (a .components) (a .n) (a .d .now) (a .out) (a .b) (a .w) (a .m) (a .v) (sym (at-is-square .is-square .ensures) ∙ not-false _ (at-if .if1 .left)) (ap (λ (k : ℕ). tooShort k (a .n) (a .out) (a .b) (a .w) (a .m) (a .v)) (sym (at-start .pre)) ∙ sym (at-too-short .too-short .ensures) ∙ at-if-2 .if2 .left) (le-ltb _ _ (at-if-3 .if3 .left)) (sym (at-bad-components .bad-components .ensures) ∙ at-if-4 .if4 .left) (sym (at-any-outside .any-outside .ensures) ∙ c .if5 .taken)
-
-returns-6 : tie.Need-returns-6
-returns-6 c =
-    let at-if-5 = c .before in
-    let at-any-outside = at-if-5 .before in
-    let at-if-4 = at-any-outside .before in
-    let at-bad-components = at-if-4 .before in
-    let at-if-3 = at-bad-components .before in
-    let at-if-2 = at-if-3 .before in
-    let at-too-short = at-if-2 .before in
-    let at-if = at-too-short .before in
-    let at-is-square = at-if .before in
-    let at-start = at-is-square .before .before in
-    let a = at-start .args in
-    line-three (a .components) (a .n) (a .d .now) (a .out) (a .b) (a .w) (a .m) (a .v) (sym (at-is-square .is-square .ensures) ∙ not-false _ (at-if .if1 .left)) (ap (λ (k : ℕ). tooShort k (a .n) (a .out) (a .b) (a .w) (a .m) (a .v)) (sym (at-start .pre)) ∙ sym (at-too-short .too-short .ensures) ∙ at-if-2 .if2 .left) (le-ltb _ _ (at-if-3 .if3 .left)) (sym (at-bad-components .bad-components .ensures) ∙ at-if-4 .if4 .left) (sym (at-any-outside .any-outside .ensures) ∙ at-if-5 .if5 .left) (lt-ltb _ _ (c .if6 .taken))
-
-returns-7 : tie.Need-returns-7
-returns-7 c =
-    let at-if-5 = c .before in
-    let at-any-outside = at-if-5 .before in
-    let at-if-4 = at-any-outside .before in
-    let at-bad-components = at-if-4 .before in
-    let at-if-3 = at-bad-components .before in
-    let at-if-2 = at-if-3 .before in
-    let at-too-short = at-if-2 .before in
-    let at-if = at-too-short .before in
-    let at-is-square = at-if .before in
-    let at-start = at-is-square .before .before in
-    let a = at-start .args in
-    line-none (a .components) (a .n) (a .d .now) (a .out) (a .b) (a .w) (a .m) (a .v) (sym (at-is-square .is-square .ensures) ∙ not-false _ (at-if .if1 .left)) (ap (λ (k : ℕ). tooShort k (a .n) (a .out) (a .b) (a .w) (a .m) (a .v)) (sym (at-start .pre)) ∙ sym (at-too-short .too-short .ensures) ∙ at-if-2 .if2 .left) (le-ltb _ _ (at-if-3 .if3 .left)) (sym (at-bad-components .bad-components .ensures) ∙ at-if-4 .if4 .left) (sym (at-any-outside .any-outside .ensures) ∙ at-if-5 .if5 .left) (le-ltb _ _ (c .if6 .left))
+unfolding pcoaLines first
+returns-4 c = passed (c .before) (sym (first-passes Ordination [] (le-ltb _ _ (c .if1 .left))))
 
 pub check-spec : {M : Type 1} → statement M
 check-spec =
     tie.close
     (tie.spec
-    is-square-requires
+    (λ c κs. search needs)
+    (λ c κs. search needs)
+    (λ c κs. search needs)
+    (λ c. search needs)
+    (λ c. search needs)
     returns
-    too-short-requires
+    (λ c κs. search needs)
+    (λ c. search needs)
+    (λ c. search needs)
     returns-2
     returns-3
-    bad-components-requires
-    returns-4
-    any-outside-requires
-    returns-5
-    returns-6
-    returns-7)
+    returns-4)

@@ -1,53 +1,95 @@
--- `permanova::run` meets its contract. 256 samples have room.
+-- `permanova::run` meets its contract. Weights, terms and pulls of the design's samples, the answer over them, and both work slices are zero.
 -- Assumes nothing.
-use Prim.Native.Nat.{_-_}
+use mathlib.Core.Path.{_≡_, refl, sym, _∙_}
+use mathlib.Core.List.{List}
+use Prim.Native.Nat.{ℕ, _*_, _≤_}
+use native.Mathlib.Omega.{arith}
 use borrow.Author.Needs.{needs}
+use lib.ListN.{length}
+use lib.Seq.{length-take-le}
+use lib.Ieee.{Float}
+use Rattle.float.specs.Floats.{zero⁺}
+use Rattle.lists.proofs.Writes.{cleared-same}
 use Rattle.permanova.proofs.run.Statement.{statement}
 use Rattle.permanova.proofs.run.Tie as tie
 
-slice-aggregate-run-lot : tie.Need-slice-aggregate-run-lot
-slice-aggregate-run-lot c = search needs
+abbrev square : tie.Start → ℕ
+square c = c .args .d .kept * c .args .d .kept
 
-slice-aggregate-run-lot-2 : tie.Need-slice-aggregate-run-lot-2
-slice-aggregate-run-lot-2 c = search needs
+-- ---- once the samples are weighed
 
-slice-aggregate-run-lot-3 : tie.Need-slice-aggregate-run-lot-3
-slice-aggregate-run-lot-3 c = search needs
+abbrev start : tie.After-weigh → tie.Start
+start c = c .before .before .before .before .before .before .before .before .before .before
 
-run-lot-requires : tie.Need-run-lot-requires
-run-lot-requires c κs =
-    let pre = c .before .before .before .before .before .before .before .before .before .before .before .before .before .before .before .before .before .pre in
-    (pre, (search needs, search needs, search needs))
+abbrev w′ : tie.After-weigh → List Float
+w′ c = c .weigh .last .1 .1 .1 .1 .0
 
-same-length : tie.Need-same-length
-same-length c = search needs
+abbrev t′ : tie.After-weigh → List Float
+t′ c = c .weigh .last .1 .1 .1 .1 .1 .0
 
-same-length-2 : tie.Need-same-length-2
-same-length-2 c = search needs
+abbrev p′ : tie.After-weigh → List Float
+p′ c = c .weigh .last .1 .1 .1 .1 .1 .1 .0
 
-same-length-3 : tie.Need-same-length-3
-same-length-3 c = search needs
+w-fits : (c : tie.After-weigh) → start c .args .d .kept ≤ length (w′ c)
+w-fits c = let few = start c .pre .weighing .sound .few in omega (arith, c .weigh .kept .1 .1 .1 .1 .0)
 
-same-length-4 : tie.Need-same-length-4
-same-length-4 c = search needs
+t-long : (c : tie.After-weigh) → length (t′ c) ≡ length (start c .args .terms .now)
+t-long c = c .weigh .kept .1 .1 .1 .1 .1 .0
 
-same-length-5 : tie.Need-same-length-5
-same-length-5 c = search needs
+p-long : (c : tie.After-weigh) → length (p′ c) ≡ length (start c .args .pulls .now)
+p-long c = c .weigh .kept .1 .1 .1 .1 .1 .1 .0
+
+t-fits : (c : tie.After-weigh) → square (start c) ≤ length (t′ c)
+t-fits c = let room = start c .pre .weighing .termsRoom in omega (arith, t-long c)
+
+p-fits : (c : tie.After-weigh) → square (start c) ≤ length (p′ c)
+p-fits c = let room = start c .pre .weighing .pullsRoom in omega (arith, p-long c)
+
+abbrev weighed : tie.After-answer-arg → tie.After-weigh
+weighed c = c .before .before .before .before .before .before
+
+-- ---- what is left
+
+answer-requires : tie.Need-answer-requires
+answer-requires c κs =
+    let at = weighed (c .before .before .before .before) in
+    let pre = start at .pre in
+    record {
+      weighed = record { sound = pre .weighing .sound; pulls = length-take-le _ _ (p-fits at); terms = length-take-le _ _ (t-fits at); weights = length-take-le _ _ (w-fits at) };
+      shuffles = pre .shuffles;
+      countsRoom = pre .countsRoom;
+      meansRoom = pre .meansRoom;
+    }
 
 returns : tie.Need-returns
-returns c = search needs
+returns c labels stratified strata e =
+    let cleared = c .before .before .before .before .before .before in
+    let answered = cleared .before .before .before .before .before .before in
+    let at = weighed (answered .before .before .before .before .before) in
+    record {
+      answers = answered .answer .ensures _ (record { weighs = at .weigh .ensures labels stratified strata e; weightedAs = refl });
+      terms = cleared .clear .ensures ∙ cleared-same zero⁺ (start at .args .terms .now) (t′ at) (t-long at);
+      pulls = c .before .before .clear2 .ensures ∙ cleared-same zero⁺ (start at .args .pulls .now) (p′ at) (p-long at);
+    }
 
 pub run-spec : {M : Type 1} → statement M
 run-spec =
     tie.close
     (tie.spec
-    slice-aggregate-run-lot
-    slice-aggregate-run-lot-2
-    slice-aggregate-run-lot-3
-    run-lot-requires
-    same-length
-    same-length-2
-    same-length-3
-    same-length-4
-    same-length-5
+    (λ c. search needs)
+    (λ c. search needs)
+    (λ c κs. search needs)
+    (λ c. search needs)
+    (λ c. sym (length-take-le _ _ (p-fits (weighed c))))
+    (λ c. search needs)
+    (λ c. sym (length-take-le _ _ (t-fits (weighed (c .before)))))
+    (λ c. search needs)
+    (λ c. sym (length-take-le _ _ (w-fits (weighed (c .before .before)))))
+    answer-requires
+    (λ c κs. search needs)
+    (λ c κs. search needs)
+    (λ c. search needs)
+    (λ c. search needs)
+    (λ c. search needs)
+    (λ c. search needs)
     returns)

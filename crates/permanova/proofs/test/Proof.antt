@@ -1,85 +1,80 @@
 -- `permanova::test` meets its contract. By whether a line of the table holds.
 -- Assumes nothing.
-use mathlib.Core.Path.{sym, _∙_}
-use Prim.Native.Nat.{_-_}
+use mathlib.Core.Path.{_≡_, sym, _∙_}
 use borrow.Author.Needs.{needs}
-use Rattle.lot.specs.Lot.{lotOf}
-use Rattle.sampled.specs.Call.{slicesOf}
-use Rattle.sampled.proofs.Whole.{checked, call-refused, call-passed}
+use Rattle.outcome.specs.declared.Check.the-variants.{Passed}
+use Rattle.lot.specs.Lot.{Lot, lotOf}
+use Rattle.designs.specs.Designs.{Describes}
+use Rattle.designs.proofs.Designs.{designs-lot}
+use Rattle.sampled.specs.Call.{Slices, slicesOf, testCheck}
+use Rattle.sampled.proofs.Lots.{designable, names-room, many, runs}
+use Rattle.sampled.proofs.Whole.{checked, call-answered, call-refused, call-passed}
 use Rattle.permanova.proofs.test.Statement.{statement}
 use Rattle.permanova.proofs.test.Tie as tie
 
-too-short-requires : tie.Need-too-short-requires
-too-short-requires c κs = search needs
+-- ---- once the table is asked
 
-too-many-requires : tie.Need-too-many-requires
-too-many-requires c κs = search needs
+abbrev start : tie.After-check-lot → tie.Start
+start c = c .before .before .before .before .before .before .before .before .before .before .before .before
 
-check-lot-requires : tie.Need-check-lot-requires
-check-lot-requires c κs = search needs
+abbrev lot : tie.After-check-lot → Lot
+lot c = let a = start c .args in lotOf (a .n) (a .distances .now) (a .labels .now) (a .stratified) (a .strata .now) (a .weighted) (a .weights .now)
 
-enum-known-c : tie.Need-enum-known-c
-enum-known-c c = search needs
+abbrev lent : tie.After-check-lot → Slices
+lent c = let a = start c .args in slicesOf (a .names .now) (a .counts .now) (a .means .now) (a .terms .now) (a .pulls .now)
 
-enum-told : tie.Need-enum-told
-enum-told c = search needs
+told : (c : tie.After-check-lot) → c .check-lot .result ≡ testCheck (lot c) (start c .args .n-perm) (lent c)
+told c = checked (lot c) (start c .args .seed) (start c .args .n-perm) (lent c) (c .before .before .too-short .ensures) (c .before .too-many .ensures) (c .check-lot .ensures)
+
+-- ---- once it lets the lot pass
+
+abbrev asked : tie.After-enum-told → tie.After-check-lot
+asked c = c .before .before
+
+passed : (c : tie.After-enum-told) → testCheck (lot (asked c)) (start (asked c) .args .n-perm) (lent (asked c)) ≡ Passed
+passed c = sym (told (asked c)) ∙ c .enum-told .given .1
+
+design : (c : tie.After-design-of) → Describes (lot (asked (c .before))) (c .design-of .result)
+design c = designs-lot (lot (asked (c .before))) (c .design-of .ensures)
+
+abbrev named : tie.After-run-arg4 → tie.After-fill-names
+named c = c .before .before .before .before .before .before
+
+-- ---- what is left
 
 run-requires : tie.Need-run-requires
 run-requires c κs =
-    let after-enum-told = c .before .before .before .before .before in
-    let after-check-lot = after-enum-told .before .before in
-    let after-too-many = after-check-lot .before in
-    let after-too-short = after-too-many .before in
-    let start = after-too-short .before .before .before .before .before .before .before .before .before .before in
-    let args = start .args in sym (checked (lotOf (args .n) (args .distances .now) (args .labels .now) (args .stratified) (args .strata .now) (args .weighted) (args .weights .now)) (args .seed) (args .n-perm) (slicesOf (args .names .now) (args .counts .now) (args .means .now) (args .terms .now) (args .pulls .now)) (after-too-short .too-short .ensures) (after-too-many .too-many .ensures) (after-check-lot .check-lot .ensures)) ∙ after-enum-told .enum-told .given .1
-
-returns : tie.Need-returns
-returns c =
-    let after-check-lot = c .before .before .before in
-    let after-too-many = after-check-lot .before in
-    let after-too-short = after-too-many .before in
-    let start = after-too-short .before .before .before .before .before .before .before .before .before .before in
-    let args = start .args in call-refused (lotOf (args .n) (args .distances .now) (args .labels .now) (args .stratified) (args .strata .now) (args .weighted) (args .weights .now)) (args .seed) (args .n-perm) (slicesOf (args .names .now) (args .counts .now) (args .means .now) (args .terms .now) (args .pulls .now)) (sym (c .before .c .given .1) ∙ checked (lotOf (args .n) (args .distances .now) (args .labels .now) (args .stratified) (args .strata .now) (args .weighted) (args .weights .now)) (args .seed) (args .n-perm) (slicesOf (args .names .now) (args .counts .now) (args .means .now) (args .terms .now) (args .pulls .now)) (after-too-short .too-short .ensures) (after-too-many .too-many .ensures) (after-check-lot .check-lot .ensures))
-
-same-length : tie.Need-same-length
-same-length c = search needs
-
-same-length-2 : tie.Need-same-length-2
-same-length-2 c = search needs
-
-same-length-3 : tie.Need-same-length-3
-same-length-3 c = search needs
-
-same-length-4 : tie.Need-same-length-4
-same-length-4 c = search needs
-
-same-length-5 : tie.Need-same-length-5
-same-length-5 c = search needs
+    let at = named c .before .before in
+    let q = asked (at .before) in
+    runs (lot q) (start q .args .seed) (start q .args .n-perm) (lent q) (passed (at .before)) (design at)
 
 returns-2 : tie.Need-returns-2
 returns-2 c =
-    let after-run = c .before .before .before .before .before .before .before .before .before .before in
-    let after-enum-told = after-run .before .before .before .before .before .before in
-    let after-check-lot = after-enum-told .before .before in
-    let after-too-many = after-check-lot .before in
-    let after-too-short = after-too-many .before in
-    let start = after-too-short .before .before .before .before .before .before .before .before .before .before in
-    let args = start .args in call-passed (lotOf (args .n) (args .distances .now) (args .labels .now) (args .stratified) (args .strata .now) (args .weighted) (args .weights .now)) (args .seed) (args .n-perm) (slicesOf (args .names .now) (args .counts .now) (args .means .now) (args .terms .now) (args .pulls .now)) (sym (after-enum-told .enum-told .given .1) ∙ checked (lotOf (args .n) (args .distances .now) (args .labels .now) (args .stratified) (args .strata .now) (args .weighted) (args .weights .now)) (args .seed) (args .n-perm) (slicesOf (args .names .now) (args .counts .now) (args .means .now) (args .terms .now) (args .pulls .now)) (after-too-short .too-short .ensures) (after-too-many .too-many .ensures) (after-check-lot .check-lot .ensures)) (after-run .run .ensures)
+    let ran = c .before .before .before .before .before .before .before .before in
+    let names = named (ran .before) in
+    let at = names .before .before in
+    let q = asked (at .before) in
+    let a = start q .args in
+    let all = many (lot q) (a .seed) (a .n-perm) (lent q) (passed (at .before)) (design at) in
+    call-passed (lot q) (a .seed) (a .n-perm) (lent q) (sym (passed (at .before)))
+    (call-answered (lot q) (a .seed) (a .n-perm) (design at) all (lent q) _ (names .fill-names .ensures) (ran .run .ensures (a .labels .now) (a .stratified) (a .strata .now)))
 
 pub test-spec : {M : Type 1} → statement M
 test-spec =
     tie.close
     (tie.spec
-    too-short-requires
-    too-many-requires
-    check-lot-requires
-    enum-known-c
-    enum-told
+    (λ c κs. search needs)
+    (λ c κs. search needs)
+    (λ c κs. search needs)
+    (λ c. search needs)
+    (λ c. search needs)
+    (λ c κs. let q = asked c in designable (lot q) (start q .args .n-perm) (lent q) (passed c))
+    (λ c κs. let at = c .before in let q = asked (at .before) in names-room (lot q) (start q .args .seed) (start q .args .n-perm) (lent q) (passed (at .before)) (design at))
     run-requires
-    returns
-    same-length
-    same-length-2
-    same-length-3
-    same-length-4
-    same-length-5
+    (λ c. let q = c .before .before .before in call-refused (lot q) (start q .args .seed) (start q .args .n-perm) (lent q) (sym (c .before .c .given .1) ∙ told q))
+    (λ c. search needs)
+    (λ c. search needs)
+    (λ c. search needs)
+    (λ c. search needs)
+    (λ c. search needs)
     returns-2)

@@ -1,85 +1,82 @@
 -- `sampled_hits::count_hits` meets its contract. The hits so far and those of the shuffles left are always all.
 -- Assumes nothing.
-
-use mathlib.Core.Path.{_≡_, refl, _∙_}
-use Prim.Native.Nat.{_+_, _-_, _≤_}
+use mathlib.Core.Path.{refl, sym, subst, _∙_}
+use mathlib.Core.List.{List, _++_}
+use Prim.Native.Nat.{ℕ, _-_, _<_, _≤_}
 use native.Mathlib.Omega.{arith}
-use lib.ListN.{length}
-use Rattle.location.specs.Location.{within, pseudoF}
+use lib.ListN.{length, take, drop}
+use lib.Seq.{length-take-le}
 use Rattle.shuffles.specs.Parted.{shuffledBy}
-use Rattle.lists.specs.Ranges.{range}
-use Rattle.lists.specs.Filters.{countIf}
-use Rattle.lists.proofs.Filters.{count-turn, count-end, one-more}
-use native.Mathlib.Nat.{zero-add}
-use Rattle.statistics.specs.Hits.{shuffleHit}
-use Rattle.anova.specs.Anova.{anovaF}
-use Rattle.sampled_hits.specs.Room.{Room}
+use Rattle.shuffles.proofs.Shuffles.{labels-are}
+use Rattle.designs.proofs.Fronts.{Back, back}
+use Rattle.sampled_hits.specs.Room.{Assigned}
+use Rattle.sampled_hits.proofs.Tally.{Counting, counting-none, counting-next, counting-all}
 use Rattle.sampled_hits.proofs.count_hits.Statement.{statement}
 use Rattle.sampled_hits.proofs.count_hits.Tie as tie
 
 abbrev Inv-loop : tie.InvT-loop
-Inv-loop t w z total gs m g sn sm s seed n seen lab₀ next₀ mem₀ means₀ grand a₀ b₀ i₀ lab next mem means a b i =
-    (i ≤ n) × (a ≤ i) × (b ≤ i) × Room m g lab next mem means × (length lab ≡ length lab₀) × (length next ≡ length next₀) × (length mem ≡ length mem₀) × (length means ≡ length means₀) × (a + countIf (λ i. shuffleHit (seen .location) (pseudoF total (within t w (shuffledBy sn sm s gs seed i) m g) m g)) (range i n) ≡ countIf (λ i. shuffleHit (seen .location) (pseudoF total (within t w (shuffledBy sn sm s gs seed i) m g) m g)) (range 0 n)) × (b + countIf (λ i. shuffleHit (seen .dispersion) (anovaF z (shuffledBy sn sm s gs seed i) m g)) (range i n) ≡ countIf (λ i. shuffleHit (seen .dispersion) (anovaF z (shuffledBy sn sm s gs seed i) m g)) (range 0 n))
+Inv-loop t w z gs sn sm sizes grand m seed n first second total lab₀ next₀ mem₀ means₀ a₀ b₀ i₀ lab next mem means a b i =
+    Counting t w z sizes (record { location = first; dispersion = second; total = total }) (shuffledBy sn sm (sizes .strata) gs seed) n lab a b i
 
 abbrev μ-loop : tie.MeasureT-loop
-μ-loop t w z total gs m g sn sm s seed n seen lab₀ next₀ mem₀ means₀ grand a₀ b₀ i₀ lab next mem means a b i =
+μ-loop t w z gs sn sm sizes grand m seed n first second total lab₀ next₀ mem₀ means₀ a₀ b₀ i₀ lab next mem means a b i =
     n - i
 
-loop-holds : tie.Need-loop-holds Inv-loop μ-loop
-loop-holds c = (omega arith, omega arith, omega arith, c .before .before .before .before .before .before .before .before .before .before .pre .1, refl, refl, refl, refl, zero-add _, zero-add _)
+-- ---- places, and what is known there
 
-shuffle-found-requires : tie.Need-shuffle-found-requires Inv-loop μ-loop
-shuffle-found-requires c κs =
-    let at-loop = c .before .before .before .before .before in
-    let start = at-loop .before .before .before .before .before .before .before .before .before .before .before in
-    (start .pre .0, at-loop .loop .inv .3, start .pre .3)
+abbrev start : tie.At-loop Inv-loop μ-loop → tie.Start Inv-loop μ-loop
+start c = c .before .before .before .before .before .before .before
 
-counted-requires : tie.Need-counted-requires Inv-loop μ-loop
-counted-requires c κs =
-    let turn = c .before .before .before .before .before .before .before .before .before .before .before .before .before .before .loop in
-    omega (arith, turn .inv .1)
+abbrev kept : tie.At-loop Inv-loop μ-loop → ℕ
+kept c = start c .args .sizes .kept
 
-counted-requires-2 : tie.Need-counted-requires-2 Inv-loop μ-loop
-counted-requires-2 c κs =
-    let turn = c .before .before .before .before .before .before .before .before .before .before .before .before .before .before .before .loop in
-    omega (arith, turn .inv .2)
+room : (c : tie.At-loop Inv-loop μ-loop) → kept c ≤ length (c .loop .lab)
+room c = omega (arith, c .loop .inv .room, start c .pre .0 .labelled .few)
 
-add-i : tie.Need-add-i Inv-loop μ-loop
-add-i c = omega arith
+abbrev turn : tie.After-deal Inv-loop μ-loop → tie.At-loop Inv-loop μ-loop
+turn c = c .before .before .before .before .before
 
-loop-less : tie.Need-loop-less Inv-loop μ-loop
-loop-less c = omega arith
+labels : (c : tie.After-deal Inv-loop μ-loop) → Back (kept (turn c)) (turn c .loop .lab) (c .deal .last .0)
+labels c = back (kept (turn c)) (turn c .loop .lab) (c .deal .last .0) (room (turn c)) (c .deal .kept .0)
+
+-- the labels at the front, with the members of their groups
+assigned : (c : tie.After-deal Inv-loop μ-loop) → let out = c .deal .last in
+    Assigned (start (turn c) .args .sizes) (take (kept (turn c)) (out .0 ++ drop (kept (turn c)) (turn c .loop .lab))) (out .1 .0) (out .1 .1 .0)
+assigned c = let out = c .deal .last in subst (λ (l : List ℕ). Assigned (start (turn c) .args .sizes) l (out .1 .0) (out .1 .1 .0)) (sym (labels c .front)) (c .deal .ensures .assigned)
+
+abbrev dealt : tie.After-location-hit Inv-loop μ-loop → tie.After-deal Inv-loop μ-loop
+dealt c = c .before .before .before .before .before
+
+abbrev located : tie.After-dispersion-hit Inv-loop μ-loop → tie.After-location-hit Inv-loop μ-loop
+located c = c .before .before .before .before .before
+
+abbrev at : tie.After-dispersion-hit Inv-loop μ-loop → tie.At-loop Inv-loop μ-loop
+at c = turn (dealt (located c))
+
+within : (c : tie.After-dispersion-hit Inv-loop μ-loop) → at c .loop .i < start (at c) .args .draws .many
+within c = dealt (located c) .before .before .before .before .loop-test .taken
+
+-- ---- what is left
+
+location-hit-requires : tie.Need-location-hit-requires Inv-loop μ-loop
+location-hit-requires c κs =
+    let d = c .before .before .before .before in
+    let over = start (turn d) .pre .1 in
+    (assigned d, over .terms, over .weights)
+
+dispersion-hit-requires : tie.Need-dispersion-hit-requires Inv-loop μ-loop
+dispersion-hit-requires c κs =
+    let d = dealt (c .before .before .before .before) in
+    let pre = start (turn d) .pre in
+    (assigned d, pre .1 .observed, pre .3)
 
 loop-again : tie.Need-loop-again Inv-loop μ-loop
-loop-again c = (
-  omega arith,
-  omega (arith, c .before .counted .ensures, one-more (c .before .before .before .before .before .before .before .before .before .before .shuffle-found .result .location) (c .before .before .before .before .before .before .before .before .before .before .before .before .before .before .before .before .loop .a)),
-  omega (arith, c .counted2 .ensures, one-more (c .before .before .before .before .before .before .before .before .before .before .shuffle-found .result .dispersion) (c .before .before .before .before .before .before .before .before .before .before .before .before .before .before .before .before .loop .b)),
-  record { labels = c .before .before .before .before .before .before .before .before .before .before .shuffle-found .kept .1 .1 .1 .1 .1 .1 .1 .1 .1 .1 .1 .1 .1 .0 ∙ c .before .before .before .before .before .before .before .before .before .before .before .before .before .before .before .before .loop .inv .3 .labels; starts = omega (arith, c .before .before .before .before .before .before .before .before .before .before .shuffle-found .kept .1 .1 .1 .1 .1 .1 .1 .1 .1 .1 .1 .1 .1 .1 .0, c .before .before .before .before .before .before .before .before .before .before .before .before .before .before .before .before .loop .inv .3 .starts); members = omega (arith, c .before .before .before .before .before .before .before .before .before .before .shuffle-found .kept .1 .1 .1 .1 .1 .1 .1 .1 .1 .1 .1 .1 .1 .1 .1 .0, c .before .before .before .before .before .before .before .before .before .before .before .before .before .before .before .before .loop .inv .3 .members); limited = omega (arith, c .before .before .before .before .before .before .before .before .before .before .shuffle-found .kept .1 .1 .1 .1 .1 .1 .1 .1 .1 .1 .1 .1 .1 .1 .1 .0, c .before .before .before .before .before .before .before .before .before .before .before .before .before .before .before .before .loop .inv .3 .limited); room = omega (arith, c .before .before .before .before .before .before .before .before .before .before .shuffle-found .kept .1 .1 .1 .1 .1 .1 .1 .1 .1 .1 .1 .1 .1 .1 .1 .1 .0, c .before .before .before .before .before .before .before .before .before .before .before .before .before .before .before .before .loop .inv .3 .room) },
-  c .before .before .before .before .before .before .before .before .before .before .shuffle-found .kept .1 .1 .1 .1 .1 .1 .1 .1 .1 .1 .1 .1 .1 .0 ∙ c .before .before .before .before .before .before .before .before .before .before .before .before .before .before .before .before .loop .inv .4,
-  c .before .before .before .before .before .before .before .before .before .before .shuffle-found .kept .1 .1 .1 .1 .1 .1 .1 .1 .1 .1 .1 .1 .1 .1 .0 ∙ c .before .before .before .before .before .before .before .before .before .before .before .before .before .before .before .before .loop .inv .5,
-  c .before .before .before .before .before .before .before .before .before .before .shuffle-found .kept .1 .1 .1 .1 .1 .1 .1 .1 .1 .1 .1 .1 .1 .1 .1 .0 ∙ c .before .before .before .before .before .before .before .before .before .before .before .before .before .before .before .before .loop .inv .6,
-  c .before .before .before .before .before .before .before .before .before .before .shuffle-found .kept .1 .1 .1 .1 .1 .1 .1 .1 .1 .1 .1 .1 .1 .1 .1 .1 .0 ∙ c .before .before .before .before .before .before .before .before .before .before .before .before .before .before .before .before .loop .inv .7,
-  count-turn (λ i. shuffleHit (c .before .before .before .before .before .before .before .before .before .before .before .before .before .before .before .before .before .before .before .before .before .before .before .before .before .before .before .args .seen .location) (pseudoF (c .before .before .before .before .before .before .before .before .before .before .before .before .before .before .before .before .before .before .before .before .before .before .before .before .before .before .before .args .total) (within (c .before .before .before .before .before .before .before .before .before .before .before .before .before .before .before .before .before .before .before .before .before .before .before .before .before .before .before .args .t .now) (c .before .before .before .before .before .before .before .before .before .before .before .before .before .before .before .before .before .before .before .before .before .before .before .before .before .before .before .args .w .now) (shuffledBy (c .before .before .before .before .before .before .before .before .before .before .before .before .before .before .before .before .before .before .before .before .before .before .before .before .before .before .before .args .sn .now) (c .before .before .before .before .before .before .before .before .before .before .before .before .before .before .before .before .before .before .before .before .before .before .before .before .before .before .before .args .sm .now) (c .before .before .before .before .before .before .before .before .before .before .before .before .before .before .before .before .before .before .before .before .before .before .before .before .before .before .before .args .s) (c .before .before .before .before .before .before .before .before .before .before .before .before .before .before .before .before .before .before .before .before .before .before .before .before .before .before .before .args .gs .now) (c .before .before .before .before .before .before .before .before .before .before .before .before .before .before .before .before .before .before .before .before .before .before .before .before .before .before .before .args .seed) i) (c .before .before .before .before .before .before .before .before .before .before .before .before .before .before .before .before .before .before .before .before .before .before .before .before .before .before .before .args .m) (c .before .before .before .before .before .before .before .before .before .before .before .before .before .before .before .before .before .before .before .before .before .before .before .before .before .before .before .args .g)) (c .before .before .before .before .before .before .before .before .before .before .before .before .before .before .before .before .before .before .before .before .before .before .before .before .before .before .before .args .m) (c .before .before .before .before .before .before .before .before .before .before .before .before .before .before .before .before .before .before .before .before .before .before .before .before .before .before .before .args .g))) (c .before .before .before .before .before .before .before .before .before .before .before .before .before .before .before .before .loop .i) (c .before .before .before .before .before .before .before .before .before .before .before .before .before .before .before .before .before .before .before .before .before .before .before .before .before .before .before .args .n) (c .before .before .before .before .before .before .before .before .before .before .before .before .before .before .before .before .loop .a) (omega arith) (c .before .before .before .before .before .before .before .before .before .before .shuffle-found .ensures .0) (c .before .counted .ensures) (c .before .before .before .before .before .before .before .before .before .before .before .before .before .before .before .before .loop .inv .8),
-  count-turn (λ i. shuffleHit (c .before .before .before .before .before .before .before .before .before .before .before .before .before .before .before .before .before .before .before .before .before .before .before .before .before .before .before .args .seen .dispersion) (anovaF (c .before .before .before .before .before .before .before .before .before .before .before .before .before .before .before .before .before .before .before .before .before .before .before .before .before .before .before .args .z .now) (shuffledBy (c .before .before .before .before .before .before .before .before .before .before .before .before .before .before .before .before .before .before .before .before .before .before .before .before .before .before .before .args .sn .now) (c .before .before .before .before .before .before .before .before .before .before .before .before .before .before .before .before .before .before .before .before .before .before .before .before .before .before .before .args .sm .now) (c .before .before .before .before .before .before .before .before .before .before .before .before .before .before .before .before .before .before .before .before .before .before .before .before .before .before .before .args .s) (c .before .before .before .before .before .before .before .before .before .before .before .before .before .before .before .before .before .before .before .before .before .before .before .before .before .before .before .args .gs .now) (c .before .before .before .before .before .before .before .before .before .before .before .before .before .before .before .before .before .before .before .before .before .before .before .before .before .before .before .args .seed) i) (c .before .before .before .before .before .before .before .before .before .before .before .before .before .before .before .before .before .before .before .before .before .before .before .before .before .before .before .args .m) (c .before .before .before .before .before .before .before .before .before .before .before .before .before .before .before .before .before .before .before .before .before .before .before .before .before .before .before .args .g))) (c .before .before .before .before .before .before .before .before .before .before .before .before .before .before .before .before .loop .i) (c .before .before .before .before .before .before .before .before .before .before .before .before .before .before .before .before .before .before .before .before .before .before .before .before .before .before .before .args .n) (c .before .before .before .before .before .before .before .before .before .before .before .before .before .before .before .before .loop .b) (omega arith) (c .before .before .before .before .before .before .before .before .before .before .shuffle-found .ensures .1) (c .counted2 .ensures) (c .before .before .before .before .before .before .before .before .before .before .before .before .before .before .before .before .loop .inv .9),
-)
-
-same-length : tie.Need-same-length Inv-loop μ-loop
-same-length c = c .before .loop .inv .4
-
-same-length-2 : tie.Need-same-length-2 Inv-loop μ-loop
-same-length-2 c = c .before .loop .inv .5
-
-same-length-3 : tie.Need-same-length-3 Inv-loop μ-loop
-same-length-3 c = c .before .loop .inv .6
-
-same-length-4 : tie.Need-same-length-4 Inv-loop μ-loop
-same-length-4 c = c .before .loop .inv .7
-
-returns : tie.Need-returns Inv-loop μ-loop
-returns c =
-    let args = c .before .before .before .before .before .before .before .before .before .before .before .before .args in
-    (count-end (λ i. shuffleHit (args .seen .location) (pseudoF (args .total) (within (args .t .now) (args .w .now) (shuffledBy (args .sn .now) (args .sm .now) (args .s) (args .gs .now) (args .seed) i) (args .m) (args .g)) (args .m) (args .g))) (c .before .loop .i) (args .n) (c .before .loop .a) (omega arith) (c .before .loop .inv .8), count-end (λ i. shuffleHit (args .seen .dispersion) (anovaF (args .z .now) (shuffledBy (args .sn .now) (args .sm .now) (args .s) (args .gs .now) (args .seed) i) (args .m) (args .g))) (c .before .loop .i) (args .n) (c .before .loop .b) (omega arith) (c .before .loop .inv .9))
+loop-again c =
+    let hit = c .before .before in
+    let d = dealt (located hit) in
+    let dealt-here = labels d .front ∙ labels-are (d .deal .ensures .shuffled) in
+    counting-next (at hit .loop .inv) (within hit) (labels d .whole) dealt-here
+    (located hit .location-hit .ensures) (hit .dispersion-hit .ensures) (c .before .counted .ensures) (c .counted2 .ensures)
 
 pub count-hits-spec : {M : Type 1} → statement M
 count-hits-spec =
@@ -87,15 +84,19 @@ count-hits-spec =
     (tie.spec
     Inv-loop
     μ-loop
-    loop-holds
-    shuffle-found-requires
-    counted-requires
-    counted-requires-2
-    add-i
-    loop-less
+    (λ c. counting-none refl)
+    (λ c. room (c .before))
+    (λ c. sym (length-take-le _ _ (room (c .before .before))))
+    (λ c κs. let l = c .before .before .before .before in (start l .pre .0, length-take-le _ _ (room l)))
+    (λ c. labels (c .before) .fits)
+    (λ c. sym (length-take-le _ _ (labels (c .before .before) .fits)))
+    location-hit-requires
+    (λ c. labels (dealt (c .before)) .fits)
+    (λ c. sym (length-take-le _ _ (labels (dealt (c .before .before)) .fits)))
+    dispersion-hit-requires
+    (λ c κs. omega (arith, at c .loop .inv .location, start (at c) .pre .2))
+    (λ c κs. let l = at (c .before) in omega (arith, l .loop .inv .dispersion, start l .pre .2))
+    (λ c. let l = at (c .before .before) in omega (arith, within (c .before .before), start l .pre .2))
+    (λ c. omega (arith, within (c .before .before)))
     loop-again
-    same-length
-    same-length-2
-    same-length-3
-    same-length-4
-    returns)
+    (λ c. counting-all (c .before .loop .inv) (omega arith)))

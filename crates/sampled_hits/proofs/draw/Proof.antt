@@ -1,44 +1,67 @@
--- `sampled_hits::draw` meets its contract. 256 samples have room.
+-- `sampled_hits::draw` meets its contract. The strata become parts of a list, and the shuffles within them are counted.
 -- Assumes nothing.
-
-use Prim.Native.Nat.{_-_}
+use mathlib.Core.Path.{_≡_, sym, _∙_}
+use Prim.Native.Nat.{_≤_}
+use native.Mathlib.Omega.{arith}
 use borrow.Author.Needs.{needs}
+use lib.ListN.{length}
+use lib.Seq.{length-take-le}
+use Rattle.designs.specs.Designs.{groupsOf, strataOf}
+use Rattle.sampled_hits.specs.Drawn.{shapeOf, drawn}
+use Rattle.sampled_hits.proofs.Tally.{hits-within}
 use Rattle.sampled_hits.proofs.draw.Statement.{statement}
 use Rattle.sampled_hits.proofs.draw.Tie as tie
 
-slice-aggregate-draw-with : tie.Need-slice-aggregate-draw-with
-slice-aggregate-draw-with c = search needs
+fits : (c : tie.Start) → (c .args .d .kept ≤ length (c .args .d .group)) × (c .args .d .kept ≤ length (c .args .d .stratum))
+fits c =
+    let few = c .pre .0 .sound .few in
+    let gs : length (c .args .d .group) ≡ 256 = search needs in
+    let ss : length (c .args .d .stratum) ≡ 256 = search needs in
+    (omega arith, omega arith)
 
-slice-aggregate-draw-with-2 : tie.Need-slice-aggregate-draw-with-2
-slice-aggregate-draw-with-2 c = search needs
+abbrev start : tie.After-grand-mean → tie.Start
+start c = c .before .before .before .before .before .before
 
-slice-aggregate-draw-with-3 : tie.Need-slice-aggregate-draw-with-3
-slice-aggregate-draw-with-3 c = search needs
+abbrev meant : tie.After-group → tie.After-grand-mean
+meant c = c .before .before .before .before
 
-slice-aggregate-draw-with-4 : tie.Need-slice-aggregate-draw-with-4
-slice-aggregate-draw-with-4 c = search needs
+abbrev grouped : tie.After-sm3 → tie.After-group
+grouped c = c .before .before .before .before .before
 
-slice-aggregate-draw-with-5 : tie.Need-slice-aggregate-draw-with-5
-slice-aggregate-draw-with-5 c = search needs
-
-slice-aggregate-draw-with-6 : tie.Need-slice-aggregate-draw-with-6
-slice-aggregate-draw-with-6 c = search needs
-
-draw-with-requires : tie.Need-draw-with-requires
-draw-with-requires c κs = (c .before .before .before .before .before .before .before .before .before .before .before .pre, (search needs, search needs, search needs, search needs, search needs, search needs))
+count-hits-requires : tie.Need-count-hits-requires
+count-hits-requires c κs =
+    let s = start (meant (grouped c)) in
+    let sound = s .pre .0 .sound in (
+      record {
+        labelled = record { labels = length-take-le _ _ (fits s .0); groups = sound .groups; some = sound .some; enough = sound .enough; few = sound .few };
+        strata = grouped c .group .ensures .parts;
+      },
+      s .pre .0 .over,
+      s .pre .1,
+      meant (grouped c) .grand-mean .ensures,
+    )
 
 returns : tie.Need-returns
-returns c = search needs
+unfolding drawn
+returns c =
+    let at = grouped (c .before) in
+    let a = start (meant at) .args in
+    c .count-hits .ensures
+    ∙ hits-within (a .t .now) (a .w .now) (a .z .now) (shapeOf (a .d)) (a .seen) (a .draws .many) (strataOf (a .d)) (a .d .kept) (a .d .strata) _ _ (groupsOf (a .d)) (a .draws .seed) (at .group .ensures)
 
 pub draw-spec : {M : Type 1} → statement M
 draw-spec =
     tie.close
     (tie.spec
-    slice-aggregate-draw-with
-    slice-aggregate-draw-with-2
-    slice-aggregate-draw-with-3
-    slice-aggregate-draw-with-4
-    slice-aggregate-draw-with-5
-    slice-aggregate-draw-with-6
-    draw-with-requires
+    (λ c κs. search needs)
+    (λ c. fits (start c) .1)
+    (λ c. sym (length-take-le _ _ (fits (start (c .before)) .1)))
+    (λ c. search needs)
+    (λ c. search needs)
+    (λ c κs. let s = start (c .before .before .before) in (length-take-le _ _ (fits s .1), s .pre .0 .sound .few, s .pre .0 .sound .few, omega (arith, s .pre .0 .sound .strata)))
+    (λ c. fits (start (meant (c .before .before))) .0)
+    (λ c. sym (length-take-le _ _ (fits (start (meant (c .before .before .before))) .0)))
+    (λ c. search needs)
+    (λ c. search needs)
+    count-hits-requires
     returns)

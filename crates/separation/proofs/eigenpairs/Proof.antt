@@ -1,90 +1,83 @@
--- `separation::eigenpairs` meets its contract. Room of its own.
+-- `separation::eigenpairs` meets its contract. The eigenpairs of the whitened matrix.
 -- Assumes nothing.
-
-use mathlib.Core.Path.{sym}
-use Prim.Native.Nat.{_*_}
-use native.Mathlib.Nat.{mul-le-mul}
+use mathlib.Core.Path.{sym, ap, _∙_}
+use mathlib.Core.List.{List}
+use Prim.Native.Nat.{_*_, _≤_}
 use native.Mathlib.Omega.{arith}
+use borrow.Author.Needs.{needs}
+use lib.ListN.{replicate}
 use lib.Seq.{length-take-le}
+use lib.Ieee.{Float}
 use Rattle.float.specs.Floats.{zero⁺}
 use Rattle.lists.proofs.Parts.{take-replicate}
+use Rattle.designs.proofs.Fronts.{Back, back}
+use Rattle.jacobi.specs.Eigen.{jacobi}
+use Rattle.jacobi.specs.Call.{Solved, solution}
+use Rattle.separation.proofs.Decided.{square-fits}
 use Rattle.separation.proofs.eigenpairs.Statement.{statement}
 use Rattle.separation.proofs.eigenpairs.Tie as tie
 
-mul-k : tie.Need-mul-k
-mul-k c =
-    let at-start = c .before .before .before in
-    omega (arith, mul-le-mul {n₁ = at-start .args .p} {m₁ = at-start .args .p} {n₂ = 16} {m₂ = 16} (at-start .pre .3) (at-start .pre .3))
+square : (s : tie.Start) → s .args .p * s .args .p ≤ 256
+square s = square-fits (s .args .p) (s .pre .narrow)
 
-array-borrow-prefix-white : tie.Need-array-borrow-prefix-white
-array-borrow-prefix-white c =
-    let at-start = c .before .before .before .before in
-    omega (arith, mul-le-mul {n₁ = at-start .args .p} {m₁ = at-start .args .p} {n₂ = 16} {m₂ = 16} (at-start .pre .3) (at-start .pre .3))
+abbrev start : tie.After-whiten → tie.Start
+start c = c .before .before .before .before .before .before
 
-slice-aggregate-eigen-of : tie.Need-slice-aggregate-eigen-of
-slice-aggregate-eigen-of c =
-    let at-start = c .before .before .before .before .before in
-    sym (length-take-le _ _ (omega (arith, mul-le-mul {n₁ = at-start .args .p} {m₁ = at-start .args .p} {n₂ = 16} {m₂ = 16} (at-start .pre .3) (at-start .pre .3))))
+abbrev whitened : tie.After-eigen → tie.After-whiten
+whitened c = c .before .before .before .before .before .before .before .before .before
 
-array-borrow-prefix-half : tie.Need-array-borrow-prefix-half
-array-borrow-prefix-half c =
-    let at-start = c .before .before .before .before .before in
-    omega (arith, mul-le-mul {n₁ = at-start .args .p} {m₁ = at-start .args .p} {n₂ = 16} {m₂ = 16} (at-start .pre .3) (at-start .pre .3))
+-- the whitened matrix and its half stand at the front of arrays of zeros
+abbrev zeros : List Float
+zeros = replicate 256 zero⁺
 
-slice-aggregate-eigen-of-2 : tie.Need-slice-aggregate-eigen-of-2
-slice-aggregate-eigen-of-2 c =
-    let at-start = c .before .before .before .before .before .before in
-    sym (length-take-le _ _ (omega (arith, mul-le-mul {n₁ = at-start .args .p} {m₁ = at-start .args .p} {n₂ = 16} {m₂ = 16} (at-start .pre .3) (at-start .pre .3))))
+white : (c : tie.After-whiten) → Back (start c .args .p * start c .args .p) zeros (c .whiten .last .0)
+white c = back (start c .args .p * start c .args .p) zeros (c .whiten .last .0) (square (start c)) (c .whiten .kept .0)
 
-array-borrow-prefix-v : tie.Need-array-borrow-prefix-v
-array-borrow-prefix-v c =
-    let at-start = c .before .before .before .before .before .before in
-    omega (arith, mul-le-mul {n₁ = at-start .args .p} {m₁ = at-start .args .p} {n₂ = 16} {m₂ = 16} (at-start .pre .3) (at-start .pre .3))
+half : (c : tie.After-whiten) → Back (start c .args .p * start c .args .p) zeros (c .whiten .last .1 .0)
+half c = back (start c .args .p * start c .args .p) zeros (c .whiten .last .1 .0) (square (start c)) (c .whiten .kept .1 .0)
 
-slice-aggregate-eigen-of-3 : tie.Need-slice-aggregate-eigen-of-3
-slice-aggregate-eigen-of-3 c =
-    let at-start = c .before .before .before .before .before .before .before in
-    sym (length-take-le _ _ (omega (arith, mul-le-mul {n₁ = at-start .args .p} {m₁ = at-start .args .p} {n₂ = 16} {m₂ = 16} (at-start .pre .3) (at-start .pre .3))))
+whiten-requires : tie.Need-whiten-requires
+whiten-requires c κs =
+    let s = c .before .before .before .before .before in
+    let none = take-replicate (s .args .p * s .args .p) 256 zero⁺ (square s) in
+    (none, none, s .pre .factor, s .pre .between)
 
-array-borrow-prefix-row : tie.Need-array-borrow-prefix-row
-array-borrow-prefix-row c = omega (arith, c .before .before .before .before .before .before .before .pre .3)
-
-slice-aggregate-eigen-of-4 : tie.Need-slice-aggregate-eigen-of-4
-slice-aggregate-eigen-of-4 c = sym (length-take-le _ _ (omega (arith, c .before .before .before .before .before .before .before .before .pre .3)))
-
-array-borrow-prefix-order : tie.Need-array-borrow-prefix-order
-array-borrow-prefix-order c = omega (arith, c .before .before .before .before .before .before .before .before .pre .3)
-
-slice-aggregate-eigen-of-5 : tie.Need-slice-aggregate-eigen-of-5
-slice-aggregate-eigen-of-5 c = sym (length-take-le _ _ (omega (arith, c .before .before .before .before .before .before .before .before .before .pre .3)))
-
-eigen-of-requires : tie.Need-eigen-of-requires
-eigen-of-requires c κs =
-    let at-start = c .before .before .before .before .before .before .before .before .before in
-    let a = at-start .args in
-    ((at-start .pre .0, take-replicate (a .p * a .p) 256 zero⁺ (omega (arith, mul-le-mul {n₁ = a .p} {m₁ = a .p} {n₂ = 16} {m₂ = 16} (at-start .pre .3) (at-start .pre .3))), take-replicate (a .p * a .p) 256 zero⁺ (omega (arith, mul-le-mul {n₁ = a .p} {m₁ = a .p} {n₂ = 16} {m₂ = 16} (at-start .pre .3) (at-start .pre .3))), length-take-le _ _ (omega (arith, mul-le-mul {n₁ = a .p} {m₁ = a .p} {n₂ = 16} {m₂ = 16} (at-start .pre .3) (at-start .pre .3))), length-take-le _ _ (omega (arith, at-start .pre .3)), length-take-le _ _ (omega (arith, at-start .pre .3))), (at-start .pre .1, at-start .pre .2, at-start .pre .3))
-
-same-length : tie.Need-same-length
-same-length c = c .before .before .before .before .before .before .before .eigen-of .kept .0
+eigen-requires : tie.Need-eigen-requires
+eigen-requires c κs =
+    let at = c .before .before .before .before .before .before .before .before in
+    let s = start at in
+    let narrow = s .pre .narrow in (
+      (length-take-le _ _ (white at .fits), s .pre .pairs, length-take-le _ _ (half at .fits), length-take-le _ _ (square s)),
+      (length-take-le _ _ narrow, length-take-le _ _ narrow, omega arith),
+    )
 
 returns : tie.Need-returns
-returns c = c .before .before .before .before .before .before .before .eigen-of .ensures
+unfolding solution
+returns c =
+    let solved = c .before .before .before .before .before .before in
+    let at = whitened solved in
+    ap (λ (s : Solved). s .found) (solved .eigen .ensures) ∙ ap (jacobi (start at .args .p)) (white at .front ∙ at .whiten .ensures)
 
 pub eigenpairs-spec : {M : Type 1} → statement M
 eigenpairs-spec =
     tie.close
     (tie.spec
-    mul-k
-    array-borrow-prefix-white
-    slice-aggregate-eigen-of
-    array-borrow-prefix-half
-    slice-aggregate-eigen-of-2
-    array-borrow-prefix-v
-    slice-aggregate-eigen-of-3
-    array-borrow-prefix-row
-    slice-aggregate-eigen-of-4
-    array-borrow-prefix-order
-    slice-aggregate-eigen-of-5
-    eigen-of-requires
-    same-length
+    (λ c. omega (arith, square (c .before .before .before)))
+    (λ c. square (c .before .before .before))
+    (λ c. sym (length-take-le _ _ (square (c .before .before .before .before))))
+    (λ c. square (c .before .before .before .before))
+    (λ c. sym (length-take-le _ _ (square (c .before .before .before .before .before))))
+    whiten-requires
+    (λ c. white (c .before .before) .fits)
+    (λ c. sym (length-take-le _ _ (white (c .before .before .before) .fits)))
+    (λ c. half (c .before .before .before .before) .fits)
+    (λ c. sym (length-take-le _ _ (half (c .before .before .before .before .before) .fits)))
+    (λ c. square (start (c .before .before .before .before .before)))
+    (λ c. sym (length-take-le _ _ (square (start (c .before .before .before .before .before .before)))))
+    (λ c. search needs)
+    (λ c. sym (length-take-le _ _ (start (c .before .before .before .before .before .before .before) .pre .narrow)))
+    (λ c. search needs)
+    (λ c. sym (length-take-le _ _ (start (c .before .before .before .before .before .before .before .before) .pre .narrow)))
+    eigen-requires
+    (λ c. search needs)
     returns)

@@ -1,0 +1,2 @@
+-- The design of a lot.
+pub mod Designs

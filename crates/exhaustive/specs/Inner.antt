@@ -1,0 +1,46 @@
+-- What inner functions of the exhaustive test are asked. Statements only.
+use mathlib.Core.Path.{_≡_}
+use mathlib.Core.Bool.{Bool, true}
+use mathlib.Core.List.{List}
+use Prim.Native.Nat.{ℕ, _+_, _*_, _≤_}
+use lib.ListN.{length}
+use lib.Ieee.{Float}
+use Rattle.outcome.specs.declared.Check.the-variants.{Passed}
+use Rattle.lot.specs.Lot.{Lot, lotOf}
+use Rattle.designs.specs.declared.Design.{Design}
+use Rattle.designs.specs.Designs.{Describes}
+use Rattle.ways.specs.Ways.{mostWays, wayCount}
+use Rattle.every_way.specs.Call.{Slices, early}
+
+-- a call on a lot that lines 1 to 5 and 8 let pass, with its design and M
+pub record Passing (lot : Lot) (d : Design) (ways : ℕ) (s : Slices) : Type 0 where
+  pub described : Describes lot d
+  pub passed : early lot s ≡ Passed
+  pub many : ways ≡ wayCount lot
+  pub few : ways ≤ mostWays
+
+-- some lot with these distances and weights is such
+pub record Settling (d : Design) (ways : ℕ) (distances : List Float) (weighted : Bool) (weights : List Float) (s : Slices) : Type 0 where
+  pub labels : List ℕ
+  pub stratified : Bool
+  pub strata : List ℕ
+  pub passing : Passing (lotOf (d .n) distances labels stratified strata weighted weights) d ways s
+
+-- the same once the coordinates stand in `coords`, with slices of these lengths
+pub record Running (d : Design) (distances : List Float) (weighted : Bool) (weights coords : List Float) (counts means terms pulls rows scores : ℕ) : Type 0 where
+  pub labels : List ℕ
+  pub stratified : Bool
+  pub strata : List ℕ
+  pub described : Describes (lotOf (d .n) distances labels stratified strata weighted weights) d
+  pub few : d .n ≤ 256
+  pub two : 2 ≤ d .groups
+  pub fewWays : wayCount (lotOf (d .n) distances labels stratified strata weighted weights) ≤ mostWays
+  pub distancesFit : length distances ≡ d .n * d .n
+  pub weightsFit : weighted ≡ true → length weights ≡ d .n
+  pub coordsRoom : 16 + 8 * d .n ≤ length coords
+  pub countsRoom : d .n ≤ counts
+  pub meansRoom : d .n ≤ means
+  pub termsRoom : d .n * d .n ≤ terms
+  pub pullsRoom : d .n * d .n ≤ pulls
+  pub rowsRoom : d .n * d .n ≤ rows
+  pub scoresRoom : d .n + d .n * d .n ≤ scores

@@ -1,0 +1,2 @@
+-- What inner functions of the exhaustive test are asked.
+pub mod Inner

@@ -1,2 +1,0 @@
--- The answer from its parts.
-pub mod Concluded

@@ -1,0 +1,2 @@
+-- The laws of groups on their samples.
+pub mod Placed

@@ -1,3 +1,0 @@
--- What is answered for kept samples.
-pub mod Room
-pub mod Answered

@@ -1,0 +1,23 @@
+-- `layouts::test_row` meets its contract. As the definition lists the parts.
+-- Assumes nothing.
+use borrow.Author.Needs.{needs}
+use Rattle.layouts.proofs.Laid.{test-row-is}
+use Rattle.layouts.proofs.test_row.Statement.{statement}
+use Rattle.layouts.proofs.test_row.Tie as tie
+
+returns : tie.Need-returns
+returns c =
+    let one = c .before .before in
+    let second = one .before in
+    test-row-is (second .before .before .before .args .t) (second .before .p-of .ensures) (second .p-of2 .ensures) (one .is-given .ensures) (c .before .is-given2 .ensures)
+
+pub test-row-spec : {M : Type 1} → statement M
+test-row-spec =
+    tie.close
+    (tie.spec
+    (λ c κs. search needs)
+    (λ c κs. search needs)
+    (λ c κs. search needs)
+    (λ c κs. search needs)
+    (λ c. search needs)
+    returns)

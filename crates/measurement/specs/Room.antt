@@ -1,0 +1,53 @@
+-- What the test of a lot is made from, and what it leaves. Statements only.
+use mathlib.Core.Path.{_≡_}
+use mathlib.Core.Bool.{Bool}
+use mathlib.Core.List.{List}
+use Prim.Native.Nat.{ℕ, _≤_}
+use lib.Ieee.{Float}
+use Rattle.lot.specs.Lot.{Lot}
+use Rattle.lot.specs.Kept.{groups}
+use Rattle.squares.specs.Squares.{weightsOf, termsOf}
+use Rattle.statistics.specs.Statistics.{zOf}
+use Rattle.statistics.specs.Warnings.{sizesOf}
+use Rattle.designs.specs.declared.Design.{Design}
+use Rattle.designs.specs.Designs.{Describes}
+use Rattle.observation.specs.declared.Observed.{Observed}
+use Rattle.observation.specs.Observed.{observedOf}
+use Rattle.observation.specs.Room.{Weighed, Weighs, Listed}
+use Rattle.sampled_hits.specs.declared.Draws.{Draws}
+use Rattle.measurement.specs.declared.Chances.{Chances}
+use Rattle.measurement.specs.declared.TestResult.{TestResult}
+use Rattle.measurement.specs.Tested.{chancesOf, tested}
+
+-- pulls, terms and weights of a design's samples, shuffles within the limit, and outputs of these lengths with room for its groups
+pub record Measuring (d : Design) (p t w : List Float) (draws : Draws) (counts means : ℕ) : Type 0 where
+  pub weighed : Weighed d p t w
+  pub shuffles : draws .many ≤ 999999
+  pub countsRoom : d .groups ≤ counts
+  pub meansRoom : d .groups ≤ means
+
+-- o and z were observed of the lot that d describes, over its terms t and weights w
+pub record Seen (lot : Lot) (d : Design) (t w z : List Float) (o : Observed) : Type 0 where
+  pub described : Describes lot d
+  pub terms : t ≡ termsOf lot
+  pub weights : w ≡ weightsOf lot
+  pub distances : z ≡ zOf lot (groups (lot .labels))
+  pub observed : o ≡ observedOf lot
+
+-- o was observed of the lot that d describes, weighted or not; its groups have these sizes, and both p are c
+pub record Concludes (lot : Lot) (seed n : ℕ) (d : Design) (weighted : Bool) (o : Observed) (counts : List ℕ) (c : Chances) : Type 0 where
+  pub described : Describes lot d
+  pub weightedAs : lot .weighted ≡ weighted
+  pub observed : o ≡ observedOf lot
+  pub sizes : counts ≡ sizesOf lot
+  pub chances : c ≡ chancesOf lot seed n
+
+-- p, t and w are of the lot that d describes, which is weighted or not
+pub record Measures (lot : Lot) (d : Design) (weighted : Bool) (p t w : List Float) : Type 0 where
+  pub weighs : Weighs lot d p t w
+  pub weightedAs : lot .weighted ≡ weighted
+
+-- what is answered for a lot, and what the outputs hold
+pub record Answers (lot : Lot) (draws : Draws) (counts : List ℕ) (means : List Float) (counts′ : List ℕ) (means′ : List Float) (r : TestResult) : Type 0 where
+  pub result : r ≡ tested lot (draws .seed) (draws .many)
+  pub listed : Listed lot counts means counts′ means′

@@ -1,0 +1,65 @@
+-- Weights, terms and pulls of a design's samples are those of the lot that it describes, and so is what is observed over them. Assumes nothing.
+use mathlib.Core.Path.{_≡_, ap, _∙_}
+use mathlib.Core.Bool.{Bool}
+use mathlib.Core.List.{List, map}
+use Prim.Native.Nat.{ℕ}
+use lib.Ieee.{Float}
+use Rattle.lists.specs.Writes.{over}
+use Rattle.lot.specs.Lot.{Lot, lotOf}
+use Rattle.lot.specs.Kept.{groups, sizes}
+use Rattle.squares.specs.Squares.{weightAt, terms, pulls, weightsOf, termsOf, pullsOf}
+use Rattle.dispersion.specs.Dispersion as dispersion
+use Rattle.anova.specs.Anova.{anovaF, meanZ}
+use Rattle.statistics.specs.Statistics.{totalOf, withinOf, locationF, rSquaredOf, zOf, someNegative, dispersionOf, dispersionF}
+use Rattle.statistics.specs.Warnings.{sizesOf}
+use Rattle.designs.specs.declared.Design.{Design}
+use Rattle.designs.specs.Designs.{keptOf, groupsOf, Describes}
+use Rattle.observation.specs.declared.Observed.{Observed}
+use Rattle.observation.specs.Observed.{observedOf, located, spread, observed}
+use Rattle.observation.specs.Room.{Weighs, Observes}
+
+pub spread-is : (p t w : List Float) (lab : List ℕ) (m g : ℕ) {f : Float} {z : List Float} {negative : Bool}
+    → f ≡ anovaF z lab m g → z ≡ dispersion.zOf p t w lab m → negative ≡ dispersion.someNegative p t w lab m
+    → record { f = f; negative = negative } ≡ spread p t w lab m g
+unfolding spread
+spread-is p t w lab m g ef ez en = rw (ef, ez, en)
+
+module _ (d : Design) (distances : List Float) (labels : List ℕ) (stratified : Bool) (strata : List ℕ) (weighted : Bool) (weights : List Float) where
+  abbrev lot : Lot
+  lot = lotOf (d .n) distances labels stratified strata weighted weights
+
+  abbrev w₀ : List Float
+  w₀ = map (weightAt weighted weights) (keptOf d)
+
+  pub weighs : Describes lot d → {w t p : List Float} → w ≡ w₀ → t ≡ terms distances (d .n) (keptOf d) w₀ (d .kept) → p ≡ pulls distances (d .n) (keptOf d) w₀ (d .kept) → Weighs lot d p t w
+  unfolding weightsOf termsOf pullsOf
+  weighs e ew et ep = record {
+    described = e;
+    pulls = ep ∙ rw (e .keptAre, e .keptMany);
+    terms = et ∙ rw (e .keptAre, e .keptMany);
+    weights = ew ∙ rw (e .keptAre);
+  }
+
+module _ (lot : Lot) {d : Design} {p t w : List Float} (e : Weighs lot d p t w) where
+  observed-lot : observed p t w (groupsOf d) (d .kept) (d .groups) ≡ observedOf lot
+  unfolding observed located spread observedOf totalOf withinOf locationF rSquaredOf zOf someNegative dispersionOf dispersionF
+  observed-lot = rw (e .pulls, e .terms, e .weights, e .described .groupsAre, e .described .keptMany, e .described .groupsMany)
+
+  z-lot : dispersion.zOf p t w (groupsOf d) (d .kept) ≡ zOf lot (groups (lot .labels))
+  unfolding zOf
+  z-lot = rw (e .pulls, e .terms, e .weights, e .described .groupsAre, e .described .keptMany)
+
+  pub observes : (counts : List ℕ) (means : List Float) {counts′ : List ℕ} {means′ z : List Float} {r : Observed}
+      → (r ≡ observed p t w (groupsOf d) (d .kept) (d .groups)) × (z ≡ dispersion.zOf p t w (groupsOf d) (d .kept))
+      × (counts′ ≡ over (sizes (groupsOf d) (d .kept) (d .groups)) counts)
+      × (means′ ≡ over (meanZ (dispersion.zOf p t w (groupsOf d) (d .kept)) (groupsOf d) (d .kept) (d .groups)) means)
+      → Observes lot counts means counts′ means′ z r
+  unfolding sizesOf
+  observes counts means told = record {
+    result = told .0 ∙ observed-lot;
+    listed = record {
+      sizes = told .2 ∙ rw (e .described .groupsAre, e .described .keptMany, e .described .groupsMany);
+      meanZ = told .3 ∙ rw (z-lot, e .described .groupsAre, e .described .keptMany, e .described .groupsMany);
+    };
+    distances = told .1 ∙ z-lot;
+  }

@@ -1,2 +1,0 @@
--- A whole call of `exhaustive`.
-pub mod Whole

@@ -1,2 +1,0 @@
--- The laws of calls on kept samples.
-pub mod Settled

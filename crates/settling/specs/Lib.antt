@@ -1,2 +1,0 @@
--- Calls on kept samples.
-pub mod Settled

@@ -1,0 +1,12 @@
+-- `shuffles::draw_below` meets its contract. The next word, mod the bound. Assumes nothing.
+use borrow.Author.Needs.{needs}
+use Rattle.shuffles.specs.Shuffle.{drawBelow}
+use Rattle.shuffles.proofs.draw_below.Statement.{statement}
+use Rattle.shuffles.proofs.draw_below.Tie as tie
+
+returns : tie.Need-returns
+unfolding drawBelow
+returns c = rw (c .before .next .ensures)
+
+pub draw-below-spec : {M : Type 1} → statement M
+draw-below-spec = tie.close (tie.spec (λ c κs. search needs) (λ c. search needs) returns)

@@ -1,0 +1,12 @@
+-- `shuffles::seeded` meets its contract. The product wraps. Assumes nothing.
+use borrow.Author.Needs.{needs}
+use Rattle.shuffles.specs.Shuffle.{seeded}
+use Rattle.shuffles.proofs.seeded.Statement.{statement}
+use Rattle.shuffles.proofs.seeded.Tie as tie
+
+returns : tie.Need-returns
+unfolding seeded
+returns c = rw (c .wrapping-mul .ensures)
+
+pub seeded-spec : {M : Type 1} → statement M
+seeded-spec = tie.close (tie.spec (λ c κs. search needs) returns)

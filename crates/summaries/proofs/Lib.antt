@@ -1,0 +1,2 @@
+-- The summary from its parts.
+pub mod Parts

@@ -1,0 +1,139 @@
+-- What is seen and counted on a lot's own terms is the lot's, and so is the answer. Assumes nothing.
+use mathlib.Core.Path.{_≡_, refl, sym, ap, ap₂, _∙_}
+use mathlib.Core.Bool.{Bool}
+use mathlib.Core.List.{List, List·Memᴰ}
+use Prim.Native.Nat.{ℕ, _*_, _≤_}
+use native.Mathlib.Omega.{arith}
+use lib.ListN.{length, take}
+use lib.Ieee.{Float}
+use Rattle.lists.specs.Filters.{countIf}
+use Rattle.lists.specs.Writes.{over}
+use Rattle.lists.proofs.Ranges.{length-table}
+use Rattle.lists.proofs.Writes.{take-over}
+use Rattle.lists.proofs.Counts.{count-cong}
+use Rattle.lot.specs.Lot.{Lot}
+use Rattle.lot.specs.Kept.{kept, groups, keptCount, groupCount, sizes}
+use Rattle.lot.specs.Strata.{strata}
+use Rattle.squares.specs.Squares.{weightsOf, termsOf, pullsOf}
+use Rattle.statistics.specs.Statistics.{totalOf, withinOf, locationF, zOf, dispersionOf, dispersionF}
+use Rattle.statistics.specs.Warnings.{sizesOf}
+use Rattle.designs.specs.declared.Design.{Design}
+use Rattle.designs.specs.Designs.{keptOf, groupsOf, strataOf, Describes}
+use Rattle.summaries.specs.declared.Summary.{Summary}
+use Rattle.summaries.specs.Summaries.{summaryOf}
+use Rattle.observation.specs.declared.Observed.{Observed}
+use Rattle.observation.specs.Observed.{observedOf}
+use Rattle.discriminant.specs.Dapc.{leading}
+use Rattle.ways.specs.Ways.{waysOf, ways, wayCount}
+use Rattle.way_hits.specs.declared.Assignment.{Assignment}
+use Rattle.way_hits.specs.declared.Seen.{Seen}
+use Rattle.way_hits.specs.declared.Hits.{Hits}
+use Rattle.way_hits.specs.WayHits.{locationHit, dispersionHit, assignmentHit, hitsAmong}
+use Rattle.judging.specs.declared.Frame.{Frame}
+use Rattle.judging.specs.Assignments.{columnsOf}
+use Rattle.judging.specs.Judging.{barredBy, frameOf, locationBy, dispersionBy, assignmentBy, statisticsBy}
+use Rattle.judging.proofs.Assigned.{statistics-way}
+use Rattle.judgement.specs.declared.Counted.{Counted}
+use Rattle.judgement.specs.declared.Judgement.{Judgement}
+use Rattle.judgement.specs.Concluded.{concluded}
+use Rattle.every_way.specs.Exhaustive.{locationOf, dispersionOf as dispersionOfWay, assignmentOf, hits, locationHits, dispersionHits, assignmentHits, judgement}
+use Rattle.every_way.proofs.Same.{every-way}
+use Rattle.verdict.specs.Verdict.{statisticsOf, seenBy, countedOf}
+use Rattle.verdict.specs.Room.{Owns, Judgeable}
+use Rattle.verdict.proofs.Ready.{own-way}
+
+abbrev counted : Seen → Hits → Counted
+counted seen h = record { seen = seen; hits = h }
+
+-- statistics that are the same for every way have the same hits
+hits-cong : (observed : Seen) (f g : List ℕ → Seen) (all : List (List ℕ)) → ((way : List ℕ) → List·Memᴰ way all → f way ≡ g way) → hitsAmong observed f all ≡ hitsAmong observed g all
+unfolding hitsAmong
+hits-cong observed f g all same = λ i. record {
+  location = count-cong (λ way. locationHit observed (f way)) (λ way. locationHit observed (g way)) all (λ way h. ap (locationHit observed) (same way h)) i;
+  dispersion = count-cong (λ way. dispersionHit observed (f way)) (λ way. dispersionHit observed (g way)) all (λ way h. ap (dispersionHit observed) (same way h)) i;
+  assignment = count-cong (λ way. assignmentHit observed (f way)) (λ way. assignmentHit observed (g way)) all (λ way h. ap (assignmentHit observed) (same way h)) i;
+}
+
+module _ (lot : Lot) (labelled : length (lot .labels) ≡ lot .n) (few : lot .n ≤ 256) (two : 2 ≤ groupCount (lot .labels)) (x : List Float)
+    (coordinates : length x ≡ lot .n * columnsOf (lot .n)) where
+  abbrev frame : Frame
+  frame = frameOf (lot .n) (keptCount (lot .labels)) (groupCount (lot .labels)) x (totalOf lot)
+
+  abbrev found : List ℕ → Seen
+  found = statisticsBy frame (keptCount (lot .labels)) (termsOf lot) (pullsOf lot) (weightsOf lot) x (kept (lot .labels))
+
+  way-is : (way : List ℕ) → List·Memᴰ way (ways lot) → found way ≡ statisticsOf lot x way
+  unfolding statisticsOf locationOf dispersionOfWay assignmentOf
+  way-is way h = statistics-way lot labelled few way (every-way lot .sound way h) x coordinates two
+
+  own-is : found (groups (lot .labels)) ≡ statisticsOf lot x (groups (lot .labels))
+  unfolding statisticsOf locationOf dispersionOfWay assignmentOf
+  own-is = statistics-way lot labelled few (groups (lot .labels)) (own-way lot) x coordinates two
+
+  counted-lot : counted (found (groups (lot .labels))) (hitsAmong (found (groups (lot .labels))) found (ways lot)) ≡ countedOf lot x
+  unfolding countedOf
+  counted-lot =
+      (λ i. record { seen = own-is i; hits = hitsAmong (own-is i) found (ways lot) })
+      ∙ (λ i. record { seen = statisticsOf lot x (groups (lot .labels)); hits = hits-cong (statisticsOf lot x (groups (lot .labels))) found (statisticsOf lot x) (ways lot) way-is i })
+
+-- over equal numbers and lists
+module _ (lot : Lot) (x : List Float) where
+  abbrev own-frame : Frame
+  own-frame = frameOf (lot .n) (keptCount (lot .labels)) (groupCount (lot .labels)) x (totalOf lot)
+
+  abbrev own-found : List ℕ → Seen
+  own-found = statisticsBy own-frame (keptCount (lot .labels)) (termsOf lot) (pullsOf lot) (weightsOf lot) x (kept (lot .labels))
+
+  counted-by : {t p w : List Float} {n k g : ℕ} {ks gs ss : List ℕ} {o : Observed} {f : Frame} {m : ℕ} {seen : Seen} {h : Hits}
+      → t ≡ termsOf lot → p ≡ pullsOf lot → w ≡ weightsOf lot → n ≡ lot .n → k ≡ keptCount (lot .labels) → g ≡ groupCount (lot .labels)
+      → ks ≡ kept (lot .labels) → gs ≡ groups (lot .labels) → ss ≡ strata lot
+      → o ≡ observedOf lot → f ≡ frameOf n k g x (o .total) → m ≡ k → seen ≡ seenBy o (assignmentBy f x ks gs)
+      → h ≡ hitsAmong seen (statisticsBy f m t p w x ks) (waysOf (f .groups) ss gs)
+      → counted seen h ≡ counted (own-found (groups (lot .labels))) (hitsAmong (own-found (groups (lot .labels))) own-found (ways lot))
+  unfolding seenBy statisticsBy locationBy dispersionBy observedOf locationF withinOf dispersionF dispersionOf zOf ways
+  counted-by et ep ew en ek eg eks egs ess eo ef em es eh = rw (eh, es, em, ef, eo, et, ep, ew, en, ek, eg, eks, egs, ess)
+
+-- ---- on a design
+
+module _ {d : Design} {p t w x : List Float} {rows scores : ℕ} (a : Judgeable d p t w x rows scores) (lot : Lot) (own : Owns lot d p t w) where
+  abbrev e : Describes lot d
+  e = own .weighs .described
+
+  abbrev told : Describes (a .lot) d
+  told = a .owns .weighs .described
+
+  n-is : d .n ≡ lot .n
+  n-is = e .many ∙ own .labelled
+
+  few : lot .n ≤ 256
+  few = omega (arith, n-is, told .many, a .owns .labelled, a .few)
+
+  two : 2 ≤ groupCount (lot .labels)
+  two = omega (arith, e .groupsMany, told .groupsMany, a .two)
+
+  sized : length x ≡ lot .n * columnsOf (lot .n)
+  sized = a .coordinates ∙ ap (λ (n : ℕ). n * columnsOf n) n-is
+
+  pub counted-is : {o : Observed} {f : Frame} {m : ℕ} {seen : Seen} {h : Hits} → o ≡ observedOf lot → f ≡ frameOf (d .n) (d .kept) (d .groups) x (o .total) → m ≡ d .kept
+      → seen ≡ seenBy o (assignmentBy f x (keptOf d) (groupsOf d)) → h ≡ hitsAmong seen (statisticsBy f m t p w x (keptOf d)) (waysOf (f .groups) (strataOf d) (groupsOf d))
+      → counted seen h ≡ countedOf lot x
+  counted-is eo ef em es eh = counted-by lot x (own .weighs .terms) (own .weighs .pulls) (own .weighs .weights) n-is (e .keptMany) (e .groupsMany) (e .keptAre) (e .groupsAre) (e .strataAre) eo ef em es eh
+      ∙ counted-lot lot (own .labelled) few two x sized
+
+-- ---- the frame, from its parts
+
+pub frame-is : (n m g : ℕ) (x : List Float) (total : Float) {columns lead : ℕ} {barred : Bool} → columns ≡ columnsOf n → lead ≡ leading columns m g → barred ≡ barredBy x lead
+    → record { n = n; groups = g; columns = columns; lead = lead; barred = barred; total = total } ≡ frameOf n m g x total
+frame-is n m g x total ec el eb = rw (eb, el, ec)
+
+-- ---- the answer
+
+-- the first g counts are the groups' sizes
+pub front-sizes : (lot : Lot) {d : Design} (e : Describes lot d) (old : List ℕ) {counts : List ℕ} → counts ≡ over (sizesOf lot) old → take (d .groups) counts ≡ sizesOf lot
+unfolding sizesOf sizes
+front-sizes lot {d} e old h = ap (take (d .groups)) h ∙ take-over (sizesOf lot) old (d .groups) (length-table _ _ ∙ sym (e .groupsMany))
+
+pub judged-is : (lot : Lot) (x : List Float) {s : Summary} {ways : ℕ} {c : Counted} {r : Judgement} → s ≡ summaryOf lot 0 → c ≡ countedOf lot x → r ≡ concluded s ways c
+    → ways ≡ wayCount lot → r ≡ judgement lot x
+unfolding judgement countedOf statisticsOf hitsAmong locationHits dispersionHits assignmentHits hits
+judged-is lot x es ec er ew = er ∙ (λ i. concluded (es i) (ew i) (ec i))
