@@ -78,7 +78,7 @@ fn scale(draw: &mut SplitMix) -> f64 {
 }
 
 /// Points about centres that lie `apart`, each cluster's spread larger than the one before by the factor 1 + widens.
-fn points(clusters: &[usize], dims: usize, apart: f64, widens: f64, draw: &mut SplitMix) -> Vec<Vec<f64>> {
+pub fn points(clusters: &[usize], dims: usize, apart: f64, widens: f64, draw: &mut SplitMix) -> Vec<Vec<f64>> {
     clusters
         .iter()
         .map(|&c| {
@@ -88,7 +88,7 @@ fn points(clusters: &[usize], dims: usize, apart: f64, widens: f64, draw: &mut S
         .collect()
 }
 
-fn between(points: &[Vec<f64>], scale: f64) -> Vec<f64> {
+pub fn between(points: &[Vec<f64>], scale: f64) -> Vec<f64> {
     symmetric(points.len(), |i, j| {
         let squares: f64 = points[i].iter().zip(&points[j]).map(|(x, y)| (x - y) * (x - y)).sum();
         squares.sqrt() * scale

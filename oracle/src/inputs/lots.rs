@@ -61,7 +61,11 @@ pub fn usable(labels: &[u16]) -> usize {
 
 /// The number of samples whose label is held by two or more.
 pub fn kept(labels: &[u16]) -> usize {
-    labels.iter().filter(|&&l| l != NONE && held(labels, l) > 1).count()
+    (0..labels.len()).filter(|&i| is_kept(labels, i)).count()
+}
+
+pub fn is_kept(labels: &[u16], i: usize) -> bool {
+    labels[i] != NONE && held(labels, labels[i]) > 1
 }
 
 /// The labels in use, upward.

@@ -1,6 +1,7 @@
-//! The operations of the Rust: their inputs, drawn, written and read, and the Rust's answers.
+//! The operations: their inputs, drawn, written and read, and the Rust's answers.
 
 pub mod dapc;
+pub mod exhaustive;
 pub mod gram_matrix;
 pub mod hash_pca;
 pub mod jacobi_eigen;
@@ -27,6 +28,10 @@ pub trait Operation {
     fn answer(input: &Self::Input) -> Option<Vec<u64>>;
     /// The refusal of document 01 that stands for the Rust's None on this input.
     fn refusal(input: &Self::Input) -> u64;
+    /// The refusal, beyond those of document 01, that is due on this input, whatever the Rust says of it; the Rust is then not asked.
+    fn owed(_: &Self::Input) -> Option<u64> {
+        None
+    }
 }
 
 /// Whether this turn has a sample of more than 128 sets or items. The Rust takes seconds for one, so after twenty turns one in ten has it.
@@ -37,8 +42,14 @@ pub fn large(turn: usize) -> bool {
 /// Document 01's refusal where the Rust panics on a NaN among values to be ordered.
 const NAN_AMONG_VALUES: u64 = 11;
 
-/// The state (0 answered, 1 None, 2 panic), then the answer or the refusal that stands for it.
+/// The state of an input that the Rust is not asked about.
+pub const OWED: u64 = 3;
+
+/// The state (0 answered, 1 None, 2 panic, 3 not asked), then the answer or the refusal that stands for it.
 pub fn outcome<O: Operation>(input: &O::Input) -> Vec<u64> {
+    if let Some(refusal) = O::owed(input) {
+        return vec![OWED, refusal];
+    }
     match catch_unwind(AssertUnwindSafe(|| O::answer(input))) {
         Ok(Some(answer)) => [vec![0], answer].concat(),
         Ok(None) => vec![1, O::refusal(input)],

@@ -21,10 +21,10 @@ pub struct Input {
 /// An input as the Rust takes it.
 pub struct Prepared {
     distances: Vec<f64>,
-    labels: Vec<Option<String>>,
+    pub labels: Vec<Option<String>>,
     strata: Option<Vec<Option<String>>>,
     weights: Option<Vec<f64>>,
-    options: Options,
+    pub options: Options,
 }
 
 impl Input {
@@ -67,6 +67,18 @@ fn warning_bit(text: &str) -> u64 {
     // a count stands before the text of bits 0 and 4
     let text = text.trim_start_matches(|c: char| c.is_ascii_digit() || c == ' ');
     1 << SAYS.iter().position(|says| text.starts_with(says)).expect("a warning of the Rust")
+}
+
+/// The warnings as document 01's number.
+pub fn warnings(result: &TestResult) -> u64 {
+    result.warnings.iter().map(|w| warning_bit(w)).sum()
+}
+
+/// For each group its label, its count and its mean z.
+pub fn push_groups(words: &mut Vec<u64>, result: &TestResult) {
+    for group in &result.groups {
+        words.extend([group.label.parse().unwrap(), group.n as u64, bits(group.mean_dispersion)]);
+    }
 }
 
 fn size(at: usize, draw: &mut SplitMix) -> usize {
@@ -148,10 +160,8 @@ impl Operation for Test {
         words.push(bits(result.disp_f));
         words.extend(given(result.disp_p));
         words.push(bits(result.informative_fraction));
-        words.push(result.warnings.iter().map(|w| warning_bit(w)).sum());
-        for group in &result.groups {
-            words.extend([group.label.parse().unwrap(), group.n as u64, bits(group.mean_dispersion)]);
-        }
+        words.push(warnings(&result));
+        push_groups(&mut words, &result);
         Some(words)
     }
 

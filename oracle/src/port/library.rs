@@ -1,0 +1,93 @@
+//! One build of the port: its functions (include/lotjudge.h), linked or taken from a shared library.
+
+use std::ffi::{c_char, c_int, c_void, CString};
+use std::mem::transmute;
+use std::path::Path;
+
+macro_rules! library {
+    ($(fn $name:ident($($argument:ident: $type:ty),* $(,)?) -> $result:ty;)*) => {
+        #[derive(Clone, Copy)]
+        pub struct Library {
+            $(pub $name: unsafe extern "C" fn($($type),*) -> $result,)*
+        }
+
+        impl Library {
+            /// The archive that LOTJUDGE_LIB named.
+            #[cfg(feature = "port")]
+            pub fn linked() -> Self {
+                extern "C" {
+                    $(fn $name($($argument: $type),*) -> $result;)*
+                }
+                Library { $($name,)* }
+            }
+
+            pub fn loaded(path: &str) -> Result<Self, String> {
+                let file = opened(path)?;
+                unsafe {
+                    Ok(Library {
+                        $($name: transmute::<*mut c_void, unsafe extern "C" fn($($type),*) -> $result>(
+                            found(file, stringify!($name)).ok_or(format!("{path}: no {}", stringify!($name)))?,
+                        ),)*
+                    })
+                }
+            }
+        }
+    };
+}
+
+library! {
+    fn lotjudge_sqrt(x: f64) -> f64;
+    fn lotjudge_test(
+        n: usize, distances: *const f64, distances_len: usize, labels: *const u16, labels_len: usize,
+        strata_given: bool, strata: *const u16, strata_len: usize, weights_given: bool, weights: *const f64, weights_len: usize,
+        seed: u64, n_perm: u64, names: *mut u16, names_len: usize, counts: *mut u16, counts_len: usize,
+        means: *mut f64, means_len: usize, terms: *mut f64, terms_len: usize, pulls: *mut f64, pulls_len: usize,
+        values: *mut f64, numbers: *mut u64,
+    ) -> u8;
+    fn lotjudge_exhaustive(
+        n: usize, distances: *const f64, distances_len: usize, labels: *const u16, labels_len: usize,
+        strata_given: bool, strata: *const u16, strata_len: usize, weights_given: bool, weights: *const f64, weights_len: usize,
+        names: *mut u16, names_len: usize, counts: *mut u16, counts_len: usize, means: *mut f64, means_len: usize,
+        terms: *mut f64, terms_len: usize, pulls: *mut f64, pulls_len: usize, coords: *mut f64, coords_len: usize,
+        room: *mut f64, room_len: usize, vectors: *mut f64, vectors_len: usize, rows: *mut u16, rows_len: usize,
+        values: *mut f64, numbers: *mut u64,
+    ) -> u8;
+    fn lotjudge_pcoa(
+        distances: *const f64, distances_len: usize, n: usize, components: usize, out: *mut f64, out_len: usize,
+        b: *mut f64, b_len: usize, w: *mut f64, w_len: usize, m: *mut f64, m_len: usize, v: *mut f64, v_len: usize,
+    ) -> u8;
+    fn lotjudge_hash_pca(
+        hashes: *const u64, hashes_len: usize, offsets: *const usize, offsets_len: usize, n: usize, components: usize,
+        out: *mut f64, out_len: usize, b: *mut f64, b_len: usize, w: *mut f64, w_len: usize, m: *mut f64, m_len: usize,
+        v: *mut f64, v_len: usize, words: *mut u64, words_len: usize, selected: *mut usize,
+    ) -> u8;
+    fn lotjudge_dapc(
+        x: *const f64, x_len: usize, n: usize, columns: usize, labels: *const u16, labels_len: usize,
+        out: *mut f64, out_len: usize, assigned: *mut u16, assigned_len: usize, numbers: *mut usize,
+    ) -> u8;
+}
+
+extern "C" {
+    fn dlopen(path: *const c_char, flags: c_int) -> *mut c_void;
+    fn dlsym(file: *mut c_void, name: *const c_char) -> *mut c_void;
+}
+
+/// All names bound at once.
+const NOW: c_int = 2;
+
+/// The file stays open. By its whole path: a name without a directory would be looked for elsewhere.
+fn opened(path: &str) -> Result<*mut c_void, String> {
+    let whole = Path::new(path).canonicalize().map_err(|e| format!("{path}: {e}"))?;
+    let whole = CString::new(whole.into_os_string().into_encoded_bytes()).unwrap();
+    let file = unsafe { dlopen(whole.as_ptr(), NOW) };
+    if file.is_null() {
+        return Err(format!("{path}: no shared library"));
+    }
+    Ok(file)
+}
+
+fn found(file: *mut c_void, name: &str) -> Option<*mut c_void> {
+    let name = CString::new(name).unwrap();
+    let at = unsafe { dlsym(file, name.as_ptr()) };
+    (!at.is_null()).then_some(at)
+}

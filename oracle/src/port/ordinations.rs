@@ -1,0 +1,145 @@
+//! `pcoa` and `hash_pca`.
+
+use super::library::Library;
+use super::{Asked, Lent, BEFORE, BEFORE_WORD};
+use crate::ops::{hash_pca, pcoa};
+
+/// The output and the work of an ordination.
+pub struct Room {
+    pub out: Vec<f64>,
+    b: Vec<f64>,
+    w: Vec<f64>,
+    m: Vec<f64>,
+    v: Vec<f64>,
+}
+
+impl Room {
+    fn new(n: usize, components: usize) -> Self {
+        let k = components.min(n);
+        let room = |entries| vec![BEFORE; entries];
+        Room { out: room(2 * k + n * k), b: room(n * n), w: room(n + n * n), m: room(n * n), v: room(n * n) }
+    }
+
+    fn lent(&mut self) -> Vec<(&'static str, Lent<'_>)> {
+        vec![
+            ("out", Lent::Floats(&mut self.out)),
+            ("b", Lent::Floats(&mut self.b)),
+            ("w", Lent::Floats(&mut self.w)),
+            ("m", Lent::Floats(&mut self.m)),
+            ("v", Lent::Floats(&mut self.v)),
+        ]
+    }
+}
+
+pub struct PcoaCall {
+    pub n: usize,
+    distances: Vec<f64>,
+    pub components: usize,
+    pub room: Room,
+}
+
+impl Asked<pcoa::Input> for PcoaCall {
+    fn new(input: &pcoa::Input) -> Self {
+        let n = input.distances.n;
+        let components = input.components;
+        PcoaCall { n, distances: input.distances.entries(), components, room: Room::new(n, components) }
+    }
+
+    #[rustfmt::skip]
+    fn ask(&mut self, library: &Library) -> u8 {
+        let r = &mut self.room;
+        unsafe {
+            (library.lotjudge_pcoa)(
+                self.distances.as_ptr(), self.distances.len(), self.n, self.components, r.out.as_mut_ptr(), r.out.len(),
+                r.b.as_mut_ptr(), r.b.len(), r.w.as_mut_ptr(), r.w.len(), r.m.as_mut_ptr(), r.m.len(), r.v.as_mut_ptr(), r.v.len(),
+            )
+        }
+    }
+
+    fn lent(&mut self) -> Vec<(&'static str, Lent<'_>)> {
+        self.room.lent()
+    }
+
+    fn sign(&self) -> u64 {
+        self.room.out[0].to_bits()
+    }
+
+    fn damage(&mut self, way: usize) -> Option<u8> {
+        let last = self.distances.len().checked_sub(1)?;
+        match way % 8 {
+            0 => self.distances[last / 2] = f64::NAN,
+            1 => self.distances[last] = -1.0,
+            2 => self.distances[0] = f64::from_bits(1048576f64.to_bits() + 1),
+            3 => self.components = 0,
+            4 => {
+                self.components = 17;
+                self.room = Room::new(self.n, 17);
+            }
+            5 => drop(self.distances.pop()),
+            6 => drop(self.room.w.pop()),
+            _ => self.n = 1 << 63,
+        }
+        Some([3, 3, 3, 2, 2, 1, 1, 1][way % 8])
+    }
+}
+
+pub struct HashPcaCall {
+    pub n: usize,
+    hashes: Vec<u64>,
+    offsets: Vec<usize>,
+    pub components: usize,
+    pub room: Room,
+    words: Vec<u64>,
+    /// One number.
+    pub selected: Vec<u64>,
+}
+
+impl Asked<hash_pca::Input> for HashPcaCall {
+    fn new(input: &hash_pca::Input) -> Self {
+        let n = input.sets.len();
+        let mut offsets = vec![0];
+        for set in &input.sets {
+            offsets.push(offsets[offsets.len() - 1] + set.len());
+        }
+        let (hashes, components) = (input.sets.concat(), input.components);
+        let (words, selected) = (vec![BEFORE_WORD; 64 * n], vec![BEFORE_WORD]);
+        HashPcaCall { n, hashes, offsets, components, room: Room::new(n, components), words, selected }
+    }
+
+    #[rustfmt::skip]
+    fn ask(&mut self, library: &Library) -> u8 {
+        let r = &mut self.room;
+        unsafe {
+            (library.lotjudge_hash_pca)(
+                self.hashes.as_ptr(), self.hashes.len(), self.offsets.as_ptr(), self.offsets.len(), self.n, self.components,
+                r.out.as_mut_ptr(), r.out.len(), r.b.as_mut_ptr(), r.b.len(), r.w.as_mut_ptr(), r.w.len(),
+                r.m.as_mut_ptr(), r.m.len(), r.v.as_mut_ptr(), r.v.len(), self.words.as_mut_ptr(), self.words.len(),
+                self.selected.as_mut_ptr().cast(),
+            )
+        }
+    }
+
+    fn lent(&mut self) -> Vec<(&'static str, Lent<'_>)> {
+        let mut all = self.room.lent();
+        all.push(("words", Lent::Words(&mut self.words)));
+        all.push(("selected", Lent::Words(&mut self.selected)));
+        all
+    }
+
+    fn sign(&self) -> u64 {
+        self.room.out[0].to_bits()
+    }
+
+    fn damage(&mut self, way: usize) -> Option<u8> {
+        match way % 7 {
+            0 => self.offsets.push(0),
+            1 => *self.offsets.last_mut()? += 1,
+            2 => self.offsets[0] = 1,
+            3 => drop(self.words.pop()?),
+            4 => self.components = 0,
+            5 => drop(self.hashes.pop()?),
+            _ => self.n = 1 << 63,
+        }
+        Some([1, 1, 1, 1, 2, 1, 1][way % 7])
+    }
+}
