@@ -1,4 +1,5 @@
-/* Document 01's example lot, by the sampled test and by every way: four samples, labels 0, 0, 1, 1. */
+/* The example lot of README.md, by the sampled test and by every way: four samples, labels 0, 0, 1, 1, no strata, no weights.
+ * Ends with 0, or with 1 after it printed the number of a refusal. */
 #include "lotjudge.h"
 #include <stdio.h>
 #include <stdlib.h>

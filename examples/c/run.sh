@@ -1,5 +1,5 @@
 #!/bin/sh
-# Builds the static library and the C example, and runs it.
+# Proves and builds the static library (minutes the first time), builds the C example and runs it. Needs `cc`.
 set -e
 cd "$(dirname "$0")/../.."
 rt staticlib lotjudge_c > /dev/null

@@ -1,4 +1,4 @@
-//! Document 01's example lot by every way: four samples, labels 0, 0, 1, 1.
+//! The example lot of README.md by every way: four samples, labels 0, 0, 1, 1, no strata, no weights.
 
 #[rustfmt::skip]
 extern "C" {
