@@ -52,7 +52,8 @@
  * exhaustive sets bits 0 to 4 only, by the labels as given.
  *
  * TIME: docs/BENCHMARKS.md has what was measured. At n = 256 test takes some 5 ms for 1,000 shuffles with four equal groups, so seconds for
- * 999,999, and more with very unequal groups; exhaustive some 0.13 ms a way, so seconds for 20,000; pcoa half a second with 8 components.
+ * 999,999, and more with very unequal groups; exhaustive tenths of a millisecond a way beside its ordination, so seconds for 20,000; pcoa with 8
+ * components 0.6 to 0.7 s.
  * No call can be stopped before it ends.
  *
  * LENGTHS that outputs and work must have at least are written below, and told by the functions whose names end in `_lengths`: they write
