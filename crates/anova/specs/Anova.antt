@@ -11,7 +11,7 @@ use Rattle.lists.specs.Sums.{sum⁻, sum⁺}
 use Rattle.pair_sums.specs.PairSums.{at}
 use Rattle.location.specs.Location.{fRatio}
 
--- the mean of all, and of a group: added up from 0.0, divided by its count
+-- the mean of all, added up from -0.0, and of a group, from 0.0; each divided by its count
 unfoldable pub grandMean : List Float → ℕ → Float
 grandMean z m = sum⁻ z ⊘ num m
 

@@ -52,7 +52,7 @@ abbrev few : tie.After-settle-arg9 → tie.After-ways-of
 few c = c .before .before .before .before .before .before .before .before .before .before
 
 same-ways : (c : tie.After-settle-arg9) → few c .ways-of .result ≡ wayCount (lot (asked (designed (few c))))
-same-ways c = let d = designed (few c) in few-ways (wayCount (lot (asked d))) (few c .ways-of .ensures (lot (asked d)) (design d)) (c .before .before .before .before .before .before .before .before .before .if1 .left)
+same-ways c = let d = designed (few c) in few-ways (wayCount (lot (asked d))) (few c .ways-of .ensures (lot (asked d)) (design d)) (omega (arith, c .before .before .before .before .before .before .before .before .before .if1 .left))
 
 passing : (c : tie.After-settle-arg9) → let d = designed (few c) in
     let a = start (asked d) .args in
@@ -60,7 +60,7 @@ passing : (c : tie.After-settle-arg9) → let d = designed (few c) in
 passing c =
     let d = designed (few c) in
     let a = start (asked d) .args in
-    passing-by (a .n) (a .distances .now) (a .labels .now) (a .stratified) (a .strata .now) (a .weighted) (a .weights .now) (lent (asked d)) (passed (d .before)) (design d) (same-ways c) (c .before .before .before .before .before .before .before .before .before .if1 .left)
+    passing-by (a .n) (a .distances .now) (a .labels .now) (a .stratified) (a .strata .now) (a .weighted) (a .weights .now) (lent (asked d)) (passed (d .before)) (design d) (same-ways c) (omega (arith, c .before .before .before .before .before .before .before .before .before .if1 .left))
 
 abbrev settled : tie.After-slice-known18 → tie.After-settle
 settled c = c .before .before .before .before .before .before .before .before .before .before .before .before .before .before .before .before .before .before
@@ -85,7 +85,7 @@ exhaustive-spec =
     (λ c. search needs)
     (λ c κs. let q = c .before .before in designable (lot q) (lent q) (passed c))
     (λ c κs. let q = asked c in design-sound (lot q) (lent q) (passed (c .before)) (design c))
-    (λ c. let d = designed (c .before) in let q = asked d in call-many (lot q) (lent q) (passed (d .before)) (c .before .ways-of .ensures (lot q) (design d)) (c .if1 .taken))
+    (λ c. let d = designed (c .before) in let q = asked d in call-many (lot q) (lent q) (passed (d .before)) (c .before .ways-of .ensures (lot q) (design d)) (omega (arith, c .if1 .taken)))
     (λ c κs. let a = start (asked (designed (few c))) .args in record { labels = a .labels .now; stratified = a .stratified; strata = a .strata .now; passing = passing c })
     (λ c. let q = c .before .before .before in call-refused (lot q) (lent q) (sym (c .before .c .given .1) ∙ told q))
     (λ c. settled c .settle .kept .0)
