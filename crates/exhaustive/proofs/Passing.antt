@@ -27,7 +27,7 @@ use Rattle.designs.proofs.Designs.{sound}
 use Rattle.observation.specs.Room.{Weighing, Weighs}
 use Rattle.ways.specs.Ways.{wayCountOf, wayCount, mostWays, capped}
 use Rattle.judging.specs.Assignments.{columnsOf}
-use Rattle.verdict.specs.Room.{Judgeable}
+use Rattle.verdict.specs.Room.{Judging}
 use Rattle.every_way.specs.Call.{Slices, Long, lengthsOf, lentOf, tooShort, early}
 use Rattle.lot_ordination.specs.Ordination.{coordsIn, Ordinating}
 use Rattle.lot_ordination.proofs.Told.{length-coords}
@@ -127,7 +127,7 @@ module _ {d : Design} {ways : ℕ} {distances : List Float} {weighted : Bool} {w
   settled-names = let all = groups-all in (omega (arith, known .few), omega (arith, room .labels))
 
   pub settled-runs : {coords : List Float} {terms pulls scores : ℕ} → length coords ≡ length (s .coords) → terms ≡ length (s .terms) → pulls ≡ length (s .pulls) → scores ≡ length (s .room)
-      → Running d distances weighted weights coords (length (s .counts)) (length (s .means)) terms pulls (length (s .rows)) scores
+      → Running d ways distances weighted weights coords (length (s .counts)) (length (s .means)) terms pulls (length (s .rows)) scores
   settled-runs ec et ep es = record {
     labels = a .labels;
     stratified = a .stratified;
@@ -135,6 +135,7 @@ module _ {d : Design} {ways : ℕ} {distances : List Float} {weighted : Bool} {w
     described = a .passing .described;
     few = known .few;
     two = omega (arith, a .passing .described .groupsMany, known .groups);
+    many = a .passing .many;
     fewWays = omega (arith, a .passing .many, a .passing .few);
     distancesFit = known .fits .distancesFit;
     weightsFit = known .fits .weightsFit;
@@ -147,8 +148,8 @@ module _ {d : Design} {ways : ℕ} {distances : List Float} {weighted : Bool} {w
     scoresRoom = omega (arith, room .room);
   }
 
-module _ {d : Design} {distances : List Float} {weighted : Bool} {weights coords : List Float} {counts means terms pulls rows scores : ℕ}
-    (a : Running d distances weighted weights coords counts means terms pulls rows scores) where
+module _ {d : Design} {ways : ℕ} {distances : List Float} {weighted : Bool} {weights coords : List Float} {counts means terms pulls rows scores : ℕ}
+    (a : Running d ways distances weighted weights coords counts means terms pulls rows scores) where
   abbrev own : Lot
   own = lotOf (d .n) distances (a .labels) (a .stratified) (a .strata) weighted weights
 
@@ -176,11 +177,12 @@ module _ {d : Design} {distances : List Float} {weighted : Bool} {weights coords
       moved : {n n′ : ℕ} {l l′ : List ℕ} → n ≡ n′ → l ≡ l′ → Below n′ l′ → Below n l
       moved en el b = rw (en, el) b
 
-  pub runs-judges : {p t w x : List Float} → Weighs own d p t w → x ≡ coordsIn (d .n) coords → Judgeable d p t w x rows scores × (d .groups ≤ counts) × (d .groups ≤ means)
+  pub runs-judges : {p t w x : List Float} → Weighs own d p t w → x ≡ coordsIn (d .n) coords → Judging d ways p t w x rows scores counts means
   runs-judges weighs ex =
       let groups : d .groups ≤ d .n = omega (arith, runs-sound .enough, all-kept) in
-      let cells = mul-le-mul {n₁ = d .kept} {m₁ = d .groups} {n₂ = d .n} {m₂ = d .n} all-kept groups in (
-        record {
+      let cells = mul-le-mul {n₁ = d .kept} {m₁ = d .groups} {n₂ = d .n} {m₂ = d .n} all-kept groups in
+      record {
+        judgeable = record {
           lot = own;
           owns = record { weighs = weighs; labelled = sym (a .described .many) };
           few = a .few;
@@ -189,7 +191,8 @@ module _ {d : Design} {distances : List Float} {weighted : Bool} {weights coords
           coordinates = ap length ex ∙ length-coords (d .n) coords (a .coordsRoom);
           rowsRoom = omega (arith, cells, a .rowsRoom);
           scoresRoom = a .scoresRoom;
-        },
-        omega (arith, a .countsRoom),
-        omega (arith, a .meansRoom),
-      )
+        };
+        many = a .many;
+        countsRoom = omega (arith, a .countsRoom);
+        meansRoom = omega (arith, a .meansRoom);
+      }

@@ -43,9 +43,9 @@ use Rattle.verdict.specs.Room.{Judges}
 use Rattle.exhaustive.specs.Inner.{Passing}
 
 -- by equal coordinates
-pub moved-judges : {lot : Lot} {ways : ℕ} {x x′ : List Float} {counts counts′ : List ℕ} {means means′ : List Float} {r : Judgement} → x ≡ x′
-    → Judges lot ways x counts means counts′ means′ r → Judges lot ways x′ counts means counts′ means′ r
-moved-judges {lot} {ways} {x} {x′} {counts} {counts′} {means} {means′} {r} e j = subst (λ (x : List Float). Judges lot ways x counts means counts′ means′ r) e j
+pub moved-judges : {lot : Lot} {x x′ : List Float} {counts counts′ : List ℕ} {means means′ : List Float} {r : Judgement} → x ≡ x′
+    → Judges lot x counts means counts′ means′ r → Judges lot x′ counts means counts′ means′ r
+moved-judges {lot} {x} {x′} {counts} {counts′} {means} {means′} {r} e j = subst (λ (x : List Float). Judges lot x counts means counts′ means′ r) e j
 
 -- ---- by what the ordination tells
 
@@ -77,16 +77,16 @@ module _ (n : ℕ) (distances : List Float) (labels : List ℕ) (stratified : Bo
       let is : refused r ≡ coordsOf (pcoa 8 n distances) = ap (λ (c : Check). told n c coords) (sym ec) ∙ h in
       eb ∙ es ∙ ap (λ (g : ℕ). turned g r s) eg ∙ refused-call r s (late-told n distances is) ∙ ap (λ (o : Outcome Judgement). callBy lot o s) (refused-by lot (pcoa 8 n distances) is)
 
-  pub settled-answered : {d : Design} {c : Check} {ways : ℕ} (coords : List Float) (s : Slices) {j : Judgement} {ns counts : List ℕ} {means terms pulls coords′ room vectors : List Float} {rows : List ℕ}
-      → Describes lot d → ways ≡ wayCount lot → c ≡ check.Passed → told n c coords ≡ coordsOf (pcoa 8 n distances) → Judges lot ways (coordsIn n coords) (s .counts) (s .means) counts means j
+  pub settled-answered : {d : Design} {c : Check} (coords : List Float) (s : Slices) {j : Judgement} {ns counts : List ℕ} {means terms pulls coords′ room vectors : List Float} {rows : List ℕ}
+      → Describes lot d → c ≡ check.Passed → told n c coords ≡ coordsOf (pcoa 8 n distances) → Judges lot (coordsIn n coords) (s .counts) (s .means) counts means j
       → ns ≡ over (namesOf d) (s .labels) → terms ≡ cleared zero⁺ (s .terms) → pulls ≡ cleared zero⁺ (s .pulls) → coords′ ≡ cleared zero⁺ (s .coords)
       → room ≡ cleared zero⁺ (s .room) → vectors ≡ cleared zero⁺ (s .vectors) → rows ≡ cleared 0 (s .rows)
       → called (Judged j) (slicesOf ns counts means terms pulls coords′ room vectors rows) ≡ callBy lot (exhaustive lot) s
   unfolding exhaustive coordinates callBy callIn output work
-  settled-answered {d} {c} {ways} coords s e many ec h r en et ep eo er ev ew =
+  settled-answered {d} {c} coords s e ec h r en et ep eo er ev ew =
       let is : answered (coordsIn n coords) ≡ coordsOf (pcoa 8 n distances) = ap (λ (c : Check). told n c coords) (sym ec) ∙ h in
       let named = en ∙ ap (λ (l : List ℕ). over l (s .labels)) (e .namesAre) in
-      (λ i. called (Judged (r .answer many i)) (slicesOf (named i) (r .listed .sizes i) (r .listed .meanZ i) (et i) (ep i) (eo i) (er i) (ev i) (ew i)))
+      (λ i. called (Judged (r .answer i)) (slicesOf (named i) (r .listed .sizes i) (r .listed .meanZ i) (et i) (ep i) (eo i) (er i) (ev i) (ew i)))
       ∙ ap (λ (o : Outcome Judgement). callBy lot o s) (answered-by lot (pcoa 8 n distances) is)
 
 -- the lot by its design's number of samples

@@ -27,13 +27,14 @@ pub record Settling (d : Design) (ways : ℕ) (distances : List Float) (weighted
   pub passing : Passing (lotOf (d .n) distances labels stratified strata weighted weights) d ways s
 
 -- the same once the coordinates stand in `coords`, with slices of these lengths
-pub record Running (d : Design) (distances : List Float) (weighted : Bool) (weights coords : List Float) (counts means terms pulls rows scores : ℕ) : Type 0 where
+pub record Running (d : Design) (ways : ℕ) (distances : List Float) (weighted : Bool) (weights coords : List Float) (counts means terms pulls rows scores : ℕ) : Type 0 where
   pub labels : List ℕ
   pub stratified : Bool
   pub strata : List ℕ
   pub described : Describes (lotOf (d .n) distances labels stratified strata weighted weights) d
   pub few : d .n ≤ 256
   pub two : 2 ≤ d .groups
+  pub many : ways ≡ wayCount (lotOf (d .n) distances labels stratified strata weighted weights)
   pub fewWays : wayCount (lotOf (d .n) distances labels stratified strata weighted weights) ≤ mostWays
   pub distancesFit : length distances ≡ d .n * d .n
   pub weightsFit : weighted ≡ true → length weights ≡ d .n

@@ -53,9 +53,9 @@ fn run(
     rows: &mut [u16],
     scores: &mut [f64],
 ) -> Judgement
-    requires { ⌜ Running (l .design) (now distances) (l .weighted) (now weights) (now coords) (length (now counts)) (length (now means)) (length (now terms)) (length (now pulls)) (length (now rows)) (length (now scores)) ⌝ }
+    requires { ⌜ Running (l .design) (l .ways) (now distances) (l .weighted) (now weights) (now coords) (length (now counts)) (length (now means)) (length (now terms)) (length (now pulls)) (length (now rows)) (length (now scores)) ⌝ }
     ensures { λ r. ⌜ ((labels : List ℕ) (stratified : Bool) (strata : List ℕ) → Describes (lotOf (l .design .n) (now (distances .entry)) labels stratified strata (l .weighted) (now (weights .entry))) (l .design)
-        → Judges (lotOf (l .design .n) (now (distances .entry)) labels stratified strata (l .weighted) (now (weights .entry))) (l .ways) (coordsIn (l .design .n) (now (coords .entry)))
+        → Judges (lotOf (l .design .n) (now (distances .entry)) labels stratified strata (l .weighted) (now (weights .entry))) (coordsIn (l .design .n) (now (coords .entry)))
         (now (counts .entry)) (now (means .entry)) (now (counts .exit)) (now (means .exit)) r) ⌝ }
 {
     let d = l.design;

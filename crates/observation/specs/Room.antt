@@ -7,6 +7,7 @@ use lib.ListN.{length}
 use lib.Ieee.{Float}
 use Rattle.lists.specs.Numbers.{Below}
 use Rattle.lists.specs.Writes.{over}
+use Rattle.members.specs.Members.{Grouped}
 use Rattle.lot.specs.Lot.{Lot}
 use Rattle.lot.specs.Kept.{groups, keptCount, groupCount}
 use Rattle.squares.specs.Squares.{weightsOf, termsOf, pullsOf}
@@ -19,6 +20,16 @@ use Rattle.observation.specs.declared.Observed.{Observed}
 use Rattle.observation.specs.Observed.{observedOf}
 
 -- ---- weights and terms
+
+-- distances and weights of n samples, m of them kept, and slices of these lengths for weights, terms and pulls
+pub record WeighingKept (n m : ℕ) (distances : List Float) (ks : List ℕ) (weighted : Bool) (weights : List Float) (w t p : ℕ) : Type 0 where
+  pub distancesFit : length distances ≡ n * n
+  pub samples : length ks ≡ m
+  pub places : Below n ks
+  pub weightsFit : weighted ≡ true → length weights ≡ n
+  pub weightsLong : w ≡ m
+  pub termsLong : t ≡ m * m
+  pub pullsLong : p ≡ m * m
 
 -- a sound design of n samples, their distances and weights, and slices of these lengths for weights, terms and pulls
 pub record Weighing (d : Design) (distances : List Float) (weighted : Bool) (weights : List Float) (w t p : ℕ) : Type 0 where
@@ -61,6 +72,35 @@ pub record Labelled (m g : ℕ) (p t w : List Float) (gs : List ℕ) : Type 0 wh
   pub some : 1 ≤ g
   pub enough : g ≤ m
   pub few : m ≤ 256
+
+-- and a slice of this length for z, with room for the outputs
+pub record ObservingKept (m g : ℕ) (p t w : List Float) (gs : List ℕ) (z counts means : ℕ) : Type 0 where
+  pub labelled : Labelled m g p t w gs
+  pub zLong : z ≡ m
+  pub countsRoom : g ≤ counts
+  pub meansRoom : g ≤ means
+
+-- what location, dispersion and the listing ask once the groups' members are the parts of mem
+pub record Locating (m g : ℕ) (t w : List Float) (gs next mem : List ℕ) : Type 0 where
+  pub terms : length t ≡ m * m
+  pub weights : length w ≡ m
+  pub grouped : Grouped gs m g next mem
+  pub some : 1 ≤ g
+  pub enough : g ≤ m
+  pub few : m ≤ 256
+
+pub record Dispersing (m g : ℕ) (p t w : List Float) (gs next mem : List ℕ) (z : ℕ) : Type 0 where
+  pub labelled : Labelled m g p t w gs
+  pub grouped : Grouped gs m g next mem
+  pub members : length mem ≤ 256
+  pub zLong : z ≡ m
+
+pub record Listing (m g : ℕ) (gs next mem : List ℕ) (z counts means : ℕ) : Type 0 where
+  pub zLong : z ≡ m
+  pub grouped : Grouped gs m g next mem
+  pub members : length mem ≤ 256
+  pub countsRoom : g ≤ counts
+  pub meansRoom : g ≤ means
 
 -- ---- what is observed
 

@@ -1,13 +1,11 @@
 // What is observed of a lot: the weights and terms of its kept samples, location, dispersion, and each group's count and mean z (document 01, sections 2 and 3).
 use designs::Design;
 ghost use mathlib.Core.Path.{_≡_};
-ghost use mathlib.Core.Bool.{Bool, true};
+ghost use mathlib.Core.Bool.{Bool};
 ghost use mathlib.Core.List.{List, map};
-ghost use Prim.Native.Nat.{ℕ, _*_, _≤_};
+ghost use Prim.Native.Nat.{ℕ, _*_};
 ghost use lib.ListN.{length, take};
-ghost use Rattle.lists.specs.Numbers.{Below};
 ghost use Rattle.lists.specs.Writes.{over};
-ghost use Rattle.members.specs.Members.{Grouped};
 ghost use Rattle.lot.specs.Lot.{Lot, lotOf};
 ghost use Rattle.lot.specs.Kept.{sizes};
 ghost use Rattle.squares.specs.Squares.{weightAt, terms, pulls};
@@ -15,7 +13,7 @@ ghost use Rattle.dispersion.specs.Dispersion.{zOf};
 ghost use Rattle.anova.specs.Anova.{meanZ};
 ghost use Rattle.designs.specs.Designs.{Describes};
 ghost use Rattle.observation.specs.Observed.{located, spread, observed};
-ghost use Rattle.observation.specs.Room.{Weighing, Weighs, Labelled, Observing, Observes};
+ghost use Rattle.observation.specs.Room.{WeighingKept, Weighing, Weighs, Locating, Dispersing, Listing, ObservingKept, Observing, Observes};
 
 // ---- weights and terms
 
@@ -31,8 +29,7 @@ fn weigh_kept(
     t: &mut [f64],
     p: &mut [f64],
 )
-    requires { ⌜ (length (now distances) ≡ n * n) × (length (now ks) ≡ m) × Below n (now ks) × (weighted ≡ true → length (now weights) ≡ n) ⌝ }
-    requires { ⌜ (length (now w) ≡ m) × (length (now t) ≡ m * m) × (length (now p) ≡ m * m) ⌝ }
+    requires { ⌜ WeighingKept n m (now distances) (now ks) weighted (now weights) (length (now w)) (length (now t)) (length (now p)) ⌝ }
     ensures { λ _. ⌜ (now (w .exit) ≡ map (weightAt weighted (now (weights .entry))) (now (ks .entry)))
         × (now (t .exit) ≡ terms (now (distances .entry)) n (now (ks .entry)) (map (weightAt weighted (now (weights .entry))) (now (ks .entry))) m)
         × (now (p .exit) ≡ pulls (now (distances .entry)) n (now (ks .entry)) (map (weightAt weighted (now (weights .entry))) (now (ks .entry))) m) ⌝ }
@@ -92,7 +89,7 @@ fn locate(
     next: &[u16],
     mem: &[u16],
 ) -> Located
-    requires { ⌜ (length (now t) ≡ m * m) × (length (now w) ≡ m) × Grouped (now gs) m g (now next) (now mem) × (1 ≤ g) × (g ≤ m) × (m ≤ 256) ⌝ }
+    requires { ⌜ Locating m g (now t) (now w) (now gs) (now next) (now mem) ⌝ }
     ensures { λ r. ⌜ r ≡ located (now (t .entry)) (now (w .entry)) (now (gs .entry)) m g ⌝ }
 {
     let total = statistics::total(t, w, m);
@@ -119,8 +116,7 @@ fn disperse(
     mem: &[u16],
     z: &mut [f64],
 ) -> Spread
-    requires { ⌜ (length (now p) ≡ m * m) × (length (now t) ≡ m * m) × (length (now w) ≡ m) × (length (now gs) ≡ m) × Below g (now gs) ⌝ }
-    requires { ⌜ Grouped (now gs) m g (now next) (now mem) × (length (now mem) ≤ 256) × (length (now z) ≡ m) × (1 ≤ g) × (g ≤ m) × (m ≤ 256) ⌝ }
+    requires { ⌜ Dispersing m g (now p) (now t) (now w) (now gs) (now next) (now mem) (length (now z)) ⌝ }
     ensures { λ r. ⌜ (r ≡ spread (now (p .entry)) (now (t .entry)) (now (w .entry)) (now (gs .entry)) m g)
         × (now (z .exit) ≡ zOf (now (p .entry)) (now (t .entry)) (now (w .entry)) (now (gs .entry)) m) ⌝ }
 {
@@ -142,7 +138,7 @@ fn list_groups(
     counts: &mut [u16],
     means: &mut [f64],
 )
-    requires { ⌜ (length (now z) ≡ m) × Grouped (now gs) m g (now next) (now mem) × (length (now mem) ≤ 256) × (g ≤ length (now counts)) × (g ≤ length (now means)) ⌝ }
+    requires { ⌜ Listing m g (now gs) (now next) (now mem) (length (now z)) (length (now counts)) (length (now means)) ⌝ }
     ensures { λ _. ⌜ (now (counts .exit) ≡ over (sizes (now (gs .entry)) m g) (now (counts .entry)))
         × (now (means .exit) ≡ over (meanZ (now (z .entry)) (now (gs .entry)) m g) (now (means .entry))) ⌝ }
 {
@@ -170,7 +166,7 @@ fn observe_kept(
     counts: &mut [u16],
     means: &mut [f64],
 ) -> Observed
-    requires { ⌜ Labelled m g (now p) (now t) (now w) (now gs) × (length (now z) ≡ m) × (g ≤ length (now counts)) × (g ≤ length (now means)) ⌝ }
+    requires { ⌜ ObservingKept m g (now p) (now t) (now w) (now gs) (length (now z)) (length (now counts)) (length (now means)) ⌝ }
     ensures { λ r. ⌜ (r ≡ observed (now (p .entry)) (now (t .entry)) (now (w .entry)) (now (gs .entry)) m g)
         × (now (z .exit) ≡ zOf (now (p .entry)) (now (t .entry)) (now (w .entry)) (now (gs .entry)) m)
         × (now (counts .exit) ≡ over (sizes (now (gs .entry)) m g) (now (counts .entry)))

@@ -24,7 +24,7 @@ use Rattle.summaries.specs.Summaries.{summaryOf}
 use Rattle.observation.specs.declared.Observed.{Observed}
 use Rattle.observation.specs.Observed.{observedOf}
 use Rattle.discriminant.specs.Dapc.{leading}
-use Rattle.ways.specs.Ways.{waysOf, ways, wayCount}
+use Rattle.ways.specs.Ways.{waysOf, ways, wayCountOf, wayCount}
 use Rattle.way_hits.specs.declared.Assignment.{Assignment}
 use Rattle.way_hits.specs.declared.Seen.{Seen}
 use Rattle.way_hits.specs.declared.Hits.{Hits}
@@ -113,6 +113,11 @@ module _ {d : Design} {p t w x : List Float} {rows scores : ℕ} (a : Judgeable 
 
   sized : length x ≡ lot .n * columnsOf (lot .n)
   sized = a .coordinates ∙ ap (λ (n : ℕ). n * columnsOf n) n-is
+
+  -- M is the same for both
+  pub same-ways : wayCount (a .lot) ≡ wayCount lot
+  unfolding wayCount
+  same-ways = sym (λ i. wayCountOf (told .strataAre i) (told .groupsAre i)) ∙ (λ i. wayCountOf (e .strataAre i) (e .groupsAre i))
 
   pub counted-is : {o : Observed} {f : Frame} {m : ℕ} {seen : Seen} {h : Hits} → o ≡ observedOf lot → f ≡ frameOf (d .n) (d .kept) (d .groups) x (o .total) → m ≡ d .kept
       → seen ≡ seenBy o (assignmentBy f x (keptOf d) (groupsOf d)) → h ≡ hitsAmong seen (statisticsBy f m t p w x (keptOf d)) (waysOf (f .groups) (strataOf d) (groupsOf d))

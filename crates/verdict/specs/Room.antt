@@ -30,7 +30,14 @@ pub record Judgeable (d : Design) (p t w x : List Float) (rows scores : ℕ) : T
   pub rowsRoom : d .kept * d .groups ≤ rows
   pub scoresRoom : d .n + d .n * d .n ≤ scores
 
--- the answer where `ways` is M, and what the outputs hold
-pub record Judges (lot : Lot) (ways : ℕ) (x : List Float) (counts : List ℕ) (means : List Float) (counts′ : List ℕ) (means′ : List Float) (r : Judgement) : Type 0 where
-  pub answer : ways ≡ wayCount lot → r ≡ judgement lot x
+-- with M, and outputs of these lengths
+pub record Judging (d : Design) (ways : ℕ) (p t w x : List Float) (rows scores counts means : ℕ) : Type 0 where
+  pub judgeable : Judgeable d p t w x rows scores
+  pub many : ways ≡ wayCount (judgeable .lot)
+  pub countsRoom : d .groups ≤ counts
+  pub meansRoom : d .groups ≤ means
+
+-- the answer, and what the outputs hold
+pub record Judges (lot : Lot) (x : List Float) (counts : List ℕ) (means : List Float) (counts′ : List ℕ) (means′ : List Float) (r : Judgement) : Type 0 where
+  pub answer : r ≡ judgement lot x
   pub listed : Listed lot counts means counts′ means′

@@ -6,13 +6,12 @@ use judging::Frame;
 use observation::Observed;
 use way_hits::Seen;
 ghost use mathlib.Core.Path.{_≡_};
-ghost use Prim.Native.Nat.{_≤_};
 ghost use lib.ListN.{length};
 ghost use Rattle.lot.specs.Lot.{Lot};
 ghost use Rattle.observation.specs.Observed.{observedOf};
 ghost use Rattle.judging.specs.Judging.{frameOf, assignmentBy, Placing, Judged};
 ghost use Rattle.verdict.specs.Verdict.{seenBy, countedOf};
-ghost use Rattle.verdict.specs.Room.{Judgeable, Owns, Judges};
+ghost use Rattle.verdict.specs.Room.{Judgeable, Judging, Owns, Judges};
 
 // What is the same for every way of a design's labels, on coordinates x.
 fn frame_of(d: Design, x: &[f64], total: f64) -> Frame
@@ -104,9 +103,9 @@ pub fn judge(
     rows: &mut [u16],
     scores: &mut [f64],
 ) -> Judgement
-    requires { ⌜ Judgeable d (now p) (now t) (now w) (now x) (length (now rows)) (length (now scores)) × (d .groups ≤ length (now counts)) × (d .groups ≤ length (now means)) ⌝ }
+    requires { ⌜ Judging d ways (now p) (now t) (now w) (now x) (length (now rows)) (length (now scores)) (length (now counts)) (length (now means)) ⌝ }
     ensures { λ r. ⌜ ((lot : Lot) → Owns lot d (now (p .entry)) (now (t .entry)) (now (w .entry))
-        → Judges lot ways (now (x .entry)) (now (counts .entry)) (now (means .entry)) (now (counts .exit)) (now (means .exit)) r) ⌝ }
+        → Judges lot (now (x .entry)) (now (counts .entry)) (now (means .entry)) (now (counts .exit)) (now (means .exit)) r) ⌝ }
 {
     let g = d.groups;
     let mut z = [0.0f64; 256];

@@ -84,7 +84,7 @@ returns-2 c labels stratified strata a =
     let k = o .ordinate .kept in
     let e = w .clear-work .ensures in
     settled-answered (x .l .design .n) (x .distances .now) labels stratified strata (x .l .weighted) (x .weights .now) (o .ordinate .last .0) (lent s)
-    (a .described) (a .many) (t .enum-told .given .1) (o .ordinate .ensures) (r .run .ensures labels stratified strata (a .described)) (f .fill-names .ensures)
+    (a .described) (t .enum-told .given .1) (o .ordinate .ensures) (r .run .ensures labels stratified strata (a .described)) (f .fill-names .ensures)
     (e .0 ∙ cleared-same zero⁺ (x .terms .now) _ (r .run .kept .1 .1 .1 .1 .1 .1 .0 ∙ k .1 .0)) (e .1 ∙ cleared-same zero⁺ (x .pulls .now) _ (r .run .kept .1 .1 .1 .1 .1 .1 .1 .0 ∙ k .1 .1 .0))
     (e .2 ∙ cleared-same zero⁺ (x .coords .now) _ (k .0)) (e .3 ∙ cleared-same zero⁺ (x .room .now) _ (r .run .kept .1 .1 .1 .1 .1 .1 .1 .1 .1 .0 ∙ k .1 .1 .1 .0))
     (e .4 ∙ cleared-same zero⁺ (x .vectors .now) _ (k .1 .1 .1 .1 .0)) (e .5 ∙ cleared-same 0 (x .rows .now) _ (r .run .kept .1 .1 .1 .1 .1 .1 .1 .1 .0))

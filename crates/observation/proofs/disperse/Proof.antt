@@ -16,13 +16,15 @@ start c = c .before .before .before .before .before .before .before .before .bef
 fill-z-requires : tie.Need-fill-z-requires
 fill-z-requires c κs =
     let p = c .before .before .before .before .before .before .before .before .before .before .pre in
-    (p .0, (p .1 .0, omega (arith, p .1 .4, p .1 .5), omega (arith, p .1 .4, p .1 .5), p .1 .2))
+    let l = p .labelled in
+    ((l .pulls, l .terms, l .weights, l .labels, l .groups), (p .grouped, omega (arith, l .enough, l .few), omega (arith, l .enough, l .few), p .zLong))
 
 anova-f-requires : tie.Need-anova-f-requires
 anova-f-requires c κs =
     let at = filled c in
     let p = start at .pre in
-    ((at .fill-z .kept .1 .1 .1 .1 .1 .1 .1 .1 .1 .1 .0 ∙ p .1 .2, p .0 .3, p .0 .4, p .1 .0, p .1 .1), (omega (arith, p .1 .4, p .1 .5), p .1 .3, p .1 .4, p .1 .5))
+    let l = p .labelled in
+    ((at .fill-z .kept .1 .1 .1 .1 .1 .1 .1 .1 .1 .1 .0 ∙ p .zLong, l .labels, l .groups, p .grouped, p .members), (omega (arith, l .enough, l .few), l .some, l .enough, l .few))
 
 returns : tie.Need-returns
 returns c =

@@ -31,7 +31,7 @@ unfolding sizes meanZ
 returns c =
     let after-fill-sizes = c .before .before .before .before .before .before in
     let start = after-fill-sizes .before .before .before .before .before .before .before .before in
-    (after-fill-sizes .fill-sizes .ensures ∙ ap (λ (l : List ℕ). over l (start .args .counts .now)) (on-members _ _ _ _ _ (start .pre .1) (λ k. length)), c .before .before .fill-means .ensures ∙ ap (λ (l : List Float). over l (start .args .means .now)) (on-members _ _ _ _ _ (start .pre .1) (λ k. meanOf (start .args .z .now))))
+    (after-fill-sizes .fill-sizes .ensures ∙ ap (λ (l : List ℕ). over l (start .args .counts .now)) (on-members _ _ _ _ _ (start .pre .grouped) (λ k. length)), c .before .before .fill-means .ensures ∙ ap (λ (l : List Float). over l (start .args .means .now)) (on-members _ _ _ _ _ (start .pre .grouped) (λ k. meanOf (start .args .z .now))))
 
 pub list-groups-spec : {M : Type 1} → statement M
 list-groups-spec =

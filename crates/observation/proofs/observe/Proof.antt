@@ -27,12 +27,13 @@ observe-kept-requires : tie.Need-observe-kept-requires
 observe-kept-requires c κs =
     let s = called c in
     let w = s .pre .weighed in
-    let sound = w .sound in (
-      record { pulls = w .pulls; terms = w .terms; weights = w .weights; labels = length-take-le _ _ (fits s); groups = sound .groups; some = sound .some; enough = sound .enough; few = sound .few },
-      length-take-le _ _ (s .pre .zRoom),
-      s .pre .countsRoom,
-      s .pre .meansRoom,
-    )
+    let sound = w .sound in
+    record {
+      labelled = record { pulls = w .pulls; terms = w .terms; weights = w .weights; labels = length-take-le _ _ (fits s); groups = sound .groups; some = sound .some; enough = sound .enough; few = sound .few };
+      zLong = length-take-le _ _ (s .pre .zRoom);
+      countsRoom = s .pre .countsRoom;
+      meansRoom = s .pre .meansRoom;
+    }
 
 returns : tie.Need-returns
 returns c lot e =

@@ -29,15 +29,14 @@ disperse-requires : tie.Need-disperse-requires
 disperse-requires c κs =
     let at = grouped (c .before .before .before) in
     let p = start at .pre in
-    let l = p .0 in
-    ((l .pulls, l .terms, l .weights, l .labels, l .groups), (at .group .ensures, search needs, p .1, l .some, l .enough, l .few))
+    record { labelled = p .labelled; grouped = at .group .ensures; members = search needs; zLong = p .zLong }
 
 list-groups-requires : tie.Need-list-groups-requires
 list-groups-requires c κs =
     let spread = dispersed c in
     let at = grouped (located spread) in
     let p = start at .pre in
-    (spread .disperse .kept .1 .1 .1 .1 .1 .1 .1 .1 .0 ∙ p .1, at .group .ensures, search needs, p .2, p .3)
+    record { zLong = spread .disperse .kept .1 .1 .1 .1 .1 .1 .1 .1 .0 ∙ p .zLong; grouped = at .group .ensures; members = search needs; countsRoom = p .countsRoom; meansRoom = p .meansRoom }
 
 returns : tie.Need-returns
 unfolding observed
@@ -58,7 +57,7 @@ observe-kept-spec =
     (tie.spec
     (λ c. search needs)
     (λ c. search needs)
-    (λ c κs. let l = c .before .before .before .before .before .before .before .before .before .pre .0 in search needs)
+    (λ c κs. let l = c .before .before .before .before .before .before .before .before .before .pre .labelled in search needs)
     (λ c. search needs)
     (λ c. search needs)
     (λ c κs. search needs)

@@ -36,10 +36,16 @@ p-back c = back (square (called c)) (called c .args .pulls .now) _ (called c .pr
 
 weigh-kept-requires : tie.Need-weigh-kept-requires
 weigh-kept-requires c κs =
-    let s = start (c .before .before .before) in (
-      (s .pre .distancesFit, length-take-le _ _ (fits s), s .pre .samples, s .pre .weightsFit),
-      (length-take-le _ _ (s .pre .weightsRoom), length-take-le _ _ (s .pre .termsRoom), length-take-le _ _ (s .pre .pullsRoom)),
-    )
+    let s = start (c .before .before .before) in
+    record {
+      distancesFit = s .pre .distancesFit;
+      samples = length-take-le _ _ (fits s);
+      places = s .pre .samples;
+      weightsFit = s .pre .weightsFit;
+      weightsLong = length-take-le _ _ (s .pre .weightsRoom);
+      termsLong = length-take-le _ _ (s .pre .termsRoom);
+      pullsLong = length-take-le _ _ (s .pre .pullsRoom);
+    }
 
 returns : tie.Need-returns
 returns c labels stratified strata e =

@@ -14,19 +14,19 @@ use Rattle.observation.proofs.weigh_kept.Tie as tie
 fill-weights-requires : tie.Need-fill-weights-requires
 fill-weights-requires c κs =
     let pre = c .before .before .before .before .before .before .before .pre in
-    (omega arith, λ e x h. omega (arith, pre .0 .3 e, pre .0 .2 x h))
+    (omega (arith, pre .weightsLong, pre .samples), λ e x h. omega (arith, pre .weightsFit e, pre .places x h))
 
 fill-terms-requires : tie.Need-fill-terms-requires
 fill-terms-requires c κs =
     let after-fill-weights = c .before .before .before .before in
     let start = after-fill-weights .before .before .before .before .before .before .before .before in
-    (start .pre .1 .1, start .pre .0 .1, after-fill-weights .fill-weights .kept .0 ∙ start .pre .1 .0, start .pre .0 .0, start .pre .0 .2)
+    (start .pre .termsLong, start .pre .samples, after-fill-weights .fill-weights .kept .0 ∙ start .pre .weightsLong, start .pre .distancesFit, start .pre .places)
 
 fill-pulls-requires : tie.Need-fill-pulls-requires
 fill-pulls-requires c κs =
     let after-fill-weights = c .before .before .before .before .before .before .before .before .before in
     let start = after-fill-weights .before .before .before .before .before .before .before .before in
-    (start .pre .1 .2, start .pre .0 .1, after-fill-weights .fill-weights .kept .0 ∙ start .pre .1 .0, start .pre .0 .0, start .pre .0 .2)
+    (start .pre .pullsLong, start .pre .samples, after-fill-weights .fill-weights .kept .0 ∙ start .pre .weightsLong, start .pre .distancesFit, start .pre .places)
 
 same-length : tie.Need-same-length
 same-length c = search needs

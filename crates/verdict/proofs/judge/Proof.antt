@@ -1,13 +1,13 @@
 -- `verdict::judge` meets its contract. What is observed, what is counted, and the summary, put together.
 -- Assumes nothing.
-use mathlib.Core.Path.{_≡_, sym}
+use mathlib.Core.Path.{_≡_, sym, _∙_}
 use Prim.Native.Nat.{_≤_}
 use native.Mathlib.Omega.{arith}
 use borrow.Author.Needs.{needs}
 use lib.ListN.{length}
 use lib.Seq.{length-take-le}
 use Rattle.verdict.proofs.Ready.{judged-sound, judged-weighed}
-use Rattle.verdict.proofs.Counts.{front-sizes, judged-is}
+use Rattle.verdict.proofs.Counts.{same-ways, front-sizes, judged-is}
 use Rattle.verdict.proofs.judge.Statement.{statement}
 use Rattle.verdict.proofs.judge.Tie as tie
 
@@ -18,12 +18,13 @@ abbrev observed : tie.After-slice-known8 → tie.After-observe
 observed c = c .before .before .before .before .before .before .before .before .before .before .before .before
 
 front-fits : (c : tie.After-observe) → start c .args .d .groups ≤ length (c .observe .last .1 .1 .1 .1 .1 .0)
-front-fits c = omega (arith, c .observe .kept .1 .1 .1 .1 .1 .0, start c .pre .1)
+front-fits c = omega (arith, c .observe .kept .1 .1 .1 .1 .1 .0, start c .pre .countsRoom)
 
 observe-requires : tie.Need-observe-requires
 observe-requires c κs =
     let s = c .before .before .before .before .before .before .before .before .before .before .before in
-    record { weighed = judged-weighed (s .pre .0); zRoom = judged-sound (s .pre .0) .few; countsRoom = s .pre .1; meansRoom = s .pre .2 }
+    let a = s .pre .judgeable in
+    record { weighed = judged-weighed a; zRoom = judged-sound a .few; countsRoom = s .pre .countsRoom; meansRoom = s .pre .meansRoom }
 
 returns : tie.Need-returns
 returns c lot own =
@@ -33,7 +34,7 @@ returns c lot own =
     let told = at .observe .ensures lot (own .weighs) in
     let sizes = front-sizes lot (own .weighs .described) (a .counts .now) (told .listed .sizes) in
     record {
-      answer = judged-is lot (a .x .now) (c .before .summarise .ensures lot (own .weighs .described) (told .result) sizes) (counted .count .ensures lot own (told .result)) (c .conclude .ensures);
+      answer = judged-is lot (a .x .now) (c .before .summarise .ensures lot (own .weighs .described) (told .result) sizes) (counted .count .ensures lot own (told .result)) (c .conclude .ensures) (start at .pre .many ∙ same-ways (start at .pre .judgeable) lot own);
       listed = told .listed;
     }
 
@@ -43,10 +44,10 @@ judge-spec =
     (tie.spec
     (λ c. search needs)
     observe-requires
-    (λ c κs. let s = start (c .before .before .before .before .before .before .before) in s .pre .0)
+    (λ c κs. let s = start (c .before .before .before .before .before .before .before) in s .pre .judgeable)
     (λ c. front-fits (observed c))
     (λ c. sym (length-take-le _ _ (front-fits (observed (c .before)))))
-    (λ c κs. (judged-sound (start (observed (c .before)) .pre .0), omega arith))
+    (λ c κs. (judged-sound (start (observed (c .before)) .pre .judgeable), omega arith))
     (λ c κs. search needs)
     (λ c. observed (c .before .before .before) .observe .kept .1 .1 .1 .1 .1 .0)
     (λ c. observed (c .before .before .before) .observe .kept .1 .1 .1 .1 .1 .1 .0)
