@@ -1,4 +1,4 @@
--- What the outputs hold at each step, and the room that the steps take. Assumes nothing.
+-- What the outputs hold at each step, and the room that the steps take.
 use mathlib.Core.Path.{_≡_, refl, sym, ap, ap₂, _∙_}
 use mathlib.Core.Bool.{Bool, true, false, cond}
 use mathlib.Core.List.{List, _++_, append-assoc}
@@ -16,7 +16,6 @@ use Rattle.lists.proofs.Ranges.{length-grid, length-table, table-ext, table-of}
 use Rattle.lists.proofs.Rows.{part-rest}
 use Rattle.lists.proofs.Writes as writes
 use Rattle.lists.proofs.Parts.{over-over, over-lent, over-take}
-use Rattle.outcome.specs.declared.Refusal.the-variants.{Unordered}
 use Rattle.outcome.specs.Outcome.{Outcome, answered, refused, andThen}
 use Rattle.outcome.specs.Slices.{output}
 use Rattle.triangular.specs.Triangular.{solveRows}
@@ -46,12 +45,12 @@ module _ (n p axes g : ℕ) (groups : List ℕ) (v s : List Float) where
   -- the two cases of `concluded`, and what they leave
   abbrev by-test : Bool → Outcome Scores
   by-test b = elim b as (λ b. Outcome Scores) [
-    | true ↦ refused Unordered
+    | true ↦ refused 11
     | false ↦ answered (record { values = v; scores = s; assigned = groupsFound; right = rightOf groups groupsFound })
   ]
 
   leaves-refused : (out : List Float) (assigned : List ℕ) → someNan ≡ true
-      → leaves n p axes (concluded n axes g groups v s) out assigned ≡ refusal Unordered (over (replicate (axes + n * axes) zero⁺) out) (over (replicate n 0) assigned)
+      → leaves n p axes (concluded n axes g groups v s) out assigned ≡ refusal 11 (over (replicate (axes + n * axes) zero⁺) out) (over (replicate n 0) assigned)
   unfolding leaves concluded output andThen
   leaves-refused out assigned e = ap (λ (b : Bool). leaves n p axes (by-test b) out assigned) e
 
@@ -74,12 +73,12 @@ module _ (n p axes g : ℕ) (groups : List ℕ) (v s : List Float) where
     unfolding assignedOf
     found-long = ap length is ∙ length-table _ n
 
-    conclude-refused : {r : Called} → nans ≡ true → r ≡ refusal Unordered (over (replicate (axes + n * axes) zero⁺) out) (over (replicate n 0) (found ++ drop n assigned))
+    conclude-refused : {r : Called} → nans ≡ true → r ≡ refusal 11 (over (replicate (axes + n * axes) zero⁺) out) (over (replicate n 0) (found ++ drop n assigned))
         → r ≡ leaves n p axes (concluded n axes g groups v s) out assigned
     conclude-refused {r} t e =
         let long = length-replicate {A = ℕ} n 0 in
         e
-        ∙ ap (refusal Unordered (over (replicate (axes + n * axes) zero⁺) out))
+        ∙ ap (refusal 11 (over (replicate (axes + n * axes) zero⁺) out))
         (ap (over (replicate n 0)) (over-lent found assigned found-long) ∙ over-over (replicate n 0) found assigned (omega (arith, found-long)))
         ∙ sym (leaves-refused out assigned (sym nans-are ∙ t))
 
@@ -95,12 +94,12 @@ module _ (n p axes g : ℕ) (groups : List ℕ) (v s : List Float) where
 
     -- by the test for a NaN
     pub conclude-told : {r : Called} {right : ℕ} → right ≡ rightOf groups found → axes + n * axes ≤ length out → v ≡ take axes out → s ≡ take (n * axes) (drop axes out)
-        → r ≡ cond nans (refusal Unordered (over (replicate (axes + n * axes) zero⁺) out) (over (replicate n 0) (found ++ drop n assigned))) (scored p axes right out (found ++ drop n assigned))
+        → r ≡ cond nans (refusal 11 (over (replicate (axes + n * axes) zero⁺) out) (over (replicate n 0) (found ++ drop n assigned))) (scored p axes right out (found ++ drop n assigned))
         → r ≡ leaves n p axes (concluded n axes g groups v s) out assigned
     conclude-told {r} {right} count room first rest e = by nans refl e
       where
         by : (b : Bool) → nans ≡ b
-            → r ≡ cond b (refusal Unordered (over (replicate (axes + n * axes) zero⁺) out) (over (replicate n 0) (found ++ drop n assigned))) (scored p axes right out (found ++ drop n assigned))
+            → r ≡ cond b (refusal 11 (over (replicate (axes + n * axes) zero⁺) out) (over (replicate n 0) (found ++ drop n assigned))) (scored p axes right out (found ++ drop n assigned))
             → r ≡ leaves n p axes (concluded n axes g groups v s) out assigned
         by true t e = conclude-refused t e
         by false t e = e ∙ conclude-scored t count room first rest
@@ -115,11 +114,12 @@ module _ (n p axes g : ℕ) (groups : List ℕ) (v s : List Float) where
       by true e =
           let long = length-replicate (axes + n * axes) zero⁺ in
           leaves-refused (over (v ++ s) out) assigned e
-          ∙ ap (λ (l : List Float). refusal Unordered l (over (replicate n 0) assigned)) (over-over (replicate (axes + n * axes) zero⁺) (v ++ s) out (omega arith))
+          ∙ ap (λ (l : List Float). refusal 11 l (over (replicate n 0) assigned)) (over-over (replicate (axes + n * axes) zero⁺) (v ++ s) out (omega arith))
           ∙ sym (leaves-refused out assigned e)
       by false e =
           leaves-scored (over (v ++ s) out) assigned e
-          ∙ ap (λ (l : List Float). called (Scored (record { columns = p; axes = axes; right = rightOf groups groupsFound })) l (over groupsFound assigned)) (over-over (v ++ s) (v ++ s) out (omega arith))
+          ∙ ap (λ (l : List Float). called (Scored (record { columns = p; axes = axes; right = rightOf groups groupsFound })) l (over groupsFound assigned))
+          (over-over (v ++ s) (v ++ s) out (omega arith))
           ∙ sym (leaves-scored out assigned e)
 
   pub concluded-over : (out : List Float) (assigned : List ℕ) {out′ : List Float} {r : Called} → length v ≡ axes → length s ≡ n * axes → out′ ≡ over (v ++ s) out

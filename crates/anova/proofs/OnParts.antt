@@ -1,4 +1,4 @@
--- The ANOVA worked out from the parts of a list of members. Assumes nothing.
+-- The ANOVA worked out from the parts of a list of members.
 use mathlib.Core.Path.{_≡_, ap, _∙_}
 use mathlib.Core.List.{List}
 use Prim.Native.Nat.{ℕ, _<_}

@@ -120,7 +120,7 @@ fn between(m: usize, g: usize, next: &[u16], mem: &[u16], means: &[f64], grand: 
     s
 }
 
-// The F of z by groups, with the mean of all at hand. `means` lends room for the groups' means.
+// The F of z by groups, with the mean of all at hand. `means` lends room for the groups' means; what it holds after is left open.
 pub fn anova_about(
     z: &[f64],
     lab: &[u16],
@@ -142,7 +142,7 @@ pub fn anova_about(
     location::f_ratio(b, r, m, g)
 }
 
-// The same from z alone.
+// The same from z alone. What `means` holds after is left open.
 pub fn anova_f(
     z: &[f64],
     lab: &[u16],

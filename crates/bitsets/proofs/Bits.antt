@@ -1,4 +1,4 @@
--- The laws of packed truths: a bit set, and bits that stand in both of two rows. Assumes nothing.
+-- The laws of packed truths: a bit set, and bits that stand in both of two rows.
 use mathlib.Core.Path.{_≡_, refl, sym, _∙_, ap, ap₂}
 use mathlib.Core.Bool.{Bool, true, false, _&&_, cond}
 use mathlib.Core.List.{List, [], _∷_, map}

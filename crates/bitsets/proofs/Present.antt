@@ -1,4 +1,4 @@
--- The columns that a set has, one more, and the bits that two rows share, a word more. Assumes nothing.
+-- The columns that a set has, one more, and the bits that two rows share, a word more.
 use mathlib.Core.Path.{_≡_, refl, sym, ap, ap₂, _∙_}
 use mathlib.Core.Bool.{Bool, true, false, _||_}
 use mathlib.Core.Logic.{_⊎_, inl, inr}

@@ -1,4 +1,4 @@
--- The Ritz values found one after the other and held against those before. Assumes nothing.
+-- The Ritz values found one after the other and held against those before.
 use mathlib.Core.Path.{_≡_, refl, sym, ap, ap₂, _∙_}
 use mathlib.Core.Bool.{Bool, true, _&&_}
 use mathlib.Core.List.{List}

@@ -1,78 +1,63 @@
--- Judged samples of the trade: every case of the list computes what document 01 expects. Assumes nothing.
-use mathlib.Core.Path.{_≡_, refl, ap, _∙_}
-use mathlib.Core.List.{List, [], _∷_, map}
-use Prim.Native.Nat.{ℕ}
+-- Judged samples of the trade: every case of the list computes what document 01 expects.
+use mathlib.Core.Path.{ap}
+use mathlib.Core.List.{[], _∷_}
 use native.Mathlib.Omega.{arith}
-use lib.ListN.{getD, take, replicate}
-use lib.Ieee.{le, ofBits}
-use Rattle.float.specs.Floats.{zero⁺, bits}
+use lib.ListN.{getD, replicate}
+use lib.Ieee.{add, sub, mul, div, neg, ofBits, toBits, ofInt, odd, size}
+use Rattle.float.specs.Floats.{zero⁺, 2·0, bits}
 use Rattle.float.proofs.Cases.{root-of-smallest, root-of-two}
-use Rattle.lists.specs.Filters.{any}
-use Rattle.lot.proofs.Cases as lot
-use Rattle.sampled.proofs.Cases as test
-use Rattle.ways.proofs.Cases as ways
-use Rattle.gram.proofs.Cases.{case-j}
-use Rattle.jacobi.proofs.Cases.{diagonal-1-3}
-use Rattle.dapc_lines.proofs.Cases.{case-l-nine, case-l-passes}
-use Rattle.every_way.specs.Call.{Long}
-use Rattle.every_way.proofs.Cases as every
-use Rattle.outcome.specs.Refusals.{codeOf}
+use Rattle.lists.specs.Ranges.{upFrom, table, rows, grid}
+use Rattle.lists.specs.Filters.{keep, countIf, any}
+use Rattle.lists.specs.Numbers.{howMany, stands, insertUp, upward}
+use Rattle.lists.specs.Sums.{sumFrom}
+use Rattle.lists.specs.Writes.{over, cleared}
 use Rattle.outcome.specs.Outcome.{code}
-use Rattle.chances.specs.Chances.{given}
-use Rattle.cases.specs.Cases.{lent, cases, Hold}
+use Rattle.sets.specs.Sets.{setAt, sets}
+use Rattle.hashes.specs.Selected.{selected, frequency}
+use Rattle.sampled.proofs.Cases.{case-c-total, case-c-within}
+use Rattle.ways.proofs.Cases as ways
+use Rattle.gram.specs.Gram.{meanSum, shared, gram}
+use Rattle.gram.proofs.Cases.{case-j-call}
+use Rattle.jacobi.proofs.Cases.{diagonal-1-3}
+use Rattle.cases.specs.Cases.{gramNumbers, jacobiNumbers, Holds, j-gram, k-values, cases, Hold}
+use Rattle.cases.proofs.Tests as test
+use Rattle.cases.proofs.Every as every
+use Rattle.cases.proofs.Scored as dapc
 
-long : Long 18 lent
-long = record {
-  labels = omega arith;
-  counts = omega arith;
-  means = omega arith;
-  terms = omega arith;
-  pulls = omega arith;
-  coords = omega arith;
-  room = omega arith;
-  vectors = omega arith;
-  rows = omega arith;
-}
+-- (j) the call of `gram_matrix`
+case-j : Holds j-gram
+unfolding over cleared add sub mul div neg ofBits toBits ofInt odd size upFrom table rows grid keep countIf any howMany stands insertUp upward sumFrom setAt sets selected frequency meanSum shared gram
+case-j = ap gramNumbers (case-j-call (replicate 17 2·0) (replicate 256 7) (omega arith) (omega arith))
 
-case-i : code (Rattle.every_way.specs.Call.outcomeOf (Rattle.cases.specs.Cases.halves 9) lent) ≡ 8
-unfolding any le ofBits code
-case-i = ap code (every.case-i (replicate 324 zero⁺) lent refl refl long)
+-- (k) the call of `jacobi_eigen`
+case-k : Holds k-values
+unfolding ofBits toBits
+case-k = ap jacobiNumbers diagonal-1-3
+
+-- one after the other
+infixr 20 _also_
+abbrev _also_ : {A B : Type 0} → A → B → A × B
+a also b = (a, b)
 
 pub judged : Hold cases
-judged = (
-  (ap (λ x. bits x ∷ []) root-of-smallest),
-  (
-    (ap (λ n. n ∷ []) root-of-two),
-    (
-      (λ i. bits (test.case-c-total i) ∷ bits (test.case-c-within i) ∷ bits (test.case-c-F i) ∷ []),
-      (
-        (λ i. bits (test.case-d i) ∷ every.case-d i ∷ []),
-        (
-          (λ i. bits (test.case-e i) ∷ every.case-e i ∷ []),
-          (
-            (λ i. given (test.case-f 1 9 .0 i) ∷ given (test.case-f 1 9 .1 i) ∷ getD (ways.cases (replicate 16 zero⁺) i) 1 0 ∷ every.case-f-location i ∷ every.case-f-dispersion i ∷ []),
-            (
-              (λ i. getD (ways.cases (replicate 16 zero⁺) i) 0 0 ∷ []),
-              (
-                (ap (λ c. codeOf c ∷ []) lot.case-h-zero),
-                (
-                  (λ i. getD (ways.cases (replicate 324 zero⁺) i) 2 0 ∷ getD (ways.cases (replicate 324 zero⁺) i) 3 0 ∷ case-i i ∷ []),
-                  (
-                    case-j,
-                    (
-                      (ap (λ c. map bits (take 2 (c .out))) diagonal-1-3),
-                      (
-                        (λ i. codeOf (case-l-nine 2 i) ∷ codeOf (case-l-passes i) ∷ []),
-                        tt,
-                      ),
-                    ),
-                  ),
-                ),
-              ),
-            ),
-          ),
-        ),
-      ),
-    ),
-  ),
-)
+judged =
+    ap (λ x. bits x ∷ []) root-of-smallest
+    also ap (λ n. n ∷ []) root-of-two
+    also ap (λ x. bits x ∷ []) case-c-total
+    also ap (λ x. bits x ∷ []) case-c-within
+    also test.case-c
+    also every.case-d
+    also every.case-e
+    also test.case-f
+    also every.case-f
+    also every.case-g
+    also test.case-h
+    also every.case-h
+    also every.case-i-eight
+    also (λ i. getD (ways.cases (replicate 324 zero⁺) i) 3 0 ∷ [])
+    also every.case-i-nine
+    also case-j
+    also case-k
+    also dapc.case-l-nine
+    also dapc.case-l-passes
+    also tt

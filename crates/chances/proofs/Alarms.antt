@@ -1,4 +1,4 @@
--- Warnings that read both p, by the tests that the code makes, and sizes from the last down. Assumes nothing.
+-- Warnings that read both p, by the tests that the code makes, and sizes from the last down.
 use mathlib.Core.Path.{_≡_, refl, sym, ap, _∙_}
 use mathlib.Core.Bool.{Bool, true, false, not, _&&_, cond}
 use mathlib.Core.List.{List, [], _∷_, foldr}

@@ -1,4 +1,4 @@
--- A p by cases, as the code takes the statistic apart. Assumes nothing.
+-- A p by cases, as the code takes the statistic apart.
 use mathlib.Core.Path.{_≡_, refl, sym, ap, _∙_}
 use mathlib.Core.Bool.{Bool, true, false}
 use mathlib.Core.List.{List}

@@ -7,7 +7,7 @@ ghost use lib.Dec.{eqb};
 ghost use lib.ListN.{length};
 ghost use lib.Ieee.{lt};
 ghost use Rattle.float.specs.Floats.{0·5};
-ghost use Rattle.chances.specs.Chances.{chance};
+ghost use Rattle.chances.specs.Chances.{chance, given, pOf};
 ghost use Rattle.chances.specs.Together.{largest, smallest, alarmed, together};
 
 // A p, or none.
@@ -28,6 +28,28 @@ pub fn chance_of(none: bool, seen: Statistic, hits: usize, n: u64) -> Chance
         return Chance::NoP;
     }
     Chance::P((1 + hits) as f64 / (1 + n) as f64)
+}
+
+// ---- the values of each case
+
+// Whether there is a p.
+pub fn is_given(c: Chance) -> u64
+    ensures { λ r. ⌜ r ≡ given c ⌝ }
+{
+    match c {
+        Chance::P(_p) => 1,
+        Chance::NoP => 0,
+    }
+}
+
+// A p, 0 where there is none.
+pub fn p_of(c: Chance) -> f64
+    ensures { λ r. ⌜ r ≡ pOf c ⌝ }
+{
+    match c {
+        Chance::P(p) => p,
+        Chance::NoP => 0.0,
+    }
 }
 
 // ---- bits 1 and 2

@@ -1,4 +1,4 @@
--- What a row of the factor leaves of the rows before it, so that each pivot is what it was when it was found. Assumes nothing.
+-- What a row of the factor leaves of the rows before it, so that each pivot is what it was when it was found.
 use mathlib.Core.Path.{_≡_, refl, sym, ap, ap₂, _∙_}
 use mathlib.Core.Bool.{Bool, not, _||_}
 use mathlib.Core.List.{List}

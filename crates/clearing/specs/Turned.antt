@@ -3,12 +3,11 @@ use Prim.Native.Nat.{ℕ}
 use lib.ListN.{replicate}
 use Rattle.float.specs.Floats.{zero⁺}
 use Rattle.lists.specs.Writes.{over, cleared}
-use Rattle.outcome.specs.declared.Refusal.{Refusal}
 use Rattle.outcome.specs.Outcome.{refused}
 use Rattle.every_way.specs.Call.{Slices, Called}
 
 -- 11: the outputs' first part and all work are zero
-unfoldable pub turned : ℕ → Refusal → Slices → Called
+unfoldable pub turned : ℕ → ℕ → Slices → Called
 turned g r before = record {
   answer = refused r;
   after = record {

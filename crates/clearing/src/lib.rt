@@ -7,6 +7,7 @@ ghost use lib.ListN.{length};
 ghost use Rattle.float.specs.Floats.{zero⁺};
 ghost use Rattle.lists.specs.Writes.{cleared};
 ghost use Rattle.every_way.specs.Call.{slicesOf, called};
+ghost use Rattle.outcome.specs.Numbers.{number};
 ghost use Rattle.clearing.specs.Turned.{turned};
 
 // All work becomes zero.
@@ -46,7 +47,7 @@ pub fn refuse(
 ) -> Answer
     requires { ⌜ (g ≤ length (now names)) × (g ≤ length (now counts)) × (g ≤ length (now means)) ⌝ }
     ensures { λ a. ⌜ called a (slicesOf (now (names .exit)) (now (counts .exit)) (now (means .exit)) (now (terms .exit)) (now (pulls .exit)) (now (coords .exit)) (now (room .exit)) (now (vectors .exit)) (now (rows .exit)))
-        ≡ turned g r (slicesOf (now (names .entry)) (now (counts .entry)) (now (means .entry)) (now (terms .entry)) (now (pulls .entry)) (now (coords .entry)) (now (room .entry)) (now (vectors .entry)) (now (rows .entry))) ⌝ }
+        ≡ turned g (number r) (slicesOf (now (names .entry)) (now (counts .entry)) (now (means .entry)) (now (terms .entry)) (now (pulls .entry)) (now (coords .entry)) (now (room .entry)) (now (vectors .entry)) (now (rows .entry))) ⌝ }
 {
     lists::clear_u16(&mut names[..g]);
     lists::clear_u16(&mut counts[..g]);

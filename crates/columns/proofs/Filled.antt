@@ -1,4 +1,4 @@
--- What the loops leave is the matrix of columns. Assumes nothing.
+-- What the loops leave is the matrix of columns.
 use mathlib.Core.Path.{_≡_, ap, ap₂, _∙_}
 use mathlib.Core.Bool.{_&&_}
 use mathlib.Core.List.{List, map}

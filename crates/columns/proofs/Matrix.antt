@@ -1,4 +1,4 @@
--- A matrix filled row by row, each row from the diagonal on, and before it mirrored from the rows above. Assumes nothing.
+-- A matrix filled row by row, each row from the diagonal on, and before it mirrored from the rows above.
 use mathlib.Core.Path.{_≡_, refl, sym, ap, ap₂, _∙_}
 use mathlib.Core.List.{List, [], _∷_, _++_, map, append-assoc, append-nil}
 use Prim.Native.Nat.{ℕ, zero, suc, _+_, _-_, _*_, _<_, _≤_, min, max}

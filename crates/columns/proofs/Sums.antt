@@ -1,4 +1,4 @@
--- The sum of the means of a set's columns: one column more. Assumes nothing.
+-- The sum of the means of a set's columns: one column more.
 use mathlib.Core.Path.{_≡_, refl, sym, ap, _∙_}
 use mathlib.Core.Bool.{Bool}
 use mathlib.Core.List.{List, map}

@@ -1,14 +1,17 @@
-// The centred matrix of sets of columns: from the sets' bits, their sums of means and the sum of squared means.
+// The centred matrix of sets of hashes by their columns: from the sets' bits, their sums of means and the sum of squared means.
 ghost use mathlib.Core.Path.{_≡_};
 ghost use mathlib.Core.List.{map, _++_};
 ghost use Prim.Native.Nat.{_+_, _*_, _<_, _≤_, min, max};
-ghost use lib.ListN.{length, getD, take, set};
+ghost use lib.ListN.{length, getD, take, set, replicate};
 ghost use lib.Ieee.{nan};
-ghost use Rattle.lists.specs.Ranges.{range, table, grid};
+ghost use Rattle.lists.specs.Ranges.{range, table, rows, grid};
 ghost use Rattle.lists.specs.Loops.{inTurn};
 ghost use Rattle.lists.specs.Sums.{sum⁻};
 ghost use Rattle.lists.specs.Writes.{over, cleared};
+ghost use Rattle.hashes.specs.Columns.{columnOf};
+ghost use Rattle.hashes.specs.Stretches.{Climbs};
 ghost use Rattle.sets.specs.Sets.{setAt, Offsets};
+ghost use Rattle.bitsets.specs.Bits.{packed, present};
 ghost use Rattle.columns.specs.Columns.{square, columnSum, entryAt, columnGram};
 
 // The sum of squared means.
@@ -22,15 +25,24 @@ fn square_sum(means: &[f64]) -> f64
     s
 }
 
-// The sum of the means of a set's columns.
-fn mean_sum(set: &[u16], means: &[f64]) -> f64
-    ensures { λ r. ⌜ r ≡ columnSum (now (means .entry)) (now (set .entry)) ⌝ }
+// The bits of a set's columns, in a row of zeros, and the sum of their means.
+fn mark_hashes(
+    row: &mut [u64],
+    set: &[u64],
+    chosen: &[u64],
+    hints: &[u16; 1026],
+    means: &[f64],
+) -> f64
+    requires { ⌜ Climbs (now chosen) × (length (now means) ≤ length (now row) * 64) × (now row ≡ replicate (length (now row)) 0) ⌝ }
+    ensures { λ r. ⌜ (r ≡ columnSum (now (means .entry)) (map (columnOf (now (chosen .entry))) (now (set .entry))))
+        × (now (row .exit) ≡ packed (length (now (row .entry))) (present (length (now (means .entry))) (map (columnOf (now (chosen .entry))) (now (set .entry))))) ⌝ }
 {
     let mut s = -0.0;
     let mut i: usize = 0;
     while i < set.len() {
-        let c = set[i] as usize;
+        let c = hashes::column_of(chosen, hints, set[i]);
         if c < means.len() {
+            bitsets::mark_bit(row, c);
             s = s + means[c];
             i += 1;
         } else {
@@ -40,17 +52,67 @@ fn mean_sum(set: &[u16], means: &[f64]) -> f64
     s
 }
 
-// The sums of the n sets.
-fn mean_sums(sums: &mut [f64], columns: &[u16], offsets: &[usize], n: usize, means: &[f64])
-    requires { ⌜ Offsets n (now offsets) (length (now columns)) × (n ≤ length (now sums)) ⌝ }
-    ensures { λ _. ⌜ now (sums .exit)
-        ≡ over (table n (λ i. columnSum (now (means .entry)) (setAt (now (columns .entry)) (now (offsets .entry)) i))) (now (sums .entry)) ⌝ }
+// The same, in any row.
+fn mark_set(row: &mut [u64], set: &[u64], chosen: &[u64], hints: &[u16; 1026], means: &[f64]) -> f64
+    requires { ⌜ Climbs (now chosen) × (length (now means) ≤ length (now row) * 64) ⌝ }
+    ensures { λ r. ⌜ (r ≡ columnSum (now (means .entry)) (map (columnOf (now (chosen .entry))) (now (set .entry))))
+        × (now (row .exit) ≡ packed (length (now (row .entry))) (present (length (now (means .entry))) (map (columnOf (now (chosen .entry))) (now (set .entry))))) ⌝ }
+{
+    bitsets::clear(row);
+    mark_hashes(row, set, chosen, hints, means)
+}
+
+// The bits of the n sets, a row of w words for each, and their sums.
+fn mark_sets_by(
+    words: &mut [u64],
+    sums: &mut [f64],
+    hashes: &[u64],
+    offsets: &[usize],
+    n: usize,
+    w: usize,
+    chosen: &[u64],
+    hints: &[u16; 1026],
+    means: &[f64],
+)
+    requires { ⌜ Offsets n (now offsets) (length (now hashes)) × (n * w ≤ length (now words)) × (n ≤ length (now sums)) × (length (now means) ≤ w * 64) × Climbs (now chosen) ⌝ }
+    ensures { λ _. ⌜ (now (words .exit)
+        ≡ over (rows n (λ i. packed w (present (length (now (means .entry))) (setAt (map (columnOf (now (chosen .entry))) (now (hashes .entry))) (now (offsets .entry)) i)))) (now (words .entry)))
+        × (now (sums .exit)
+        ≡ over (table n (λ i. columnSum (now (means .entry)) (setAt (map (columnOf (now (chosen .entry))) (now (hashes .entry))) (now (offsets .entry)) i))) (now (sums .entry))) ⌝ }
 {
     for i in 0..n {
         let a = offsets[i];
         let e = offsets[i + 1];
-        sums[i] = mean_sum(&columns[a..e], means);
+        sums[i] = mark_set(
+            &mut words[i * w..i * w + w],
+            &hashes[a..e],
+            chosen,
+            hints,
+            means,
+        );
     }
+}
+
+// The same, with 2 KiB of stack for the hints.
+fn mark_sets(
+    words: &mut [u64],
+    sums: &mut [f64],
+    hashes: &[u64],
+    offsets: &[usize],
+    n: usize,
+    w: usize,
+    chosen: &[u64],
+    means: &[f64],
+)
+    requires { ⌜ Offsets n (now offsets) (length (now hashes)) × (n * w ≤ length (now words)) × (n ≤ length (now sums)) × (length (now means) ≤ w * 64) × Climbs (now chosen) ⌝ }
+    ensures { λ _. ⌜ (now (words .exit)
+        ≡ over (rows n (λ i. packed w (present (length (now (means .entry))) (setAt (map (columnOf (now (chosen .entry))) (now (hashes .entry))) (now (offsets .entry)) i)))) (now (words .entry)))
+        × (now (sums .exit)
+        ≡ over (table n (λ i. columnSum (now (means .entry)) (setAt (map (columnOf (now (chosen .entry))) (now (hashes .entry))) (now (offsets .entry)) i))) (now (sums .entry))) ⌝ }
+{
+    let mut hints = [0u16; 1026];
+    hashes::fill_hints(&mut hints, chosen);
+    mark_sets_by(words, sums, hashes, offsets, n, w, chosen, &hints, means);
 }
 
 // The entry of the sets i and j.
@@ -95,25 +157,26 @@ fn fill(out: &mut [f64], n: usize, words: &[u64], w: usize, sums: &[f64], t: f64
     }
 }
 
-// The matrix of sets of columns, in front of `out`. `words` lends 64 words for each set, and is cleared; `sums` lends a number for each.
+// The matrix of sets of hashes, in front of `out`, by their columns among the chosen ones, which go upward. `words` lends 64 words for each set, and is
+// cleared; `sums` lends a number for each.
 pub fn fill_gram(
     out: &mut [f64],
     words: &mut [u64],
     sums: &mut [f64],
-    columns: &[u16],
+    hashes: &[u64],
+    chosen: &[u64],
     means: &[f64],
     offsets: &[usize],
     n: usize,
 )
-    requires { ⌜ Offsets n (now offsets) (length (now columns)) × (length (now means) ≤ 4096) ⌝ }
+    requires { ⌜ Offsets n (now offsets) (length (now hashes)) × (length (now means) ≤ 4096) × Climbs (now chosen) ⌝ }
     requires { ⌜ (n * n ≤ length (now out)) × (n * 64 ≤ length (now words)) × (n ≤ length (now sums)) ⌝ }
-    ensures { λ _. ⌜ (now (out .exit) ≡ over (columnGram n (now (columns .entry)) (now (offsets .entry)) (now (means .entry))) (now (out .entry)))
+    ensures { λ _. ⌜ (now (out .exit)
+        ≡ over (columnGram n (map (columnOf (now (chosen .entry))) (now (hashes .entry))) (now (offsets .entry)) (now (means .entry))) (now (out .entry)))
         × (now (words .exit) ≡ cleared 0 (now (words .entry))) ⌝ }
 {
-    let m = means.len();
-    let w = (m + 63) / 64;
-    mean_sums(sums, columns, offsets, n, means);
-    bitsets::mark_sets(words, columns, offsets, n, m, w);
+    let w = (means.len() + 63) / 64;
+    mark_sets(words, sums, hashes, offsets, n, w, chosen, means);
     let t = square_sum(means);
     fill(out, n, words, w, sums, t);
     bitsets::clear(words);

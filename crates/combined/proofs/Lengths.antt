@@ -1,4 +1,4 @@
--- How many entries are turned back. Assumes nothing.
+-- How many entries are turned back.
 use mathlib.Core.Path.{_≡_}
 use mathlib.Core.List.{List}
 use Prim.Native.Nat.{ℕ, _*_}

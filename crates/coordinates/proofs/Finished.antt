@@ -1,4 +1,4 @@
--- The two parts of an output, values with shares and then coordinates, are what `finish` says. Assumes nothing.
+-- The two parts of an output, values with shares and then coordinates, are what `finish` says.
 use mathlib.Core.Path.{_≡_, sym, ap, ap₂, _∙_}
 use mathlib.Core.List.{List, _++_, append-assoc}
 use Prim.Native.Nat.{ℕ, _-_, _≤_}

@@ -1,4 +1,4 @@
--- The groups that labels give: the samples that have one are the kept ones, each number is below g, and g is at most half of m. Assumes nothing.
+-- The groups that labels give: the samples that have one are the kept ones, each number is below g, and g is at most half of m.
 use mathlib.Core.Path.{_≡_, refl, sym, ap, ap₂, subst, _∙_}
 use mathlib.Core.Bool.{Bool, true, false, not, cond}
 use mathlib.Core.List.{List, [], _∷_, List·Memᴰ as Member, List·Memᴰ·head as here, List·Memᴰ·tail as there}

@@ -1,7 +1,7 @@
--- A whole call: the lines one list after another, and what the design of the labels tells. Assumes nothing.
+-- A whole call: lines 1 to 3, then 5 and 9, and what the design of the labels tells.
 use mathlib.Core.Path.{_≡_, refl, sym, ap, ap₂, subst, _∙_}
-use mathlib.Core.Bool.{Bool, true, false, cond}
-use mathlib.Core.List.{List, [], _∷_, _++_}
+use mathlib.Core.Bool.{true, false}
+use mathlib.Core.List.{List}
 use Prim.Native.Nat.{ℕ, _+_, _-_, _*_, _≤_}
 use native.Mathlib.Nat.{mul-le-mul, min-le-left}
 use native.Mathlib.Omega.{arith}
@@ -9,11 +9,8 @@ use lib.ListN.{length}
 use lib.Ieee.{Float}
 use Rattle.lists.specs.Filters.{all}
 use Rattle.lists.specs.Numbers.{Below}
-use Rattle.outcome.specs.declared.Refusal.{Refusal}
-use Rattle.outcome.specs.declared.Check.{Check}
-use Rattle.outcome.specs.declared.Check.the-variants as check
-use Rattle.outcome.specs.Refusals.{Line, first}
-use Rattle.outcome.specs.Outcome.{andThen}
+use Rattle.outcome.specs.Refusals.{first}
+use Rattle.outcome.specs.Outcome.{Told, refused, passed, andThen}
 use Rattle.outcome.specs.Slices.{output, untouched}
 use Rattle.lot.specs.Kept.{kept, groupEach, keptCount, groupCount}
 use Rattle.lot.specs.Described.{samplesOf}
@@ -23,10 +20,9 @@ use Rattle.kept.proofs.Placed.{length-each, each-placed}
 use Rattle.designs.specs.declared.Design.{Design}
 use Rattle.designs.specs.Designs.{Describes}
 use Rattle.means.specs.Means.{Numbered, grouped}
-use Rattle.outcome.proofs.Table.{first-untouched}
-use Rattle.discriminant.specs.declared.Answer.the-variants.{Refused}
+use Rattle.outcome.proofs.Table.{first-after, first-before, first-untouched}
 use Rattle.discriminant.specs.Dapc.{leading, axesOf, discriminate, dapc}
-use Rattle.discriminant.specs.Outputs.{Called, leaves, called, Ready}
+use Rattle.discriminant.specs.Outputs.{Called, leaves, refusal, Ready}
 use Rattle.dapc_lines.specs.DapcLines.{shapeLines, groupLines, dapcLines}
 use Rattle.dapc_lines.proofs.Lines.{Shaped, passed-shape, passed-groups}
 use Rattle.dapc.specs.Call.{callBy, dapcCall, groupsCall}
@@ -34,51 +30,29 @@ use Rattle.dapc.specs.Inner.{scoresCall, eachOf, leadOf, Sized, Scorable
 use Rattle.discriminant.proofs.Outputs.{axes-most}
 use Rattle.dapc.proofs.Grouping.{grouped-kept, numbered-each, half-groups}
 
--- ---- the lines, one list after another
-
-first-later : (xs ys : List Line) → check.Passed ≡ first xs → first ys ≡ first (xs ++ ys)
-unfolding first
-first-later [] ys e = refl
-first-later (x ∷ xs) ys e = by (x .holds) e (λ e. first-later xs ys e)
-  where
-    by : (b : Bool) → check.Passed ≡ cond b (check.Refused (x .returned)) (first xs) → (check.Passed ≡ first xs → first ys ≡ first (xs ++ ys))
-        → first ys ≡ cond b (check.Refused (x .returned)) (first (xs ++ ys))
-    by true e more = cc
-    by false e more = more e
-
-first-earlier : (xs ys : List Line) {r : Refusal} → check.Refused r ≡ first xs → check.Refused r ≡ first (xs ++ ys)
-unfolding first
-first-earlier [] ys e = cc
-first-earlier (x ∷ xs) ys {r} e = by (x .holds) e (λ e. first-earlier xs ys e)
-  where
-    by : (b : Bool) → check.Refused r ≡ cond b (check.Refused (x .returned)) (first xs) → (check.Refused r ≡ first xs → check.Refused r ≡ first (xs ++ ys))
-        → check.Refused r ≡ cond b (check.Refused (x .returned)) (first (xs ++ ys))
-    by true e more = e
-    by false e more = more e
-
 module _ (n columns : ℕ) (x : List Float) (labels : List ℕ) (out : List Float) (assigned : List ℕ) where
   -- a refusal of 1 to 9 leaves all as it was
-  refused-by-line : {r : Refusal} {c : Check} → untouched r ≡ true → check.Refused r ≡ c → called (Refused r) out assigned ≡ callBy c n columns x labels out assigned
+  refused-by-line : {k : ℕ} {t : Told} → untouched k ≡ true → refused k ≡ t → refusal k out assigned ≡ callBy t n columns x labels out assigned
   unfolding callBy leaves output andThen
-  refused-by-line {r} {c} u e =
-      let kept : called (Refused r) out assigned ≡ callBy (check.Refused r) n columns x labels out assigned = rw u in
-      kept ∙ ap (λ (c : Check). callBy c n columns x labels out assigned) e
+  refused-by-line {k} u e =
+      let kept : refusal k out assigned ≡ callBy (refused k) n columns x labels out assigned = rw u in
+      kept ∙ ap (λ (t : Told). callBy t n columns x labels out assigned) e
 
-  groups-refused : {r : Refusal} → check.Refused r ≡ first (groupLines columns (keptCount labels) (groupCount labels)) → called (Refused r) out assigned ≡ groupsCall n columns x labels out assigned
+  groups-refused : {k : ℕ} → refused k ≡ first (groupLines columns (keptCount labels) (groupCount labels)) → refusal k out assigned ≡ groupsCall n columns x labels out assigned
   unfolding groupsCall groupLines all
   groups-refused e = refused-by-line (first-untouched (groupLines columns (keptCount labels) (groupCount labels)) refl e) e
 
-  pub call-refused : {r : Refusal} → check.Refused r ≡ first (shapeLines n columns x (length labels) (length out) (length assigned))
-      → called (Refused r) out assigned ≡ dapcCall n columns x labels out assigned
+  pub call-refused : {k : ℕ} → refused k ≡ first (shapeLines n columns x (length labels) (length out) (length assigned))
+      → refusal k out assigned ≡ dapcCall n columns x labels out assigned
   unfolding dapcCall dapcLines shapeLines all
   call-refused e =
       refused-by-line (first-untouched (shapeLines n columns x (length labels) (length out) (length assigned)) refl e)
-      (first-earlier (shapeLines n columns x (length labels) (length out) (length assigned)) (groupLines columns (keptCount labels) (groupCount labels)) e)
+      (sym (first-before (shapeLines n columns x (length labels) (length out) (length assigned)) (groupLines columns (keptCount labels) (groupCount labels)) (sym e)))
 
   -- lines 1 to 3 let the call pass
-  module _ (passed : check.Passed ≡ first (shapeLines n columns x (length labels) (length out) (length assigned))) where
+  module _ (clear : passed ≡ first (shapeLines n columns x (length labels) (length out) (length assigned))) where
     abbrev shaped : Shaped n columns x (length labels) (length out) (length assigned)
-    shaped = passed-shape n columns x (length labels) (length out) (length assigned) passed
+    shaped = passed-shape n columns x (length labels) (length out) (length assigned) clear
 
     pub call-sized : Sized columns x labels (length out) (length assigned)
     call-sized =
@@ -96,8 +70,8 @@ module _ (n columns : ℕ) (x : List Float) (labels : List ℕ) (out : List Floa
     call-passed h =
         h
         ∙ ap (λ (k : ℕ). groupsCall k columns x labels out assigned) (shaped .labelled)
-        ∙ ap (λ (c : Check). callBy c n columns x labels out assigned)
-        (first-later (shapeLines n columns x (length labels) (length out) (length assigned)) (groupLines columns (keptCount labels) (groupCount labels)) passed)
+        ∙ ap (λ (t : Told). callBy t n columns x labels out assigned)
+        (sym (first-after (shapeLines n columns x (length labels) (length out) (length assigned)) (groupLines columns (keptCount labels) (groupCount labels)) (sym clear)))
 
 -- ---- by the design of the labels
 
@@ -116,7 +90,7 @@ module _ (columns : ℕ) (x : List Float) (labels : List ℕ) {d : Design} (is :
   lines-are = ap₂ (λ (m g : ℕ). first (groupLines columns m g)) (is .keptMany) (is .groupsMany)
 
   -- its samples can be scored
-  pub scorable : {out assigned : ℕ} → Sized columns x labels out assigned → check.Passed ≡ first (groupLines columns (d .kept) (d .groups)) → Scorable columns x d out assigned
+  pub scorable : {out assigned : ℕ} → Sized columns x labels out assigned → passed ≡ first (groupLines columns (d .kept) (d .groups)) → Scorable columns x d out assigned
   unfolding leading keptCount
   scorable sized e =
       let two = passed-groups columns (d .kept) (d .groups) e .0 in
@@ -149,12 +123,12 @@ module _ (columns : ℕ) (x : List Float) (labels : List ℕ) {d : Design} (is :
       }
 
   module _ (out : List Float) (assigned : List ℕ) where
-    pub groups-refused-by : {r : Refusal} → check.Refused r ≡ first (groupLines columns (d .kept) (d .groups))
-        → called (Refused r) out assigned ≡ groupsCall (length labels) columns x labels out assigned
+    pub groups-refused-by : {k : ℕ} → refused k ≡ first (groupLines columns (d .kept) (d .groups))
+        → refusal k out assigned ≡ groupsCall (length labels) columns x labels out assigned
     groups-refused-by e = groups-refused (length labels) columns x labels out assigned (e ∙ lines-are)
 
     -- the scores are those of the labels
-    pub groups-scored : {r : Called} → length labels ≤ 256 → check.Passed ≡ first (groupLines columns (d .kept) (d .groups)) → r ≡ scoresCall columns x d out assigned
+    pub groups-scored : {r : Called} → length labels ≤ 256 → passed ≡ first (groupLines columns (d .kept) (d .groups)) → r ≡ scoresCall columns x d out assigned
         → r ≡ groupsCall (length labels) columns x labels out assigned
     unfolding scoresCall dapc groupsCall callBy
     groups-scored few e h =
@@ -163,7 +137,7 @@ module _ (columns : ℕ) (x : List Float) (labels : List ℕ) {d : Design} (is :
         h
         ∙ (λ i. step (is .many i) (is .keptMany i) (counted few i) (is .groupsMany i) (eachOf d))
         ∙ ap (λ (l : List ℕ). step (length labels) (keptCount labels) (length (grouped l)) (groupCount labels) l) each-is
-        ∙ ap (λ (c : Check). callBy c (length labels) columns x labels out assigned) (e ∙ lines-are)
+        ∙ ap (λ (t : Told). callBy t (length labels) columns x labels out assigned) (e ∙ lines-are)
 
 -- ---- the groups as they stand when the scores are asked for, on p columns
 

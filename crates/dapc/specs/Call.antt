@@ -3,16 +3,15 @@ use Prim.Native.Nat.{ℕ}
 use mathlib.Core.List.{List}
 use lib.ListN.{length}
 use lib.Ieee.{Float}
-use Rattle.outcome.specs.declared.Check.{Check}
 use Rattle.outcome.specs.Refusals.{first}
-use Rattle.outcome.specs.Outcome.{judged}
+use Rattle.outcome.specs.Outcome.{Told, judged}
 use Rattle.lot.specs.Kept.{groupEach, keptCount, groupCount}
 use Rattle.discriminant.specs.Dapc.{leading, axesOf, dapc}
 use Rattle.discriminant.specs.Outputs.{Called, leaves}
 use Rattle.dapc_lines.specs.DapcLines.{groupLines, dapcLines}
 
 -- what a call leaves where the table says this of the arguments
-unfoldable pub callBy : Check → ℕ → ℕ → List Float → List ℕ → List Float → List ℕ → Called
+unfoldable pub callBy : Told → ℕ → ℕ → List Float → List ℕ → List Float → List ℕ → Called
 callBy c n columns x labels out assigned =
     let g = groupCount labels in
     let p = leading columns (keptCount labels) g in

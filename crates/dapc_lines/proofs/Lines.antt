@@ -1,4 +1,4 @@
--- The lines of the table, and what holds where all are passed. Assumes nothing.
+-- The lines of the table, and what holds where all are passed.
 use mathlib.Core.Path.{_≡_, refl, sym, ap, _∙_}
 use mathlib.Core.Bool.{Bool, true, false, not, _||_}
 use mathlib.Core.List.{List}
@@ -10,8 +10,7 @@ use lib.Dec.{eqb, ltb}
 use lib.ListN.{length}
 use lib.Ieee.{Float}
 use Rattle.lists.specs.Filters.{any}
-use Rattle.outcome.specs.declared.Refusal.the-variants.{Length, Limit, Value, Labels, Columns}
-use Rattle.outcome.specs.declared.Check.the-variants as check
+use Rattle.outcome.specs.Outcome.{refused, passed}
 use Rattle.outcome.specs.Refusals.{first, short}
 use Rattle.lists.proofs.Truths.{or-neither}
 use Rattle.outcome.proofs.Table.{first-passed}
@@ -68,25 +67,25 @@ module _ (n columns x labels out assigned : ℕ) where
 -- ---- lines 1 to 3
 
 module _ (n columns : ℕ) (x : List Float) (labels out assigned : ℕ) where
-  pub line-length : misfits n columns (length x) labels out assigned ≡ true → check.Refused Length ≡ first (shapeLines n columns x labels out assigned)
+  pub line-length : misfits n columns (length x) labels out assigned ≡ true → refused 1 ≡ first (shapeLines n columns x labels out assigned)
   unfolding shapeLines first
   line-length h = rw h
 
   module _ (h : misfits n columns (length x) labels out assigned ≡ false) where
-    pub line-samples : ltb 256 n ≡ true → check.Refused Limit ≡ first (shapeLines n columns x labels out assigned)
+    pub line-samples : ltb 256 n ≡ true → refused 2 ≡ first (shapeLines n columns x labels out assigned)
     unfolding shapeLines first
     line-samples g = rw (h, g)
 
     module _ (g : ltb 256 n ≡ false) where
-      pub line-columns : ltb 16 columns ≡ true → check.Refused Limit ≡ first (shapeLines n columns x labels out assigned)
+      pub line-columns : ltb 16 columns ≡ true → refused 2 ≡ first (shapeLines n columns x labels out assigned)
       unfolding shapeLines first
       line-columns k = rw (h, g, k)
 
-      pub line-value : ltb 16 columns ≡ false → any badCoordinate x ≡ true → check.Refused Value ≡ first (shapeLines n columns x labels out assigned)
+      pub line-value : ltb 16 columns ≡ false → any badCoordinate x ≡ true → refused 3 ≡ first (shapeLines n columns x labels out assigned)
       unfolding shapeLines first
       line-value k v = rw (h, g, k, v)
 
-      pub line-none : ltb 16 columns ≡ false → any badCoordinate x ≡ false → check.Passed ≡ first (shapeLines n columns x labels out assigned)
+      pub line-none : ltb 16 columns ≡ false → any badCoordinate x ≡ false → passed ≡ first (shapeLines n columns x labels out assigned)
       unfolding shapeLines first
       line-none k v = rw (h, g, k, v)
 
@@ -99,12 +98,12 @@ pub record Shaped (n columns : ℕ) (x : List Float) (labels out assigned : ℕ)
   pub room : columns + n * columns ≤ out
   pub places : n ≤ assigned
 
-pub passed-shape : (n columns : ℕ) (x : List Float) (labels out assigned : ℕ) → check.Passed ≡ first (shapeLines n columns x labels out assigned)
+pub passed-shape : (n columns : ℕ) (x : List Float) (labels out assigned : ℕ) → passed ≡ first (shapeLines n columns x labels out assigned)
     → Shaped n columns x labels out assigned
 unfolding shapeLines misfits short any
 passed-shape n columns x labels out assigned e =
-    let one = first-passed Length _ (misfits n columns (length x) labels out assigned) e in
-    let two = first-passed Limit _ (ltb 256 n || ltb 16 columns) (one .1) in
+    let one = first-passed 1 _ (misfits n columns (length x) labels out assigned) e in
+    let two = first-passed 2 _ (ltb 256 n || ltb 16 columns) (one .1) in
     let limits = or-neither (ltb 256 n) (ltb 16 columns) (two .0) in
     let lengths = or-neither (not (eqb (length x) (n * columns)) || not (eqb labels n)) _ (one .0) in
     let inputs = or-neither (not (eqb (length x) (n * columns))) (not (eqb labels n)) (lengths .0) in
@@ -122,21 +121,21 @@ passed-shape n columns x labels out assigned e =
 -- ---- lines 5 and 9
 
 module _ (columns m g : ℕ) where
-  pub line-labels : ltb g 2 ≡ true → check.Refused Labels ≡ first (groupLines columns m g)
+  pub line-labels : ltb g 2 ≡ true → refused 5 ≡ first (groupLines columns m g)
   unfolding groupLines first
   line-labels h = rw h
 
-  pub line-leading : ltb g 2 ≡ false → ltb (leading columns m g) 2 ≡ true → check.Refused Columns ≡ first (groupLines columns m g)
+  pub line-leading : ltb g 2 ≡ false → ltb (leading columns m g) 2 ≡ true → refused 9 ≡ first (groupLines columns m g)
   unfolding groupLines first
   line-leading h k = rw (h, k)
 
-  pub line-passed : ltb g 2 ≡ false → ltb (leading columns m g) 2 ≡ false → check.Passed ≡ first (groupLines columns m g)
+  pub line-passed : ltb g 2 ≡ false → ltb (leading columns m g) 2 ≡ false → passed ≡ first (groupLines columns m g)
   unfolding groupLines first
   line-passed h k = rw (h, k)
 
-  pub passed-groups : check.Passed ≡ first (groupLines columns m g) → (2 ≤ g) × (2 ≤ leading columns m g)
+  pub passed-groups : passed ≡ first (groupLines columns m g) → (2 ≤ g) × (2 ≤ leading columns m g)
   unfolding groupLines
   passed-groups e =
-      let one = first-passed Labels _ (ltb g 2) e in
-      let two = first-passed Columns _ (ltb (leading columns m g) 2) (one .1) in
+      let one = first-passed 5 _ (ltb g 2) e in
+      let two = first-passed 9 _ (ltb (leading columns m g) 2) (one .1) in
       (ltb-false g 2 (one .0), ltb-false (leading columns m g) 2 (two .0))

@@ -7,7 +7,6 @@ use lib.ListN.{length}
 use lib.Ieee.{Float, neg, le}
 use Rattle.float.specs.Floats.{2^40}
 use Rattle.lists.specs.Filters.{any}
-use Rattle.outcome.specs.declared.Refusal.the-variants.{Length, Limit, Value, Labels, Columns}
 use Rattle.outcome.specs.Refusals.{Line, _when_, _of_, short}
 use Rattle.lot.specs.Kept.{keptCount, groupCount}
 use Rattle.discriminant.specs.Dapc.{leading}
@@ -23,15 +22,15 @@ badCoordinate x = not (le (neg 2^40) x && le x 2^40)
 -- lines 1 to 3, then 5 and 9, of the table
 unfoldable pub shapeLines : ℕ → ℕ → List Float → ℕ → ℕ → ℕ → List Line
 shapeLines n columns x labels out assigned =
-    (Length when misfits n columns (length x) labels out assigned)
-    ∷ (Limit when ltb 256 n || ltb 16 columns)
-    ∷ (Value when any badCoordinate x)
+    (1 when misfits n columns (length x) labels out assigned)
+    ∷ (2 when ltb 256 n || ltb 16 columns)
+    ∷ (3 when any badCoordinate x)
     ∷ []
 
 unfoldable pub groupLines : ℕ → ℕ → ℕ → List Line
 groupLines columns m g =
-    (Labels when ltb g 2)
-    ∷ (Columns when ltb (leading columns m g) 2)
+    (5 when ltb g 2)
+    ∷ (9 when ltb (leading columns m g) 2)
     ∷ []
 
 unfoldable pub dapcLines : ℕ → ℕ → List Float → List ℕ → ℕ → ℕ → List Line

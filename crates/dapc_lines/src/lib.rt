@@ -5,6 +5,7 @@ ghost use mathlib.Core.Path.{_≡_};
 ghost use Prim.Native.Nat.{_*_};
 ghost use lib.Dec.{eqb};
 ghost use Rattle.lists.specs.Filters.{any};
+ghost use Rattle.outcome.specs.Numbers.{told};
 ghost use Rattle.outcome.specs.Refusals.{first};
 ghost use Rattle.dapc_lines.specs.DapcLines.{badCoordinate, shapeLines, groupLines};
 ghost use Rattle.dapc_lines.specs.DapcLines as Table;
@@ -57,7 +58,7 @@ pub fn check(
     out: usize,
     assigned: usize,
 ) -> Check
-    ensures { λ r. ⌜ r ≡ first (shapeLines n columns (now (x .entry)) labels out assigned) ⌝ }
+    ensures { λ r. ⌜ told r ≡ first (shapeLines n columns (now (x .entry)) labels out assigned) ⌝ }
 {
     if misfits(n, columns, x.len(), labels, out, assigned) {
         return Check::Refused(Refusal::Length);
@@ -76,7 +77,7 @@ pub fn check(
 
 // Lines 5 and 9.
 pub fn check_groups(columns: usize, m: usize, g: usize) -> Check
-    ensures { λ r. ⌜ r ≡ first (groupLines columns m g) ⌝ }
+    ensures { λ r. ⌜ told r ≡ first (groupLines columns m g) ⌝ }
 {
     if g < 2 {
         return Check::Refused(Refusal::Labels);

@@ -1,4 +1,4 @@
--- A description is a design, and a design of an accepted lot is sound. Assumes nothing.
+-- A description is a design, and a design of an accepted lot is sound.
 use mathlib.Core.Path.{_≡_, refl, sym, ap, _∙_, subst}
 use mathlib.Core.Bool.{Bool}
 use mathlib.Core.List.{List, _++_}

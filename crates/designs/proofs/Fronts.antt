@@ -1,4 +1,4 @@
--- A front of a list that was lent and came back. Assumes nothing.
+-- A front of a list that was lent and came back.
 use mathlib.Core.Path.{_≡_, _∙_}
 use mathlib.Core.List.{List, _++_}
 use Prim.Native.Nat.{ℕ, _≤_}

@@ -1,4 +1,4 @@
--- Labels are left out where fewer samples are kept than have a label. Assumes nothing.
+-- Labels are left out where fewer samples are kept than have a label.
 use mathlib.Core.Path.{_≡_, refl, sym, ap, _∙_}
 use mathlib.Core.Bool.{Bool, not, _&&_, cond}
 use mathlib.Core.List.{List, [], _∷_, List·Memᴰ as Member, List·Memᴰ·head as here, List·Memᴰ·tail as there}

@@ -1,4 +1,4 @@
--- k sweeps are made of 100: whether there is one more. Assumes nothing.
+-- k sweeps are made of 100: whether there is one more.
 use mathlib.Core.Path.{_≡_}
 use mathlib.Core.Bool.{true, false}
 use Prim.Native.Nat.{ℕ, suc, _+_, _-_, _<_, _≤_}

@@ -1,4 +1,4 @@
--- A row of the identity. Assumes nothing.
+-- A row of the identity.
 use mathlib.Core.Path.{_≡_, refl, sym, _∙_, subst}
 use mathlib.Core.Bool.{Bool, true, false, cond}
 use Prim.Native.Nat.{ℕ, _<_}

@@ -1,4 +1,4 @@
--- How many columns lead. Assumes nothing.
+-- How many columns lead.
 use mathlib.Core.Path.{_≡_, sym, ap, _∙_}
 use Prim.Native.Nat.{ℕ, _+_, _-_, _<_, _≤_, min}
 use native.Mathlib.Nat.{min-le-right, min-eq-left, min-eq-right}

@@ -1,4 +1,4 @@
--- Outputs whose front is cleared, what is told, and the number of axes. Assumes nothing.
+-- Outputs whose front is cleared, what is told, and the number of axes.
 use mathlib.Core.Path.{_≡_, sym, ap, ap₂, _∙_}
 use mathlib.Core.Bool.{Bool, true, false, cond}
 use mathlib.Core.List.{List, _++_}
@@ -11,10 +11,8 @@ use lib.Ieee.{Float}
 use Rattle.float.specs.Floats.{zero⁺}
 use Rattle.lists.specs.Writes.{over, cleared}
 use Rattle.lists.proofs.Parts.{over-lent}
-use Rattle.outcome.specs.declared.Refusal.{Refusal}
-use Rattle.discriminant.specs.declared.Answer.the-variants.{Refused}
 use Rattle.discriminant.specs.Dapc.{axesOf}
-use Rattle.discriminant.specs.Outputs.{Called, called, refusal}
+use Rattle.discriminant.specs.Outputs.{Called, refusal}
 
 -- the front of a slice is lent and cleared
 cleared-front : {A : Type 0} (v : A) (k : ℕ) (l : List A) {r : List A} → k ≤ length l → r ≡ cleared v (take k l) → r ++ drop k l ≡ over (replicate k v) l
@@ -22,10 +20,10 @@ unfolding cleared
 cleared-front {A} v k l h e =
     ap (λ (t : List A). t ++ drop k l) (e ∙ ap (λ (n : ℕ). replicate n v) (length-take-le k l h)) ∙ over-lent (replicate k v) l (length-replicate k v)
 
-pub refused-by : (r : Refusal) (k n : ℕ) (out : List Float) (assigned : List ℕ) {o : List Float} {a : List ℕ} → k ≤ length out → n ≤ length assigned
+pub refused-by : (j k n : ℕ) (out : List Float) (assigned : List ℕ) {o : List Float} {a : List ℕ} → k ≤ length out → n ≤ length assigned
     → o ≡ cleared zero⁺ (take k out) → a ≡ cleared 0 (take n assigned)
-    → called (Refused r) (o ++ drop k out) (a ++ drop n assigned) ≡ refusal r (over (replicate k zero⁺) out) (over (replicate n 0) assigned)
-refused-by r k n out assigned h g e f = ap₂ (refusal r) (cleared-front zero⁺ k out h e) (cleared-front 0 n assigned g f)
+    → refusal j (o ++ drop k out) (a ++ drop n assigned) ≡ refusal j (over (replicate k zero⁺) out) (over (replicate n 0) assigned)
+refused-by j k n out assigned h g e f = ap₂ (refusal j) (cleared-front zero⁺ k out h e) (cleared-front 0 n assigned g f)
 
 -- what is told by a test
 module _ (x y : Called) {b : Bool} {r : Called} where

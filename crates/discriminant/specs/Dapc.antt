@@ -6,7 +6,6 @@ use mathlib.Core.List.{List}
 use lib.ListN.{length, getD}
 use lib.Ieee.{Float, nan}
 use Rattle.lists.specs.Ranges.{table}
-use Rattle.outcome.specs.declared.Refusal.the-variants.{Pivot, Unordered}
 use Rattle.outcome.specs.Outcome.{Outcome, answered, refused, andThen}
 use Rattle.means.specs.Means.{grouped, meanOf, groupMeans}
 use Rattle.ridge.specs.Ridge.{ridged}
@@ -38,7 +37,7 @@ concluded n axes g groups values scores =
     let cen = centroids axes g groups scores in
     let found = assignedOf n axes g groups scores cen in
     elim (unordered axes g groups scores cen) as (λ b. Outcome Scores) [
-      | true ↦ refused Unordered
+      | true ↦ refused 11
       | false ↦ answered (record { values = values; scores = scores; assigned = found; right = rightOf groups found })
     ]
 
@@ -53,7 +52,7 @@ unfoldable pub separated : ℕ → ℕ → ℕ → ℕ → List Float → List �
 separated n columns p g x groups mean a sb =
     let l = factor p a in
     elim (pivotFails p a l) as (λ b. Outcome Scores) [
-      | true ↦ refused Pivot
+      | true ↦ refused 10
       | false ↦ andThen (jacobi p (whitened p l sb)) (λ e. assign n columns p g x groups mean l (e .values) (e .vectors))
     ]
 

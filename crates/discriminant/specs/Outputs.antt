@@ -5,7 +5,7 @@ use mathlib.Core.List.{List, _++_}
 use lib.ListN.{length}
 use lib.Ieee.{Float}
 use Rattle.float.specs.Floats.{zero⁺}
-use Rattle.outcome.specs.declared.Refusal.{Refusal}
+use Rattle.outcome.specs.Numbers.{number}
 use Rattle.outcome.specs.Outcome.{Outcome, answered, refused, andThen}
 use Rattle.outcome.specs.Slices.{output}
 use Rattle.means.specs.Means.{Numbered}
@@ -32,14 +32,14 @@ leaves n p axes o out assigned = record {
 
 abbrev pub outcomeOf : Answer → Outcome Separation
 outcomeOf (Scored s) = answered s
-outcomeOf (Refused r) = refused r
+outcomeOf (Refused r) = refused (number r)
 
 abbrev pub called : Answer → List Float → List ℕ → Called
 called r out assigned = record { answer = outcomeOf r; out = out; assigned = assigned }
 
 -- a refusal, with outputs that hold these
-abbrev pub refusal : Refusal → List Float → List ℕ → Called
-refusal r out assigned = record { answer = refused r; out = out; assigned = assigned }
+abbrev pub refusal : ℕ → List Float → List ℕ → Called
+refusal k out assigned = record { answer = refused k; out = out; assigned = assigned }
 
 -- scores told, with outputs that hold these
 abbrev pub scored : ℕ → ℕ → ℕ → List Float → List ℕ → Called

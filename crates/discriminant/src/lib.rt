@@ -6,7 +6,7 @@ ghost use Prim.Native.Nat.{_+_, _*_, _≤_};
 ghost use lib.ListN.{length, replicate};
 ghost use Rattle.float.specs.Floats.{zero⁺};
 ghost use Rattle.lists.specs.Writes.{over};
-ghost use Rattle.outcome.specs.declared.Refusal.the-variants.{Unordered};
+ghost use Rattle.outcome.specs.Numbers.{number};
 ghost use Rattle.discriminant.specs.Dapc.{leading, axesOf};
 ghost use Rattle.discriminant.specs.Outputs.{called, refusal, scored};
 
@@ -28,7 +28,7 @@ pub enum Answer {
 // The first part of both outputs becomes zero.
 pub fn refuse(out: &mut [f64], assigned: &mut [u16], n: usize, axes: usize, r: Refusal) -> Answer
     requires { ⌜ (axes + n * axes ≤ length (now out)) × (n ≤ length (now assigned)) ⌝ }
-    ensures { λ a. ⌜ called a (now (out .exit)) (now (assigned .exit)) ≡ refusal r (over (replicate (axes + n * axes) zero⁺) (now (out .entry))) (over (replicate n 0) (now (assigned .entry))) ⌝ }
+    ensures { λ a. ⌜ called a (now (out .exit)) (now (assigned .exit)) ≡ refusal (number r) (over (replicate (axes + n * axes) zero⁺) (now (out .entry))) (over (replicate n 0) (now (assigned .entry))) ⌝ }
 {
     lists::clear(&mut out[..axes + n * axes]);
     lists::clear_u16(&mut assigned[..n]);
@@ -47,7 +47,7 @@ pub fn tell(
 ) -> Answer
     requires { ⌜ (axes + n * axes ≤ length (now out)) × (n ≤ length (now assigned)) ⌝ }
     ensures { λ a. ⌜ called a (now (out .exit)) (now (assigned .exit))
-        ≡ cond unordered (refusal Unordered (over (replicate (axes + n * axes) zero⁺) (now (out .entry))) (over (replicate n 0) (now (assigned .entry)))) (scored p axes count (now (out .entry)) (now (assigned .entry))) ⌝ }
+        ≡ cond unordered (refusal 11 (over (replicate (axes + n * axes) zero⁺) (now (out .entry))) (over (replicate n 0) (now (assigned .entry)))) (scored p axes count (now (out .entry)) (now (assigned .entry))) ⌝ }
 {
     if unordered {
         return refuse(out, assigned, n, axes, Refusal::Unordered);

@@ -1,4 +1,4 @@
--- What is worked out from the parts of a list of members is what the groups have. Assumes nothing.
+-- What is worked out from the parts of a list of members is what the groups have.
 use mathlib.Core.Path.{_≡_}
 use mathlib.Core.List.{List}
 use Prim.Native.Nat.{ℕ, _<_}

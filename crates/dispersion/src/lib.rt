@@ -136,7 +136,7 @@ fn fill_values(
     }
 }
 
-// Every sample's value in its own group. `gw` and `gi` lend room for the groups' weight sums and insides.
+// Every sample's value in its own group. `gw` and `gi` lend room for the groups' weight sums and insides; what they hold after is left open.
 fn values(
     pulls: &[f64],
     t: &[f64],
@@ -159,7 +159,7 @@ fn values(
     fill_values(pulls, lab, m, g, next, mem, gw, gi, z);
 }
 
-// Every sample's z, and whether some value was below 0.
+// Every sample's z, and whether some value was below 0. `gw` and `gi` lend room; what they hold after is left open.
 pub fn fill_z(
     pulls: &[f64],
     t: &[f64],

@@ -1,4 +1,4 @@
--- Judged samples of the trade: cases (d), (e), (f), (g) and (i), as far as they speak of every way. Assumes nothing.
+-- Judged samples of the trade: cases (d), (e), (f), (g) and (i), as far as they speak of every way.
 use mathlib.Core.Path.{_≡_, refl, sym, ap, _∙_}
 use mathlib.Core.Bool.{Bool, true, false, _||_}
 use mathlib.Core.List.{List, [], _∷_, _++_}
@@ -16,8 +16,7 @@ use Rattle.lists.specs.Filters.{keep, countIf, any, firstAt, pairs, orderedPair
 use Rattle.lists.specs.Numbers.{multiply, factorial, howMany, position, insertUp, upward, members}
 use Rattle.lists.specs.Sums.{sumFrom}
 use Rattle.lists.specs.Rows.{entry}
-use Rattle.outcome.specs.declared.Refusal.the-variants.{Ways}
-use Rattle.outcome.specs.Refusals.{number, first, short}
+use Rattle.outcome.specs.Refusals.{first, short}
 use Rattle.outcome.specs.Outcome.{refused}
 use Rattle.lot.specs.Kept.{twice, kept, gathered, keptLabels, names, groups, keptCount, groupCount}
 use Rattle.lot.specs.Strata.{strata}
@@ -72,9 +71,6 @@ long-fits n s l = rw (
   le-ltb (length (s .rows)) (n * n) (l .rows),
 ) refl
 
-pub case-i : (d : List Float) (s : Slices) → length d ≡ 324 → any badDistance d ≡ false → Long 18 s → outcomeOf (ways-cases.halves d 9) s ≡ refused Ways
+pub case-i : (d : List Float) (s : Slices) → length d ≡ 324 → any badDistance d ≡ false → Long 18 s → outcomeOf (ways-cases.halves d 9) s ≡ refused 8
 unfolding outcomeOf lines first testLines misfits groupCount names keptLabels gathered kept twice howMany countIf keep range upFrom upward insertUp wayCount wayCountOf sizeFactorials labelFactorials multiply factorial tally mark δ groups position firstAt strata table
 case-i d s e v l = rw (long-fits 18 s l, e, v) refl
-
-pub case-i-number : number Ways ≡ 8
-case-i-number = refl

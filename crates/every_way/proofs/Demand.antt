@@ -1,5 +1,4 @@
 -- Demand 3: of every lot that the exhaustive test accepts, all M calls are accepted, with exact hits, and each of the three tests keeps its level.
--- Assumes nothing.
 use mathlib.Core.Path.{_≡_, ap, ap₂, _∙_}
 use mathlib.Core.Bool.{Bool, _&&_}
 use mathlib.Core.List.{List, List·Memᴰ as Member}
@@ -8,10 +7,8 @@ use lib.Dec.{T, leb}
 use lib.Ieee.{binary64, fits}
 use lib.Ieee.Fits.{div-fits}
 use Rattle.lists.specs.Filters.{countIf}
-use Rattle.outcome.specs.declared.Check.{Check}
-use Rattle.outcome.specs.declared.Check.the-variants.{Passed}
 use Rattle.outcome.specs.Refusals.{first}
-use Rattle.outcome.specs.Outcome.{answered, judged}
+use Rattle.outcome.specs.Outcome.{Told, passed, answered, judged}
 use Rattle.lot.specs.Lot.{Lot}
 use Rattle.lot.specs.Way.{IsWay, relabelled}
 use Rattle.lists.proofs.Counts.{count-cong}
@@ -80,7 +77,7 @@ module _ (lot : Lot) (way : List ℕ) (is-way : IsWay lot way) where
 module _ (lot : Lot) (s : Slices) (j : Judgement) (answers : exhaustiveCall lot s .answer ≡ answered j)
     (lend : List ℕ → Slices) (longer : (way : List ℕ) → IsWay lot way → NoShorter s (lend way))
     (made : List ℕ → Called) (meets : (way : List ℕ) → IsWay lot way → made way ≡ exhaustiveCall (relabelled lot way) (lend way)) where
-  clear : (first (lines lot s) ≡ Passed) × (exhaustive lot ≡ answered j)
+  clear : (first (lines lot s) ≡ passed) × (exhaustive lot ≡ answered j)
   unfolding exhaustiveCall callBy callIn outcomeOf
   clear = judged-answers (first (lines lot s)) (exhaustive lot) j answers
 
@@ -94,7 +91,7 @@ module _ (lot : Lot) (s : Slices) (j : Judgement) (answers : exhaustiveCall lot 
     j = judgement (relabelled lot way) (ordination .0 .coords);
     answers =
         ap (λ (m : Called). m .answer) (meets way w)
-        ∙ ap (λ (c : Check). judged c (exhaustive (relabelled lot way))) (lines-again lot way w s (lend way) (longer way w) (clear .0))
+        ∙ ap (λ (c : Told). judged c (exhaustive (relabelled lot way))) (lines-again lot way w s (lend way) (longer way w) (clear .0))
         ∙ same-exhaustive lot way w (ordination .0) (ordination .1);
     exact = counts-exactly lot way w (ordination .0);
   }

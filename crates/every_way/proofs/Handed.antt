@@ -1,4 +1,4 @@
--- A way handed in: the kept samples have its labels in turn and the others their own, and no other labels do that. Assumes nothing.
+-- A way handed in: the kept samples have its labels in turn and the others their own, and no other labels do that.
 use mathlib.Core.Path.{_≡_, refl, sym, ap, ap₂, _∙_}
 use mathlib.Core.Bool.{Bool, true, false, cond, true≢false}
 use mathlib.Core.List.{List, [], _∷_, map, cons≢nil, head-eq-of-cons-eq, tail-eq-of-cons-eq}

@@ -1,4 +1,4 @@
--- Where a call answers, no line of the table holds, and so it is for each way handed in, with slices that are no shorter. Assumes nothing.
+-- Where a call answers, no line of the table holds, and so it is for each way handed in, with slices that are no shorter.
 use mathlib.Core.Path.{_≡_, refl, sym, ap, _∙_}
 use mathlib.Core.Bool.{Bool, false, not, _&&_, _||_}
 use mathlib.Core.List.{List, [], _∷_}
@@ -8,11 +8,8 @@ use lib.Dec.{eqb, ltb}
 use lib.ListN.{length}
 use borrow.Author.Tests.{ltb-false, le-ltb}
 use Rattle.lists.specs.Filters.{any}
-use Rattle.outcome.specs.declared.Refusal.the-variants.{Weight, Labels, Ways}
-use Rattle.outcome.specs.declared.Check.{Check}
-use Rattle.outcome.specs.declared.Check.the-variants as check
 use Rattle.outcome.specs.Refusals.{Line, Lent, _when_, first, short, unfit}
-use Rattle.outcome.specs.Outcome.{Outcome, answered, refused, judged, andThen}
+use Rattle.outcome.specs.Outcome.{Outcome, Told, passed, answered, refused, judged, andThen}
 use Rattle.lot.specs.Lot.{Lot}
 use Rattle.lot.specs.Kept.{groupCount}
 use Rattle.lot.specs.Way.{IsWay, relabelled}
@@ -28,9 +25,9 @@ use Rattle.every_way.proofs.Same.{same-count}
 -- ---- what is answered
 
 module _ {A : Type 0} where
-  pub judged-answers : (c : Check) (out : Outcome A) (a : A) → judged c out ≡ answered a → (c ≡ check.Passed) × (out ≡ answered a)
-  judged-answers check.Passed out a e = (refl, e)
-  judged-answers (check.Refused r) out a e = let z : _≡_ {A = ℕ} 0 1 = cc in absurd (omega arith)
+  pub judged-answers : (c : Told) (out : Outcome A) (a : A) → judged c out ≡ answered a → (c ≡ passed) × (out ≡ answered a)
+  judged-answers (answered _) out a e = (refl, e)
+  judged-answers (refused k) out a e = let z : _≡_ {A = ℕ} 0 1 = cc in absurd (omega arith)
 
   pub andThen-answers : {B : Type 0} (o : Outcome A) (f : A → Outcome B) (b : B) → andThen o f ≡ answered b → (a : A) × (o ≡ answered a)
   unfolding andThen
@@ -65,16 +62,16 @@ no-shorter-fits n s t l e = longer-fits (lentOf n s) (lentOf n t) (l .labels, re
 -- ---- the lines of the exhaustive test
 
 abbrev waysLine : ℕ → List Line
-waysLine m = (Ways when ltb mostWays m) ∷ []
+waysLine m = (8 when ltb mostWays m) ∷ []
 
-module _ (lot : Lot) (s : Slices) (e : first (lines lot s) ≡ check.Passed) where
+module _ (lot : Lot) (s : Slices) (e : first (lines lot s) ≡ passed) where
   -- lines 1 to 5 do not hold, and 8 does not
-  apart : (first (testLines lot (tooShort (lot .n) s) false) ≡ check.Passed) × (first (waysLine (wayCount lot)) ≡ check.Passed)
+  apart : (first (testLines lot (tooShort (lot .n) s) false) ≡ passed) × (first (waysLine (wayCount lot)) ≡ passed)
   unfolding lines
   apart = first-both (testLines lot (tooShort (lot .n) s) false) (waysLine (wayCount lot)) e
 
   pub ways-few : wayCount lot ≤ mostWays
-  ways-few = ltb-false mostWays (wayCount lot) (first-passed Ways _ _ (sym (apart .1)) .0)
+  ways-few = ltb-false mostWays (wayCount lot) (first-passed 8 _ _ (sym (apart .1)) .0)
 
 module _ (lot : Lot) (way : List ℕ) (is-way : IsWay lot way) where
   same-misfits : misfits (relabelled lot way) ≡ misfits lot
@@ -95,10 +92,10 @@ module _ (lot : Lot) (way : List ℕ) (is-way : IsWay lot way) where
       record {
         sizes = ap (λ (b : Bool). first (sizeLines b (lot .n) false)) (neither (same-misfits ∙ one .0) (no-shorter-fits (lot .n) s t l (one .1)) ∙ sym fit) ∙ c .sizes;
         matrix = c .matrix;
-        labels = ap (λ (g : ℕ). first ((Weight when lot .weighted && any badWeight (lot .weights)) ∷ (Labels when ltb g 2) ∷ [])) same-groups ∙ c .labels;
+        labels = ap (λ (g : ℕ). first ((4 when lot .weighted && any badWeight (lot .weights)) ∷ (5 when ltb g 2) ∷ [])) same-groups ∙ c .labels;
       }
 
-  pub lines-again : (s t : Slices) → NoShorter s t → first (lines lot s) ≡ check.Passed → first (lines (relabelled lot way) t) ≡ check.Passed
+  pub lines-again : (s t : Slices) → NoShorter s t → first (lines lot s) ≡ passed → first (lines (relabelled lot way) t) ≡ passed
   unfolding lines relabelled
   lines-again s t l e =
       let c = clear-again s t l (passed-clear lot (tooShort (lot .n) s) false (apart lot s e .0)) in

@@ -1,4 +1,4 @@
--- The level of the two kinds of hits: of an F that is finite or unbounded, and of an assignment that may be withheld. Assumes nothing.
+-- The level of the two kinds of hits: of an F that is finite or unbounded, and of an assignment that may be withheld.
 use mathlib.Core.Path.{_≡_, refl, sym, ap, _∙_}
 use mathlib.Core.Bool.{Bool, true, false, cond, true≢false}
 use mathlib.Core.Logic.{_⊎_, inl, inr}

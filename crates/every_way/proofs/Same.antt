@@ -1,4 +1,4 @@
--- A way handed in as the observed one: the ways, M and every way's statistics are the same. Assumes nothing.
+-- A way handed in as the observed one: the ways, M and every way's statistics are the same.
 use mathlib.Core.Path.{_≡_, ap}
 use mathlib.Core.List.{List, map}
 use Prim.Native.Nat.{ℕ}

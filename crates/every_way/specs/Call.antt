@@ -6,10 +6,9 @@ use lib.Dec.{ltb}
 use lib.ListN.{length}
 use lib.Ieee.{Float}
 use Rattle.float.specs.Floats.{zero⁺}
-use Rattle.outcome.specs.declared.Refusal.the-variants.{Ways}
-use Rattle.outcome.specs.declared.Check.{Check}
+use Rattle.outcome.specs.Numbers.{number}
 use Rattle.outcome.specs.Refusals.{Line, Lent, _when_, first, short, _of_}
-use Rattle.outcome.specs.Outcome.{Outcome, answered, refused, judged}
+use Rattle.outcome.specs.Outcome.{Outcome, answered, refused, judged, Told}
 use Rattle.outcome.specs.Slices.{output, work}
 use Rattle.lot.specs.Lot.{Lot}
 use Rattle.lot.specs.Kept.{names, groups, keptCount, groupCount}
@@ -59,12 +58,12 @@ unfoldable pub tooShort : ℕ → Slices → Bool
 tooShort n s = short (lentOf n s)
 
 -- lines 1 to 5
-unfoldable pub early : Lot → Slices → Check
+unfoldable pub early : Lot → Slices → Told
 early lot s = first (testLines lot (tooShort (lot .n) s) false)
 
 -- lines 1 to 5 and 8
 unfoldable pub lines : Lot → Slices → List Line
-lines lot s = testLines lot (tooShort (lot .n) s) false ++ ((Ways when ltb mostWays (wayCount lot)) ∷ [])
+lines lot s = testLines lot (tooShort (lot .n) s) false ++ ((8 when ltb mostWays (wayCount lot)) ∷ [])
 
 -- the answer, and the slices afterwards
 pub record Called : Type 0 where
@@ -112,7 +111,7 @@ slicesOf labels counts means terms pulls coords room vectors rows =
 
 abbrev pub answerOf : Answer → Outcome Judgement
 answerOf (Judged j) = answered j
-answerOf (Refused r) = refused r
+answerOf (Refused r) = refused (number r)
 
 abbrev pub called : Answer → Slices → Called
 called r after = record { answer = answerOf r; after = after }

@@ -1,4 +1,4 @@
--- Section 7's example, from text to text. Assumes nothing.
+-- Section 7's example, from text to text.
 use mathlib.Core.Path.{_≡_, refl, ap, _∙_}
 use mathlib.Core.List.{List, [], _∷_, _++_}
 use Prim.Native.Nat.{ℕ}
@@ -7,6 +7,7 @@ use Rattle.outcome.specs.Outcome.{Outcome, answered, andThen}
 use Rattle.lot.specs.Lot.{Lot}
 use Rattle.frames.specs.Frames.{readLot}
 use Rattle.hexadecimal.specs.Hex.{hex}
+use Rattle.way_hits.specs.WayHits.{isGiven}
 use Rattle.printing.specs.Printed.{testedLine, assignedLine, verdictLines, refusalLine, printed}
 use Rattle.judged_lot.specs.Judged.{judgement}
 use Rattle.judge.specs.Judge.{judgeText}
@@ -16,7 +17,7 @@ use Rattle.example.proofs.Reading.{lot, the-input, in-upper-case, after
 use Rattle.example.proofs.Verdict.{verdict, judged}
 
 the-output : printed (answered verdict) ≡ output
-unfolding bytes output printed verdictLines testedLine assignedLine hex verdict ofBits toBits
+unfolding bytes output printed verdictLines testedLine assignedLine isGiven hex verdict ofBits toBits
 the-output = refl
 
 -- of any text that describes the lot

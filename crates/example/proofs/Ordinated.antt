@@ -1,4 +1,4 @@
--- `pcoa` of the example's distances answers: one sweep of rotations, and no NaN on the diagonal. Evaluated. Assumes nothing.
+-- `pcoa` of the example's distances answers: one sweep of rotations, and no NaN on the diagonal. Evaluated.
 use mathlib.Core.Path.{_≡_, refl}
 use mathlib.Core.Bool.{Bool, true, false}
 use mathlib.Core.List.{zipWith}

@@ -1,4 +1,4 @@
--- Section 7's example: the lot that its input describes, in either case of the digits and with or without the last line feed. Assumes nothing.
+-- Section 7's example: the lot that its input describes, in either case of the digits and with or without the last line feed.
 use mathlib.Core.Path.{_≡_, refl}
 use mathlib.Core.Bool.{false}
 use mathlib.Core.List.{List, [], _∷_, _++_, map}
@@ -7,7 +7,6 @@ use lib.Ieee.{Float}
 use Rattle.float.specs.Floats.{f64}
 use Rattle.lists.specs.Ranges.{upFrom, table, rows, grid}
 use Rattle.lists.specs.Filters.{any}
-use Rattle.outcome.specs.declared.Refusal.the-variants.{Frame}
 use Rattle.outcome.specs.Outcome.{answered, refused, andThen}
 use Rattle.lot.specs.Lot.{Lot, none, lotOf}
 use Rattle.reader.specs.Hex.{spelled, fieldAt}
@@ -38,6 +37,6 @@ pub in-upper-case : readLot upper ≡ answered lot
 unfolding bytes upper distances lot readLot lotIn described distance joins several isSample isPair isHeader isEnd head tail frame frameOf ofKind withFields lines fieldAt spelled any grid rows table upFrom andThen
 in-upper-case = refl
 
-pub after-the-end : readLot (input ++ (10 ∷ [])) ≡ refused Frame
+pub after-the-end : readLot (input ++ (10 ∷ [])) ≡ refused 12
 unfolding bytes input readLot lotIn described distance joins several isSample isPair isHeader isEnd head tail frame frameOf ofKind withFields lines fieldAt spelled any grid rows table upFrom andThen
 after-the-end = refl

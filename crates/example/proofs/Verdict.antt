@@ -1,4 +1,4 @@
--- What is found of the example's lot: no line of the table holds, and the verdict, its statistics and hits evaluated. Assumes nothing.
+-- What is found of the example's lot: no line of the table holds, and the verdict, its statistics and hits evaluated.
 use mathlib.Core.Path.{_≡_, refl, sym, ap, _∙_}
 use mathlib.Core.Bool.{Bool, true, false, true≢false}
 use mathlib.Core.List.{List, [], _∷_}
@@ -14,12 +14,9 @@ use Rattle.lists.specs.Filters.{keep, countIf, any, firstAt, pairs, orderedPair
 use Rattle.lists.specs.Numbers.{addUp, multiply, factorial, howMany, position, insertUp, upward, members}
 use Rattle.lists.specs.Sums.{sumFrom}
 use Rattle.lists.specs.Rows.{entry}
-use Rattle.outcome.specs.declared.Refusal.the-variants.{Length, Limit, Value, Labels, Columns}
-use Rattle.outcome.specs.declared.Check.{Check}
-use Rattle.outcome.specs.declared.Check.the-variants.{Passed}
 use Rattle.outcome.specs.Refusals.{first, _when_}
 use Rattle.outcome.specs.Outcome as outcome
-use Rattle.outcome.specs.Outcome.{Outcome, answered, refused, andThen}
+use Rattle.outcome.specs.Outcome.{Outcome, Told, passed, answered, refused, andThen}
 use Rattle.lot.specs.Kept.{twice, leftOut, kept, gathered, keptLabels, names, groups, keptCount, groupCount, sizes}
 use Rattle.lot.specs.Strata.{strata, informs, informative, informativeCount, fraction}
 use Rattle.lot.specs.Way.{δ, mark, tally, onKept, relabelled}
@@ -80,7 +77,7 @@ unfolding lot wayCount wayCountOf sizeFactorials labelFactorials multiply factor
 six = refl
 
 -- lines 3, 5 and 8
-none-holds : first (lines lot) ≡ Passed
+none-holds : first (lines lot) ≡ passed
 unfolding lot distances lines first any le lt ofBits groupCount names keptLabels gathered kept twice howMany countIf keep range upFrom upward insertUp wayCount wayCountOf sizeFactorials labelFactorials multiply factorial tally mark δ groups position firstAt strata
 none-holds = refl
 
@@ -111,7 +108,7 @@ dispersion-hits = refl
 -- ---- assignment: 4 samples in 2 groups leave 1 column, so `dapc` refuses, whatever the coordinates
 
 withheld-by : (a b : Bool) (x : List Float) (labels : List ℕ) (out : List Float) (assigned : List ℕ)
-    → rightCount (callBy (first ((Length when a) ∷ (Limit when false) ∷ (Value when b) ∷ (Labels when false) ∷ (Columns when true) ∷ [])) 4 4 x labels out assigned .answer) ≡ Withheld
+    → rightCount (callBy (first ((1 when a) ∷ (2 when false) ∷ (3 when b) ∷ (5 when false) ∷ (9 when true) ∷ [])) 4 4 x labels out assigned .answer) ≡ Withheld
 unfolding rightCount callBy leaves first andThen
 withheld-by true b x labels out assigned = refl
 withheld-by false true x labels out assigned = refl
@@ -154,4 +151,4 @@ answered-by (refused r) e = absurd (true≢false (sym e))
 
 pub judged : judgement lot ≡ answered verdict
 unfolding judgement exhaustive
-judged = ap (λ (c : Check). outcome.judged c (exhaustive lot)) none-holds ∙ answered-by (coordinates lot) ordinated
+judged = ap (λ (c : Told). outcome.judged c (exhaustive lot)) none-holds ∙ answered-by (coordinates lot) ordinated

@@ -1,4 +1,4 @@
--- What is known of a call that the lines let pass. Assumes nothing.
+-- What is known of a call that the lines let pass.
 use mathlib.Core.Path.{_≡_, refl, sym, ap, subst, _∙_}
 use mathlib.Core.Bool.{Bool, true, false, _||_}
 use mathlib.Core.List.{List, [], _∷_}
@@ -12,7 +12,7 @@ use lib.Ieee.{Float}
 use Rattle.lists.specs.Filters.{any}
 use Rattle.lists.specs.Numbers.{Below}
 use Rattle.lists.proofs.Truths.{or-neither}
-use Rattle.outcome.specs.declared.Check.the-variants as check
+use Rattle.outcome.specs.Outcome as outcome
 use Rattle.outcome.specs.Refusals.{short}
 use Rattle.lot.specs.Lot.{Lot, lotOf}
 use Rattle.lot.specs.Kept.{kept, groups, keptCount, groupCount}
@@ -55,7 +55,7 @@ long-enough n s e =
 
 -- ---- a lot that lines 1 to 5 let pass
 
-module _ (lot : Lot) (s : Slices) (passed : early lot s ≡ check.Passed) where
+module _ (lot : Lot) (s : Slices) (passed : early lot s ≡ outcome.passed) where
   told : Passes lot (tooShort (lot .n) s) false
   unfolding early
   told = passes lot (tooShort (lot .n) s) false passed
@@ -75,7 +75,7 @@ module _ (lot : Lot) (s : Slices) (passed : early lot s ≡ check.Passed) where
 
 -- the lot by its design's number of samples
 pub passing-by : (n : ℕ) (distances : List Float) (labels : List ℕ) (stratified : Bool) (strata : List ℕ) (weighted : Bool) (weights : List Float) (s : Slices) {d : Design} {ways : ℕ}
-    → early (lotOf n distances labels stratified strata weighted weights) s ≡ check.Passed → Describes (lotOf n distances labels stratified strata weighted weights) d
+    → early (lotOf n distances labels stratified strata weighted weights) s ≡ outcome.passed → Describes (lotOf n distances labels stratified strata weighted weights) d
     → ways ≡ wayCount (lotOf n distances labels stratified strata weighted weights) → ways ≤ mostWays
     → Passing (lotOf (d .n) distances labels stratified strata weighted weights) d ways s
 passing-by n distances labels stratified strata weighted weights s {d} {ways} passed e many few =

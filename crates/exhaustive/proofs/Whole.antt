@@ -1,4 +1,4 @@
--- A whole call, from what inner functions leave. Assumes nothing.
+-- A whole call, from what inner functions leave.
 use mathlib.Core.Path.{_≡_, refl, sym, ap, subst, _∙_}
 use mathlib.Core.Bool.{Bool, true, false}
 use mathlib.Core.List.{List, [], _∷_}
@@ -15,10 +15,11 @@ use Rattle.outcome.specs.declared.Refusal.{Refusal}
 use Rattle.outcome.specs.declared.Refusal.the-variants.{Ways}
 use Rattle.outcome.specs.declared.Check.{Check}
 use Rattle.outcome.specs.declared.Check.the-variants as check
+use Rattle.outcome.specs.Numbers.{number, told}
 use Rattle.outcome.specs.Refusals.{Line, _when_, first, short}
-use Rattle.outcome.specs.Outcome.{Outcome, answered, refused, judged, andThen}
+use Rattle.outcome.specs.Outcome.{Outcome, Told, passed, answered, refused, judged, andThen}
 use Rattle.outcome.specs.Slices.{untouched, output, work}
-use Rattle.outcome.proofs.Table.{first-after, first-before}
+use Rattle.outcome.proofs.Table.{first-after, first-before, told-refused}
 use Rattle.lot.specs.Lot.{Lot, lotOf}
 use Rattle.lot.specs.Kept.{names, groups, keptCount, groupCount}
 use Rattle.lot.specs.Lines.{testLines}
@@ -37,7 +38,7 @@ use Rattle.every_way.specs.declared.Answer.the-variants.{Judged, Refused}
 use Rattle.every_way.specs.Exhaustive.{judgement, coordinates, exhaustive}
 use Rattle.every_way.specs.Call.{Slices, Called, slicesOf, called, lengthsOf, lentOf, tooShort, early, lines, callIn, callBy, outcomeOf, exhaustiveCall}
 use Rattle.clearing.specs.Turned.{turned}
-use Rattle.lot_ordination.specs.Ordination.{coordsIn, told, coordsOf}
+use Rattle.lot_ordination.specs.Ordination.{coordsIn, coordsTold, coordsOf}
 use Rattle.lot_ordination.proofs.Told.{late-told}
 use Rattle.verdict.specs.Room.{Judges}
 use Rattle.exhaustive.specs.Inner.{Passing}
@@ -55,7 +56,7 @@ module _ (lot : Lot) where
   answered-by (answered c) {x} e = let same : x ≡ c .coords = cc in ap (λ (x : List Float). answered (judgement lot x)) same
   answered-by (refused r) e = let z : _≡_ {A = ℕ} 0 1 = cc in absurd (omega arith)
 
-  refused-by : (o : Outcome Coordinates) {r : Refusal} → refused r ≡ coordsOf o → refused r ≡ andThen o (λ c. answered (judgement lot (c .coords)))
+  refused-by : (o : Outcome Coordinates) {r : ℕ} → refused r ≡ coordsOf o → refused r ≡ andThen o (λ c. answered (judgement lot (c .coords)))
   unfolding coordsOf andThen
   refused-by (answered c) e = let z : _≡_ {A = ℕ} 0 1 = cc in absurd (omega arith)
   refused-by (refused q) {r} e = let same : r ≡ q = cc in ap refused same
@@ -66,25 +67,25 @@ module _ (n : ℕ) (distances : List Float) (labels : List ℕ) (stratified : Bo
   abbrev lot : Lot
   lot = lotOf n distances labels stratified strata weighted weights
 
-  refused-call : (r : Refusal) (s : Slices) → untouched r ≡ false → turned (groupCount labels) r s ≡ callBy lot (refused r) s
+  refused-call : (r : ℕ) (s : Slices) → untouched r ≡ false → turned (groupCount labels) r s ≡ callBy lot (refused r) s
   unfolding turned callBy callIn output work
   refused-call r s u = rw u refl
 
   pub settled-refused : {g : ℕ} {r : Refusal} {c : Check} (coords : List Float) (s s′ : Slices) {b : Called} → g ≡ groupCount labels → c ≡ check.Refused r
-      → told n c coords ≡ coordsOf (pcoa 8 n distances) → turned g r s′ ≡ turned g r s → b ≡ turned g r s′ → b ≡ callBy lot (exhaustive lot) s
+      → coordsTold n c coords ≡ coordsOf (pcoa 8 n distances) → turned g (number r) s′ ≡ turned g (number r) s → b ≡ turned g (number r) s′ → b ≡ callBy lot (exhaustive lot) s
   unfolding exhaustive coordinates
   settled-refused {g} {r} {c} coords s s′ eg ec h es eb =
-      let is : refused r ≡ coordsOf (pcoa 8 n distances) = ap (λ (c : Check). told n c coords) (sym ec) ∙ h in
-      eb ∙ es ∙ ap (λ (g : ℕ). turned g r s) eg ∙ refused-call r s (late-told n distances is) ∙ ap (λ (o : Outcome Judgement). callBy lot o s) (refused-by lot (pcoa 8 n distances) is)
+      let is : refused (number r) ≡ coordsOf (pcoa 8 n distances) = ap (λ (c : Check). coordsTold n c coords) (sym ec) ∙ h in
+      eb ∙ es ∙ ap (λ (g : ℕ). turned g (number r) s) eg ∙ refused-call (number r) s (late-told n distances is) ∙ ap (λ (o : Outcome Judgement). callBy lot o s) (refused-by lot (pcoa 8 n distances) is)
 
   pub settled-answered : {d : Design} {c : Check} (coords : List Float) (s : Slices) {j : Judgement} {ns counts : List ℕ} {means terms pulls coords′ room vectors : List Float} {rows : List ℕ}
-      → Describes lot d → c ≡ check.Passed → told n c coords ≡ coordsOf (pcoa 8 n distances) → Judges lot (coordsIn n coords) (s .counts) (s .means) counts means j
+      → Describes lot d → c ≡ check.Passed → coordsTold n c coords ≡ coordsOf (pcoa 8 n distances) → Judges lot (coordsIn n coords) (s .counts) (s .means) counts means j
       → ns ≡ over (namesOf d) (s .labels) → terms ≡ cleared zero⁺ (s .terms) → pulls ≡ cleared zero⁺ (s .pulls) → coords′ ≡ cleared zero⁺ (s .coords)
       → room ≡ cleared zero⁺ (s .room) → vectors ≡ cleared zero⁺ (s .vectors) → rows ≡ cleared 0 (s .rows)
       → called (Judged j) (slicesOf ns counts means terms pulls coords′ room vectors rows) ≡ callBy lot (exhaustive lot) s
   unfolding exhaustive coordinates callBy callIn output work
   settled-answered {d} {c} coords s e ec h r en et ep eo er ev ew =
-      let is : answered (coordsIn n coords) ≡ coordsOf (pcoa 8 n distances) = ap (λ (c : Check). told n c coords) (sym ec) ∙ h in
+      let is : answered (coordsIn n coords) ≡ coordsOf (pcoa 8 n distances) = ap (λ (c : Check). coordsTold n c coords) (sym ec) ∙ h in
       let named = en ∙ ap (λ (l : List ℕ). over l (s .labels)) (e .namesAre) in
       (λ i. called (Judged (r .answer i)) (slicesOf (named i) (r .listed .sizes i) (r .listed .meanZ i) (et i) (ep i) (eo i) (er i) (ev i) (ew i)))
       ∙ ap (λ (o : Outcome Judgement). callBy lot o s) (answered-by lot (pcoa 8 n distances) is)
@@ -96,50 +97,55 @@ pub call-by : (n : ℕ) (distances : List Float) (labels : List ℕ) (stratified
 call-by n distances labels stratified strata weighted weights s e eb =
     eb ∙ ap (λ (k : ℕ). callBy (lotOf k distances labels stratified strata weighted weights) (exhaustive (lotOf k distances labels stratified strata weighted weights)) s) e
 
+-- an outcome with these slices
+abbrev callOf : Outcome Judgement → Slices → Called
+callOf o s = record { answer = o; after = s }
+
 -- work of the same lengths is the same afterwards
-pub turned-same : (g : ℕ) (r : Refusal) (ns counts : List ℕ) (means terms pulls coords room vectors : List Float) (rows : List ℕ) (terms′ pulls′ coords′ room′ vectors′ : List Float)
+pub turned-same : (g r : ℕ) (ns counts : List ℕ) (means terms pulls coords room vectors : List Float) (rows : List ℕ) (terms′ pulls′ coords′ room′ vectors′ : List Float)
     → length terms′ ≡ length terms → length pulls′ ≡ length pulls → length coords′ ≡ length coords → length room′ ≡ length room → length vectors′ ≡ length vectors
     → turned g r (slicesOf ns counts means terms′ pulls′ coords′ room′ vectors′ rows) ≡ turned g r (slicesOf ns counts means terms pulls coords room vectors rows)
 unfolding turned
 turned-same g r ns counts means terms pulls coords room vectors rows terms′ pulls′ coords′ room′ vectors′ et ep eo er ev =
-    λ i. called (Refused r) (slicesOf (over (replicate g 0) ns) (over (replicate g 0) counts) (over (replicate g zero⁺) means)
+    λ i. callOf (refused r) (slicesOf (over (replicate g 0) ns) (over (replicate g 0) counts) (over (replicate g zero⁺) means)
     (cleared-same zero⁺ terms terms′ et i) (cleared-same zero⁺ pulls pulls′ ep i) (cleared-same zero⁺ coords coords′ eo i) (cleared-same zero⁺ room room′ er i) (cleared-same zero⁺ vectors vectors′ ev i) (cleared 0 rows))
 
 -- ---- the lines at the start of a call
 
 module _ (lot : Lot) (s : Slices) where
   abbrev late : List Line
-  late = (Ways when ltb mostWays (wayCount lot)) ∷ []
+  late = (8 when ltb mostWays (wayCount lot)) ∷ []
 
   pub short-is : {b : Bool} → b ≡ short (lengthsOf (lot .n) (length (s .labels)) (length (s .counts)) (length (s .means)) (length (s .terms)) (length (s .pulls)) (length (s .coords)) (length (s .room)) (length (s .vectors)) (length (s .rows)))
       → b ≡ tooShort (lot .n) s
   unfolding tooShort lentOf
   short-is e = e
 
-  pub early-is : {short : Bool} {c : Check} → short ≡ tooShort (lot .n) s → c ≡ first (testLines lot short false) → c ≡ early lot s
+  pub early-is : {short : Bool} {c : Told} → short ≡ tooShort (lot .n) s → c ≡ first (testLines lot short false) → c ≡ early lot s
   unfolding early
   early-is es ec = ec ∙ ap (λ (b : Bool). first (testLines lot b false)) es
 
   -- a call that a line turns away leaves all as it was
-  stays : (r : Refusal) → untouched r ≡ true → called (Refused r) s ≡ callBy lot (refused r) s
+  stays : (r : Refusal) → untouched (number r) ≡ true → called (Refused r) s ≡ callBy lot (refused (number r)) s
   unfolding callBy callIn output work
   stays r u = rw u refl
 
-  pub call-refused : {r : Refusal} → check.Refused r ≡ early lot s → called (Refused r) s ≡ exhaustiveCall lot s
+  pub call-refused : {c : Check} {r : Refusal} → told c ≡ early lot s → c ≡ check.Refused r → called (Refused r) s ≡ exhaustiveCall lot s
   unfolding exhaustiveCall outcomeOf lines early
-  call-refused {r} e =
+  call-refused {c} {r} h i =
+      let e = told-refused h i in
       stays r (lines-untouched lot (tooShort (lot .n) s) false e)
-      ∙ ap (λ (c : Check). callBy lot (judged c (exhaustive lot)) s) (sym (first-before (testLines lot (tooShort (lot .n) s) false) late (sym e)))
+      ∙ ap (λ (c : Told). callBy lot (judged c (exhaustive lot)) s) (sym (first-before (testLines lot (tooShort (lot .n) s) false) late (sym e)))
 
   -- line 8
-  pub call-many : {w : ℕ} → early lot s ≡ check.Passed → w ≡ capped (wayCount lot) → mostWays < w → called (Refused Ways) s ≡ exhaustiveCall lot s
+  pub call-many : {w : ℕ} → early lot s ≡ passed → w ≡ capped (wayCount lot) → mostWays < w → called (Refused Ways) s ≡ exhaustiveCall lot s
   unfolding exhaustiveCall outcomeOf lines early first
-  call-many {w} passed e h =
-      let holds : first late ≡ check.Refused Ways = rw (lt-ltb mostWays (wayCount lot) (many-ways (wayCount lot) e h)) refl in
-      stays Ways refl ∙ ap (λ (c : Check). callBy lot (judged c (exhaustive lot)) s) (sym (first-after (testLines lot (tooShort (lot .n) s) false) late passed ∙ holds))
+  call-many {w} clear e h =
+      let holds : first late ≡ refused 8 = rw (lt-ltb mostWays (wayCount lot) (many-ways (wayCount lot) e h)) refl in
+      stays Ways refl ∙ ap (λ (c : Told). callBy lot (judged c (exhaustive lot)) s) (sym (first-after (testLines lot (tooShort (lot .n) s) false) late clear ∙ holds))
 
-  pub call-passed : {b : Called} → early lot s ≡ check.Passed → wayCount lot ≤ mostWays → b ≡ callBy lot (exhaustive lot) s → b ≡ exhaustiveCall lot s
+  pub call-passed : {b : Called} → early lot s ≡ passed → wayCount lot ≤ mostWays → b ≡ callBy lot (exhaustive lot) s → b ≡ exhaustiveCall lot s
   unfolding exhaustiveCall outcomeOf lines early first
-  call-passed passed few eb =
-      let passes : first late ≡ check.Passed = rw (le-ltb mostWays (wayCount lot) few) refl in
-      eb ∙ ap (λ (c : Check). callBy lot (judged c (exhaustive lot)) s) (sym (first-after (testLines lot (tooShort (lot .n) s) false) late passed ∙ passes))
+  call-passed clear few eb =
+      let passes : first late ≡ passed = rw (le-ltb mostWays (wayCount lot) few) refl in
+      eb ∙ ap (λ (c : Told). callBy lot (judged c (exhaustive lot)) s) (sym (first-after (testLines lot (tooShort (lot .n) s) false) late clear ∙ passes))

@@ -5,7 +5,7 @@ use mathlib.Core.List.{List}
 use Prim.Native.Nat.{ℕ, _+_, _*_, _≤_}
 use lib.ListN.{length}
 use lib.Ieee.{Float}
-use Rattle.outcome.specs.declared.Check.the-variants.{Passed}
+use Rattle.outcome.specs.Outcome as outcome
 use Rattle.lot.specs.Lot.{Lot, lotOf}
 use Rattle.designs.specs.declared.Design.{Design}
 use Rattle.designs.specs.Designs.{Describes}
@@ -15,7 +15,7 @@ use Rattle.every_way.specs.Call.{Slices, early}
 -- a call on a lot that lines 1 to 5 and 8 let pass, with its design and M
 pub record Passing (lot : Lot) (d : Design) (ways : ℕ) (s : Slices) : Type 0 where
   pub described : Describes lot d
-  pub passed : early lot s ≡ Passed
+  pub passed : early lot s ≡ outcome.passed
   pub many : ways ≡ wayCount lot
   pub few : ways ≤ mostWays
 

@@ -1,4 +1,4 @@
--- Whether one of some slices is short. Assumes nothing.
+-- Whether one of some slices is short.
 use mathlib.Core.Path.{_≡_, refl, sym}
 use mathlib.Core.Bool.{Bool, true, false, _||_}
 use mathlib.Core.List.{List}

@@ -1,4 +1,4 @@
--- What the tests of `float::sqrt` say of its argument: which values are above zero, finite, zero, and what is left. Assumes nothing.
+-- What the tests of `float::sqrt` say of its argument: which values are above zero, finite, zero, and what is left.
 use mathlib.Core.Path.{_≡_, refl, sym, ap, _∙_, subst}
 use mathlib.Core.Logic.{inl, inr}
 use Prim.Native.Nat.{ℕ, zero, suc, _+_, _-_, _*_, _/_, _^_, _≤_, _<_}

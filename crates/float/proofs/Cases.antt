@@ -1,4 +1,4 @@
--- Two of document 01's cases, computed. Assumes nothing.
+-- Two of document 01's cases, computed.
 use mathlib.Core.Path.{_≡_, refl}
 use lib.IntN.{negsuc}
 use lib.Ieee.{fin, size, odd, ofBits, toBits}

@@ -1,5 +1,5 @@
 -- What tells `float::quick_root` that a guess is the rounded root. With q for the guess and `rest` for what its square leaves of m * 2 ^ 52, a rest of at most q says that q
--- is the root of m * 2 ^ 52, rounded, and a rest above that, of at most 3 * q, that q + 1 is. Assumes nothing.
+-- is the root of m * 2 ^ 52, rounded, and a rest above that, of at most 3 * q, that q + 1 is.
 use mathlib.Core.Path.{_≡_, sym}
 use Prim.Native.Nat.{ℕ, _+_, _*_, _/_, _%_, _^_, _≤_, _<_}
 use native.Mathlib.Nat.{mul-le-mul}

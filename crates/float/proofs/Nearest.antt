@@ -1,4 +1,4 @@
--- `root` is the root of IEEE 754: of an x that is finite and above zero it is the f64 nearest to √x (`root-nearest`). Assumes nothing.
+-- `root` is the root of IEEE 754: of an x that is finite and above zero it is the f64 nearest to √x (`root-nearest`).
 use mathlib.Core.Path.{_≡_, refl, sym, ap, _∙_, subst}
 use mathlib.Core.Logic.{_⊎_, inl, inr}
 use Prim.Native.Nat.{ℕ, zero, suc, _+_, _-_, _*_, _/_, _%_, _^_, _≤_, _<_}

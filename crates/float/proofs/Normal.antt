@@ -1,4 +1,4 @@
--- What `Normal n m z` says of n's root: n has z digits, and `rootOf n` works on m, with its zeros, alone. Assumes nothing.
+-- What `Normal n m z` says of n's root: n has z digits, and `rootOf n` works on m, with its zeros, alone.
 use mathlib.Core.Path.{_≡_, refl, sym, ap, _∙_}
 use Prim.Native.Nat.{ℕ, zero, suc, _+_, _-_, _*_, _/_, _%_, _^_, _≤_, _<_}
 use native.Mathlib.Nat.{le-of-eq, le-trans, lt-of-lt-of-le, lt-of-le-of-lt, mul-assoc, mul-comm, mul-le-mul-right, mul-lt-mul-of-pos-right, lt-of-mul-lt-mul-right, le-of-mul-le-mul-right, mul-div-cancel, pow-succ', mul-one, mod-lt, zero-lt-suc}

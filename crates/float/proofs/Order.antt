@@ -1,5 +1,5 @@
 -- The order of floats. `le`, `lt` and `eq` compare the values (`le-value`, `lt-value`, `eq-value`), whatever the format and however the values are written.
--- `le` is reflexive and total but for a NaN, and transitive with no exception: a NaN is on neither side of it. Assumes nothing.
+-- `le` is reflexive and total but for a NaN, and transitive with no exception: a NaN is on neither side of it.
 use mathlib.Core.Path.{refl, sym, _∙_}
 use mathlib.Core.Logic.{_⊎_, inl, inr, _↔_}
 use mathlib.Core.Bool.{Bool, true, false, not}

@@ -1,4 +1,4 @@
--- Products. `mul` of two finite values is their exact product, rounded once (`mul-values`), and 1 is neutral (`one-times`). Assumes nothing.
+-- Products. `mul` of two finite values is their exact product, rounded once (`mul-values`), and 1 is neutral (`one-times`).
 use mathlib.Core.Path.{_≡_, refl, ap, _∙_}
 use mathlib.Core.Bool.{Bool, true, false}
 use Prim.Native.Nat.{ℕ, _*_, _<_}

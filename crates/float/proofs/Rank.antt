@@ -1,4 +1,4 @@
--- The order of the finite f64 is that of their ranks, which are whole numbers: `lt-rank`, `le-rank`, `eq-rank`, and `larger-rank` for the larger of two. Assumes nothing.
+-- The order of the finite f64 is that of their ranks, which are whole numbers: `lt-rank`, `le-rank`, `eq-rank`, and `larger-rank` for the larger of two.
 use mathlib.Core.Path.{_≡_, refl, sym, ap₂, _∙_, subst, subst₂}
 use mathlib.Core.Logic.{_↔_}
 use Prim.Native.Nat.{ℕ, _+_, _-_, _*_, _^_, _≤_, _<_, max}

@@ -1,4 +1,4 @@
--- What the functions return fits f64. (For sums, differences, products and quotients: `add-fits` .. of the toolchain.) Assumes nothing.
+-- What the functions return fits f64. (For sums, differences, products and quotients: `add-fits` .. of the toolchain.)
 use mathlib.Core.Bool.{true, false, _&&_, cond}
 use Prim.Native.Nat.{zero, suc}
 use native.Mathlib.Nat.{zero-lt-suc}

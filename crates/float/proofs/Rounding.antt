@@ -1,5 +1,5 @@
 -- Rounding. A value that fits is its own rounding (`round-own`), and rounding keeps the order of signed fractions (`round-le`),
--- in either format, subnormal results and overflow to an infinity included. Assumes nothing.
+-- in either format, subnormal results and overflow to an infinity included.
 use mathlib.Core.Path.{_≡_, refl, sym, ap, _∙_, subst, subst₂}
 use mathlib.Core.Bool.{Bool, true, false, cond}
 use Prim.Native.Nat.{ℕ, zero, suc, _+_, _-_, _*_, _^_, _≤_, _<_, zero-le}

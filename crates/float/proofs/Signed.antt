@@ -1,4 +1,4 @@
--- ±a ≤ ±b is an order of whole numbers with a sign, and the tests `below` and `level` of the toolchain are its `<` and its equality. Assumes nothing.
+-- ±a ≤ ±b is an order of whole numbers with a sign, and the tests `below` and `level` of the toolchain are its `<` and its equality.
 use mathlib.Core.Path.{_≡_, refl, sym, ap₂, _∙_, subst, transport}
 use mathlib.Core.Logic.{_⊎_, inl, inr, _↔_}
 use mathlib.Core.Bool.{Bool, true, false, not, _&&_, _||_}

@@ -1,4 +1,4 @@
--- What the tests of `float::abs`, `max` and `signum` say of their arguments. Assumes nothing.
+-- What the tests of `float::abs`, `max` and `signum` say of their arguments.
 use mathlib.Core.Path.{_≡_, refl, sym, ap, ap₂, _∙_, subst}
 use Prim.Native.Nat.{ℕ, zero, suc, _+_, _*_, _/_, _%_, _≤_, _<_}
 use native.Mathlib.Nat.{not-le-of-lt, zero-lt-suc, zero-add, zero-mul, mul-one}

@@ -1,5 +1,5 @@
 -- Sums. `add` of two finite values is their exact sum, rounded once (`add-at`, `sum-is`), so it grows with each operand (`add-le`), and less is left where something is
--- taken away (`sub-le`). -0 is the neutral element (`add-neg-zero`, `neg-zero-add`): +0 is not, since -0 + +0 is +0. Assumes nothing.
+-- taken away (`sub-le`). -0 is the neutral element (`add-neg-zero`, `neg-zero-add`): +0 is not, since -0 + +0 is +0.
 use mathlib.Core.Path.{_≡_, refl, sym, ap, ap₂, _∙_, subst, subst₂}
 use mathlib.Core.Bool.{Bool, true, false, not, _&&_, cond}
 use Prim.Native.Nat.{ℕ, _+_, _-_, _*_, _^_, _≤_, _<_}

@@ -1,4 +1,4 @@
--- Tests as facts: a test that came out true or false, tests joined by `||`, and two tests that are one. Assumes nothing.
+-- Tests as facts: a test that came out true or false, tests joined by `||`, and two tests that are one.
 use mathlib.Core.Path.{_≡_, refl, sym, subst}
 use mathlib.Core.Logic.{_⊎_, inl, inr}
 use mathlib.Core.Bool.{Bool, true, false, not, _||_}

@@ -1,5 +1,5 @@
 -- THE TOLERANCE LAW (`threshold-le`): a finite F reaches its own threshold F - 1e-12·|F|, and so does every value that is no smaller, however the threshold is rounded.
--- So what ranks no lower than the observed F is a hit of it, and a count of hits is never below a count by ranks. Assumes nothing.
+-- So what ranks no lower than the observed F is a hit of it, and a count of hits is never below a count by ranks.
 use mathlib.Core.Path.{_≡_, refl, sym, subst}
 use mathlib.Core.Bool.{true, false, true≢false}
 use Prim.Native.Nat.{_*_, _≤_}

@@ -1,4 +1,4 @@
--- The units of an f64, its size in units of 2 ^ -1074: they are exact (`units-exact`), they have at most 53 digits before their zeros, and the bit pattern holds them. Assumes nothing.
+-- The units of an f64, its size in units of 2 ^ -1074: they are exact (`units-exact`), they have at most 53 digits before their zeros, and the bit pattern holds them.
 use mathlib.Core.Path.{_≡_, sym, ap, _∙_, subst}
 use Prim.Native.Nat.{ℕ, zero, suc, _+_, _-_, _*_, _/_, _%_, _^_, _≤_, _<_, zero-le}
 use native.Mathlib.Nat.{le-of-suc-le-suc, le-trans, le-of-eq, le-of-lt, le-antisymm, lt-of-lt-of-le, lt-of-le-of-lt, lt-of-not-le, not-le-of-lt, zero-add, zero-mul, mul-one, mul-assoc, mul-right-comm, mul-pos, mul-le-mul-right, mul-lt-mul-of-pos-right, lt-of-mul-lt-mul-right, mul-div-cancel, div-one, le-div-iff-mul-le}

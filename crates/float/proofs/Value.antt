@@ -1,5 +1,5 @@
 -- The value of a float: every finite one is a fraction with a power of two for its denominator, so any few of them have values over one denominator.
--- A value that fits a format is written in one way (`unique`). Assumes nothing.
+-- A value that fits a format is written in one way (`unique`).
 use mathlib.Core.Path.{_≡_, refl, sym, ap, _∙_, subst}
 use mathlib.Core.Bool.{Bool, true, false, _&&_}
 use Prim.Native.Nat.{ℕ, zero, suc, _-_, _*_, _%_, _^_, _≤_, _<_}

@@ -1,5 +1,5 @@
 -- Whole numbers stay exact: sums and products of whole floats up to 2 ^ prec are the floats of the exact sums and products, and a sum over a list, from left to right, is
--- that of the whole numbers as long as it is at most 2 ^ prec, from either zero. Assumes nothing.
+-- that of the whole numbers as long as it is at most 2 ^ prec, from either zero.
 use mathlib.Core.Path.{_≡_, refl, sym, ap, _∙_, subst}
 use mathlib.Core.Logic.{inl, inr}
 use mathlib.Core.Bool.{Bool, true, false}

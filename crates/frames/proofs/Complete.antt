@@ -1,4 +1,4 @@
--- The pairs that are taken are all pairs: as many as there are, and none twice. Assumes nothing.
+-- The pairs that are taken are all pairs: as many as there are, and none twice.
 use Prim.Native.Nat.{ℕ, zero, suc, _+_, _-_, _*_, _<_, _≤_}
 use mathlib.Core.Path.{_≡_, refl, sym, ap, ap₂, _∙_, subst}
 use mathlib.Core.Bool.{Bool, true, false, _&&_, _||_, cond, true≢false}

@@ -1,4 +1,4 @@
--- Every lot that is read fits its n, is symmetric and has a diagonal of 0; so the table's first line does not hold for it. Assumes nothing.
+-- Every lot that is read fits its n, is symmetric and has a diagonal of 0; so the table's first line does not hold for it.
 use Prim.Native.Nat.{ℕ, zero, suc, _+_, _*_}
 use mathlib.Core.Path.{_≡_, refl, sym, ap, ap₂, _∙_, subst}
 use mathlib.Core.Bool.{Bool, true, false, not, _&&_, _||_, cond}

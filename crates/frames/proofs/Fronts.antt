@@ -1,4 +1,4 @@
--- After a call of `read_lot`: the lot is what the fronts of the slices hold, or the text is refused. Assumes nothing.
+-- After a call of `read_lot`: the lot is what the fronts of the slices hold, or the text is refused.
 use Prim.Native.Nat.{ℕ, _*_, _≤_}
 use mathlib.Core.Path.{_≡_, refl, sym, ap, _∙_}
 use mathlib.Core.List.{List}
@@ -8,6 +8,7 @@ use lib.Ieee.{Float}
 use Rattle.lists.specs.Writes.{over}
 use Rattle.lists.proofs.Writes.{take-over}
 use Rattle.outcome.specs.declared.Refusal.{Refusal}
+use Rattle.outcome.specs.Numbers.{number}
 use Rattle.outcome.specs.Outcome.{Outcome, answered, refused, andThen}
 use Rattle.lot.specs.Lot.{Lot, lotOf}
 use Rattle.frames.specs.Frames.{readLot}
@@ -45,11 +46,11 @@ module _ {h : Header} {l s : List ℕ} {d : List Float} where
   pub few-fronts : (text : List ℕ) → called (Read h) l s d ≡ readCall text → h .n ≤ 32
   few-fronts text e = read-fits text (fronts h l s d) (read-fronts text e) .few
 
-refused-by : (o : Outcome Lot) {x : Refusal} {l s : List ℕ} {d : List Float} → called (Refused x) l s d ≡ leaves o → o ≡ refused x
+refused-by : (o : Outcome Lot) (x : Refusal) {l s : List ℕ} {d : List Float} → called (Refused x) l s d ≡ leaves o → o ≡ refused (number x)
 unfolding leaves andThen
-refused-by (answered lot) e = let a = ap (λ (c : Called). c .answer) e in let z : _≡_ {A = ℕ} 0 1 = cc in absurd (omega arith)
-refused-by (refused r) e = let a = ap (λ (c : Called). c .answer) e in cc
+refused-by (answered lot) x e = let a = ap (λ (c : Called). c .answer) e in let z : _≡_ {A = ℕ} 0 1 = cc in absurd (omega arith)
+refused-by (refused r) x e = let a = ap (λ (c : Called). c .answer) e in cc
 
-pub read-refused : (text : List ℕ) {x : Refusal} {l s : List ℕ} {d : List Float} → called (Refused x) l s d ≡ readCall text → readLot text ≡ refused x
+pub read-refused : (text : List ℕ) (x : Refusal) {l s : List ℕ} {d : List Float} → called (Refused x) l s d ≡ readCall text → readLot text ≡ refused (number x)
 unfolding readCall
-read-refused text e = refused-by (readLot text) e
+read-refused text x e = refused-by (readLot text) x e

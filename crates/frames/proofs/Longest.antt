@@ -1,4 +1,4 @@
--- No text that describes a lot is longer than that of 32 samples: 11,834 bytes. A longer one is 12, so its first 11,835 bytes tell. Assumes nothing.
+-- No text that describes a lot is longer than that of 32 samples: 11,834 bytes. A longer one is 12, so its first 11,835 bytes tell.
 use Prim.Native.Nat.{ℕ, zero, suc, _+_, _-_, _*_, _<_, _≤_}
 use mathlib.Core.Path.{_≡_, refl, sym, ap, _∙_}
 use mathlib.Core.Bool.{Bool, true, false, not, _&&_, cond, false≢true}
@@ -11,8 +11,6 @@ use lib.Seq.{length-take-le, take-all}
 use native.Mathlib.Decide.{decLt}
 use borrow.Author.Tests.{eqb-true, leb-true}
 use Rattle.lists.specs.Filters.{any}
-use Rattle.outcome.specs.declared.Refusal.{Refusal}
-use Rattle.outcome.specs.declared.Refusal.the-variants as refusal
 use Rattle.outcome.specs.Outcome.{Outcome, answered, refused, andThen}
 use Rattle.lot.specs.Lot.{Lot}
 use Rattle.reader.specs.declared.Field.{Field}
@@ -162,28 +160,28 @@ longest text lot e = omega (arith, lines-width text, in-width (lines text) lot e
 
 -- ---- a longer one is 12
 
-only-by : {A : Type 0} (b : Bool) (o : Outcome A) {r : Refusal} → cond b o malformed ≡ refused r → (o ≡ refused r → r ≡ refusal.Frame) → r ≡ refusal.Frame
+only-by : {A : Type 0} (b : Bool) (o : Outcome A) {r : ℕ} → cond b o malformed ≡ refused r → (o ≡ refused r → r ≡ 12) → r ≡ 12
 only-by true o e f = f e
 only-by false o e f = cc
 
-only-then : {A B : Type 0} (o : Outcome A) (f : A → Outcome B) {r : Refusal} → andThen o f ≡ refused r →
-    (o ≡ refused r → r ≡ refusal.Frame) → ((a : A) → f a ≡ refused r → r ≡ refusal.Frame) → r ≡ refusal.Frame
+only-then : {A B : Type 0} (o : Outcome A) (f : A → Outcome B) {r : ℕ} → andThen o f ≡ refused r →
+    (o ≡ refused r → r ≡ 12) → ((a : A) → f a ≡ refused r → r ≡ 12) → r ≡ 12
 unfolding andThen
 only-then (answered a) f e first then = then a e
 only-then (refused s) f {r} e first then = let same : s ≡ r = cc in first (ap refused same)
 
-several-only : (may : List Frame → Frame → Bool) (m : ℕ) (before fs : List Frame) {r : Refusal} → several may m before fs ≡ refused r → r ≡ refusal.Frame
+several-only : (may : List Frame → Frame → Bool) (m : ℕ) (before fs : List Frame) {r : ℕ} → several may m before fs ≡ refused r → r ≡ 12
 unfolding several
 several-only may zero before fs e = let z : _≡_ {A = ℕ} 0 1 = cc in absurd (omega arith)
 several-only may (suc m) before fs e =
     only-by (may before (head fs)) (several may m (before ++ (head fs ∷ [])) (tail fs)) e (several-only may m (before ++ (head fs ∷ [])) (tail fs))
 
-final-only : (h : Frame) (samples pairs fs : List Frame) {r : Refusal} → final h samples pairs fs ≡ refused r → r ≡ refusal.Frame
+final-only : (h : Frame) (samples pairs fs : List Frame) {r : ℕ} → final h samples pairs fs ≡ refused r → r ≡ 12
 unfolding final
 final-only h samples pairs fs {r} e =
     only-by (isEnd fs) (answered (described h samples pairs)) e (λ g. let z : _≡_ {A = ℕ} 0 1 = cc in absurd (omega arith))
 
-in-only : (fs : List Frame) {r : Refusal} → lotIn fs ≡ refused r → r ≡ refusal.Frame
+in-only : (fs : List Frame) {r : ℕ} → lotIn fs ≡ refused r → r ≡ 12
 unfolding lotIn from-samples from-pairs final
 in-only fs e =
     let n = head fs .first in

@@ -1,4 +1,4 @@
--- Laws of pairs: what the marks and the cells of the matrix hold after each. Assumes nothing.
+-- Laws of pairs: what the marks and the cells of the matrix hold after each.
 use Prim.Native.Nat.{ℕ, zero, suc, _+_, _-_, _*_, _/_, _%_, _<_, _≤_}
 use mathlib.Core.Path.{_≡_, refl, sym, ap, ap₂, _∙_, subst}
 use mathlib.Core.Bool.{Bool, true, false, not, _&&_, _||_, cond, false≢true, true≢false}

@@ -1,4 +1,4 @@
--- Laws of the whole text: its lot by the stages that were reached. Assumes nothing.
+-- Laws of the whole text: its lot by the stages that were reached.
 use Prim.Native.Nat.{ℕ, _≤_}
 use native.Mathlib.Omega.{arith}
 use lib.Dec.{eqb, leb}
@@ -13,6 +13,7 @@ use Rattle.lists.specs.Ranges.{grid}
 use Rattle.lists.specs.Writes.{over, cleared}
 use Rattle.outcome.specs.Outcome.{Outcome, answered, refused, andThen}
 use Rattle.outcome.specs.declared.Refusal.{Refusal}
+use Rattle.outcome.specs.Numbers.{number}
 use Rattle.lot.specs.Lot.{Lot}
 use Rattle.text_lines.specs.Places.{head, tail, isEnd, framesFrom}
 use Rattle.frames.specs.Frames.{isHeader, isSample, isPair, pairCount, malformed, Taken, several, distance, described, lotIn, readLot}
@@ -129,14 +130,14 @@ module _ (text : List ℕ) where
   unfolding ReadBy
   whole-read l s d {r} {h} t e = ap (λ (r : Answer). called r l s d) e ∙ called-read (subst (ReadBy text l s d) e t)
 
-  called-refused : {x : Refusal} → readLot text ≡ refused x → called (Refused x) noNumbers noNumbers noDistances ≡ readCall text
+  called-refused : (x : Refusal) → readLot text ≡ refused (number x) → called (Refused x) noNumbers noNumbers noDistances ≡ readCall text
   unfolding readCall leaves held andThen
-  called-refused e = ap leaves (sym e)
+  called-refused x e = ap leaves (sym e)
 
   pub whole-refused : (l s : List ℕ) (d : List Float) {r : Answer} {x : Refusal} {l′ s′ : List ℕ} {d′ : List Float} → ReadBy text l s d r → r ≡ Refused x →
       Cleared l′ s′ d′ → called r l′ s′ d′ ≡ readCall text
   unfolding ReadBy
-  whole-refused l s d {r} {x} t e c = rw (e, c .labels, c .strata, c .distances) (called-refused (subst (ReadBy text l s d) e t))
+  whole-refused l s d {r} {x} t e c = rw (e, c .labels, c .strata, c .distances) (called-refused x (subst (ReadBy text l s d) e t))
 
 -- slices that were cleared by their lengths
 pub cleared-all : (l s : List ℕ) (d : List Float) {l′ s′ : List ℕ} {d′ : List Float} → Room l s d → l′ ≡ cleared 0 l → s′ ≡ cleared 0 s → d′ ≡ cleared zero⁺ d → Cleared l′ s′ d′

@@ -1,5 +1,4 @@
 -- Laws of frames taken one after the other. A loop takes m frames by a test from place `from` on, and after k of them stands at place `at`.
--- Assumes nothing.
 use Prim.Native.Nat.{ℕ, suc, _+_, _-_, _<_, _≤_}
 use mathlib.Core.Path.{_≡_, refl, sym, ap, _∙_}
 use mathlib.Core.Bool.{Bool, true, false, _&&_, cond}

@@ -7,6 +7,7 @@ use lib.Ieee.{Float}
 use Rattle.float.specs.Floats.{zero⁺}
 use Rattle.lists.specs.Writes.{over}
 use Rattle.outcome.specs.Outcome.{Outcome, answered, refused, andThen}
+use Rattle.outcome.specs.Numbers.{number}
 use Rattle.lot.specs.Lot.{Lot, lotOf}
 use Rattle.frames.specs.Frames.{readLot}
 use Rattle.frames.specs.declared.Header.{Header}
@@ -52,7 +53,7 @@ readCall text = leaves (readLot text)
 
 abbrev pub outcomeOf : Answer → Outcome Header
 outcomeOf (Read h) = answered h
-outcomeOf (Refused r) = refused r
+outcomeOf (Refused r) = refused (number r)
 
 abbrev pub called : Answer → List ℕ → List ℕ → List Float → Called
 called r labels strata distances = record { answer = outcomeOf r; labels = labels; strata = strata; distances = distances }

@@ -8,7 +8,6 @@ use lib.Ieee.{Float}
 use Rattle.float.specs.Floats.{f64, zero⁺}
 use Rattle.lists.specs.Ranges.{grid}
 use Rattle.lists.specs.Filters.{any}
-use Rattle.outcome.specs.declared.Refusal.the-variants as refusal
 use Rattle.outcome.specs.Outcome.{Outcome, answered, refused, andThen}
 use Rattle.lot.specs.Lot.{Lot, lotOf}
 use Rattle.reader.specs.declared.Frame.{Frame}
@@ -41,7 +40,7 @@ pairCount n = (n * n - n) / 2
 
 -- 12: a frame is malformed, missing or repeated
 abbrev pub malformed : {A : Type 0} → Outcome A
-malformed = refused refusal.Frame
+malformed = refused 12
 
 -- the frames taken, and those that follow them
 pub record Taken : Type 0 where

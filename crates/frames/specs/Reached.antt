@@ -9,6 +9,7 @@ use lib.Ieee.{Float}
 use Rattle.lists.specs.Ranges.{grid}
 use Rattle.lists.specs.Writes.{over}
 use Rattle.outcome.specs.Outcome.{Outcome, answered, refused}
+use Rattle.outcome.specs.Numbers.{number}
 use Rattle.lot.specs.Lot.{Lot}
 use Rattle.reader.specs.declared.Frame.{Frame}
 use Rattle.text_lines.specs.Places.{head, tail, framesFrom}
@@ -76,4 +77,4 @@ pub record Reads (text : List ℕ) (h : Header) (l s : List ℕ) (d : List Float
 
 unfoldable pub ReadBy : List ℕ → List ℕ → List ℕ → List Float → Answer → Type 0
 ReadBy text l s d (Read h) = Reads text h l s d
-ReadBy text l s d (Refused r) = readLot text ≡ refused r
+ReadBy text l s d (Refused r) = readLot text ≡ refused (number r)

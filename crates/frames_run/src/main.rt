@@ -1,7 +1,7 @@
 // Reads texts as `lotjudge` does and writes a line for each: n, whether strata are given, the labels and strata of the first two samples, the first
 // four distances and a sum over all that is held; or the refusal's number; then what `judge` prints. Last it prints verdicts and refusals.
-// Standard input has the texts, each as NAME|TEXT#; two of 1 MiB are made here. The file `stdout` was made by oracle/frames.py, which reads them by
-// its own rules.
+// The files under data/ have the texts, each as NAME|TEXT#; two of 1 MiB are made here. The file `stdout` was made by oracle/frames.py, which reads
+// them by its own rules.
 ghost use mathlib.Core.Path.{_≡_};
 ghost use Prim.Native.Nat.{_+_, _<_, _≤_, min};
 ghost use lib.ListN.{length};
@@ -9,7 +9,6 @@ use every_way::Answer;
 use judgement::Assigned;
 use judgement::Judgement;
 use judgement::Tested;
-use libc::STDIN_FILENO;
 use libc::STDOUT_FILENO;
 use outcome::Refusal;
 use statistics::Statistic;
@@ -162,6 +161,15 @@ fn replay(input: &[u8]) {
     }
 }
 
+// All texts of a file of at most 65,536 bytes.
+fn file(path: &[u8]) {
+    let mut input = io::large_buffer();
+    let fd = os::open_read(path);
+    let n = io::read_full(fd, &mut input);
+    libc::close(fd);
+    replay(&input[..n]);
+}
+
 // ---- longer than any text that describes a lot
 
 fn show_large(text: &[u8; 1048576]) {
@@ -238,9 +246,8 @@ fn refusals() {
 }
 
 fn main() {
-    let mut input = io::large_buffer();
-    let n = io::read_full(STDIN_FILENO, &mut input);
-    replay(&input[..n]);
+    file(b"forms");
+    file(b"lots");
     zero_bytes();
     zero_digits();
     verdicts();

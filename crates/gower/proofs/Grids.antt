@@ -1,4 +1,4 @@
--- A matrix filled row after row by a rule for its entries, and one that is centred in its place. Assumes nothing.
+-- A matrix filled row after row by a rule for its entries, and one that is centred in its place.
 use mathlib.Core.Path.{_≡_, ap, ap₂, _∙_}
 use mathlib.Core.List.{List}
 use Prim.Native.Nat.{ℕ, _+_, _-_, _*_, _<_, _≤_}

@@ -1,29 +1,32 @@
--- The answer of `check_gram` and the whole call of `gram_matrix`: the lines may be asked in two parts, and no refusal touches what is lent. Assumes nothing.
-use mathlib.Core.Path.{_≡_, refl, sym, ap, ap₂, _∙_}
+-- The answer of `check_gram` and the whole call of `gram_matrix`: the lines may be asked in two parts, and no refusal touches what is lent.
+use mathlib.Core.Path.{_≡_, refl, sym, ap, ap₂, _∙_, subst}
 use mathlib.Core.Bool.{Bool, true, false, cond}
 use mathlib.Core.List.{List, map}
 use Prim.Native.Nat.{ℕ, _*_, _≤_}
 use native.Mathlib.Omega.{arith}
-use lib.ListN.{length, take, replicate, length-map}
-use lib.Seq.{take-all}
+use lib.ListN.{length, take, replicate}
 use lib.Ieee.{Float}
 use Rattle.float.specs.Floats.{zero⁺}
+use Rattle.lists.specs.Filters.{all}
 use Rattle.lists.specs.Writes.{over, cleared}
 use Rattle.outcome.specs.declared.Refusal.{Refusal}
-use Rattle.outcome.specs.declared.Check.{Check}
-use Rattle.outcome.specs.declared.Check.the-variants.{Passed, Refused}
 use Rattle.outcome.specs.Refusals.{first}
-use Rattle.outcome.specs.Outcome.{Outcome, answered, refused, judged}
+use Rattle.outcome.specs.Outcome.{Outcome, Told, answered, refused, passed, judged}
+use Rattle.outcome.specs.Numbers.{number}
 use Rattle.outcome.specs.Slices.{untouched, output, work}
 use Rattle.hashes.specs.Selected.{selected, frequency}
-use Rattle.hashes.specs.Columns.{Chosen}
+use Rattle.hashes.specs.Columns.{columnOf}
+use Rattle.hashes.specs.Stretches.{Selection, Climbs}
+use Rattle.hashes.proofs.Stretches.{upward-selected}
+use Rattle.hashes.proofs.Lookup.{upward-climbs}
 use Rattle.sets.specs.Lines.{tooShort, gramLines, earlyLines, lateLines}
 use Rattle.columns.specs.Columns.{columnGram}
 use Rattle.gram.specs.declared.Answer.{Answer}
 use Rattle.gram.specs.declared.Answer.the-variants as answer
 use Rattle.gram.specs.Gram.{gram}
-use Rattle.gram.specs.Call.{features, outcomeOf, Checked, Called, leaves, gramCall, called}
-use Rattle.sets.proofs.Tables.{early-refuses, early-passes, refusal-untouched, answers, judged-passes, judged-refused}
+use Rattle.gram.specs.Call.{features, outcomeOf, Checked, Called, leaves, matrixCall, gramCall, called}
+use Rattle.outcome.proofs.Table.{first-before, first-after, first-untouched}
+use Rattle.sets.proofs.Tables.{judged-passes, judged-refused}
 use Rattle.sets.proofs.Accepted.{Accepted, accepted, late-passes}
 use Rattle.gram.proofs.Columns.{gram-is}
 
@@ -33,101 +36,103 @@ module _ (n : ℕ) (hashes offsets : List ℕ) (short beyond : Bool) where
   abbrev count : ℕ
   count = length (selected n hashes)
 
-  abbrev asked : Check
+  abbrev asked : Told
   asked = first (earlyLines n (length hashes) offsets short beyond)
 
-  pub features-early : (r : Refusal) → asked ≡ Refused r → refused r ≡ features n hashes offsets short beyond
+  pub features-early : {k : ℕ} → refused k ≡ asked → refused k ≡ features n hashes offsets short beyond
   unfolding features gramLines
-  features-early r e =
-      ap (λ (t : Check). judged t (answered count)) (sym (early-refuses (earlyLines n (length hashes) offsets short beyond) (lateLines count) r e))
+  features-early e =
+      ap (λ (t : Told). judged t (answered count)) (sym (first-before (earlyLines n (length hashes) offsets short beyond) (lateLines count) (sym e)))
 
-  pub features-late : asked ≡ Passed → judged (first (lateLines count)) (answered count) ≡ features n hashes offsets short beyond
+  pub features-late : passed ≡ asked → judged (first (lateLines count)) (answered count) ≡ features n hashes offsets short beyond
   unfolding features gramLines
   features-late e =
-      ap (λ (t : Check). judged t (answered count)) (sym (early-passes (earlyLines n (length hashes) offsets short beyond) (lateLines count) e))
+      ap (λ (t : Told). judged t (answered count)) (sym (first-after (earlyLines n (length hashes) offsets short beyond) (lateLines count) (sym e)))
 
 -- a refusal is no number
 not-features : {A : Type 0} (r : Refusal) (m : ℕ) → answer.Refused r ≡ answer.Features m → A
-not-features r m e = let z : _≡_ {A = ℕ} 0 1 = ap (λ (t : Answer). cond (answers (outcomeOf t)) 1 0) e in absurd (omega arith)
+not-features r m e = let z : _≡_ {A = ℕ} 0 1 = cc in absurd (omega arith)
 
 -- ---- `check_gram`
 
 module _ (n : ℕ) (hashes offsets : List ℕ) (short beyond : Bool) where
-  pub checked-early : (r : Refusal) (columns : List ℕ) (means : List Float) → Refused r ≡ asked n hashes offsets short beyond
-      → Checked n hashes offsets short beyond (answer.Refused r) columns means
-  checked-early r columns means e =
+  pub checked-early : (r : Refusal) (chosen : List ℕ) (means : List Float) → refused (number r) ≡ asked n hashes offsets short beyond
+      → Checked n hashes offsets short beyond (answer.Refused r) chosen means
+  checked-early r chosen means e =
       record {
-        told = features-early n hashes offsets short beyond r (sym e);
-        placed = λ m q. not-features r m q;
+        told = features-early n hashes offsets short beyond e;
+        stored = λ m q. not-features r m q;
         averages = λ m q. not-features r m q;
       }
 
-  pub checked-late : {r : Answer} {m room : ℕ} {part columns : List ℕ} {means : List Float} → Passed ≡ asked n hashes offsets short beyond
-      → Chosen n hashes m part room means → outcomeOf r ≡ judged (first (lateLines m)) (answered m) → take (length hashes) columns ≡ part → 4096 ≤ room
-      → Checked n hashes offsets short beyond r columns means
-  checked-late {r} {m} {room} {part} {columns} {means} e c f g h =
+  pub checked-late : {r : Answer} {m : ℕ} {chosen : List ℕ} {means : List Float} → passed ≡ asked n hashes offsets short beyond
+      → Selection n hashes m chosen means → outcomeOf r ≡ judged (first (lateLines m)) (answered m) → 4096 ≤ length chosen → 4096 ≤ length means
+      → Checked n hashes offsets short beyond r chosen means
+  checked-late {r} {m} {chosen} {means} e c f g h =
       record {
-        told = f ∙ ap (λ (k : ℕ). judged (first (lateLines k)) (answered k)) (c .counted) ∙ features-late n hashes offsets short beyond (sym e);
-        placed = λ k q. g ∙ c .placed;
-        averages = λ k q. stored k (late-passes k m (sym (ap outcomeOf q) ∙ f));
+        told = f ∙ ap (λ (k : ℕ). judged (first (lateLines k)) (answered k)) (c .counted) ∙ features-late n hashes offsets short beyond e;
+        stored = λ k q. let p = late-passes k m (sym (ap outcomeOf q) ∙ f) in ap (λ (j : ℕ). take j chosen) (p .0) ∙ c .stored (omega (arith, p .1));
+        averages = λ k q. let p = late-passes k m (sym (ap outcomeOf q) ∙ f) in ap (λ (j : ℕ). take j means) (p .0) ∙ c .averages (omega (arith, p .1));
       }
-    where
-      stored : (k : ℕ) → (k ≡ m) × (m ≤ 4096) → take k means ≡ map (frequency n hashes) (selected n hashes)
-      stored k p =
-          ap (λ (j : ℕ). take j means) (p .0) ∙ c .averages
-          ∙ take-all room (map (frequency n hashes) (selected n hashes)) (omega (arith, length-map (selected n hashes) (frequency n hashes), c .counted, p .1))
 
   -- an answer that is a number of hashes: they are so many, and no line holds
-  pub checked-answer : {r : Answer} {columns : List ℕ} {means : List Float} {m : ℕ} → Checked n hashes offsets short beyond r columns means → r ≡ answer.Features m
+  pub checked-answer : {r : Answer} {chosen : List ℕ} {means : List Float} {m : ℕ} → Checked n hashes offsets short beyond r chosen means → r ≡ answer.Features m
       → (m ≡ length (selected n hashes)) × Accepted n hashes offsets short beyond
   unfolding features
   checked-answer {m = m} c e =
       let p = judged-passes (first (gramLines n hashes offsets short beyond)) m (length (selected n hashes)) (sym (ap outcomeOf e) ∙ c .told) in
       (p .1, accepted n hashes offsets short beyond (p .0))
 
+  -- the hashes that were left go upward
+  pub checked-climbs : {r : Answer} {chosen : List ℕ} {means : List Float} {m : ℕ} → Checked n hashes offsets short beyond r chosen means → r ≡ answer.Features m → Climbs (take m chosen)
+  checked-climbs {m = m} c e = subst (λ (l : List ℕ). Climbs l) (sym (c .stored m e)) (upward-climbs (selected n hashes) (upward-selected n hashes))
+
   -- the matrix that `fill_gram` makes of what was left
-  pub checked-gram : {r : Answer} {columns : List ℕ} {means : List Float} {m : ℕ} → Checked n hashes offsets short beyond r columns means → r ≡ answer.Features m
-      → columnGram n (take (length hashes) columns) offsets (take m means) ≡ gram n hashes offsets
+  pub checked-gram : {r : Answer} {chosen : List ℕ} {means : List Float} {m : ℕ} → Checked n hashes offsets short beyond r chosen means → r ≡ answer.Features m
+      → columnGram n (map (columnOf (take m chosen)) hashes) offsets (take m means) ≡ gram n hashes offsets
   checked-gram {m = m} c e =
-      ap₂ (λ (x : List ℕ) (y : List Float). columnGram n x offsets y) (c .placed m e) (c .averages m e) ∙ gram-is n hashes offsets (checked-answer c e .1 .most)
+      ap₂ (λ (x : List ℕ) (y : List Float). columnGram n (map (columnOf x) hashes) offsets y) (c .stored m e) (c .averages m e) ∙ gram-is n hashes offsets (checked-answer c e .1 .most)
 
--- ---- `gram_matrix`
+-- ---- the whole call
 
-module _ (n : ℕ) (hashes offsets : List ℕ) (out : List Float) (words : List ℕ) where
-  abbrev tight : Bool
-  tight = tooShort n (length out) (length words)
-
+module _ (n : ℕ) (hashes offsets : List ℕ) (short beyond : Bool) (out : List Float) (words : List ℕ) where
   abbrev outcome : Outcome ℕ
-  outcome = features n hashes offsets tight false
+  outcome = features n hashes offsets short beyond
 
   abbrev left : Outcome ℕ → Called
   left o = leaves o (output zero⁺ (λ m. gram n hashes offsets) (n * n) o out) (work 0 o words)
 
   -- the refusals of these lines leave everything untouched
-  keeps : (r : Refusal) → refused r ≡ outcome → untouched r ≡ true
-  unfolding features gramLines earlyLines lateLines
-  keeps r e =
-      let lines = gramLines n hashes offsets tight false in
-      refusal-untouched lines r (refl, (refl, (refl, (refl, (refl, tt))))) (judged-refused (first lines) r (length (selected n hashes)) e)
+  keeps : (k : ℕ) → refused k ≡ outcome → untouched k ≡ true
+  unfolding features gramLines earlyLines lateLines all
+  keeps k e =
+      let lines = gramLines n hashes offsets short beyond in
+      first-untouched lines refl (judged-refused (first lines) k (length (selected n hashes)) e)
 
-  pub call-refused : {a : Answer} (r : Refusal) → a ≡ answer.Refused r → outcomeOf a ≡ outcome → called a out words ≡ gramCall n hashes offsets out words
-  unfolding gramCall output work
+  pub call-refused : {a : Answer} (r : Refusal) → a ≡ answer.Refused r → outcomeOf a ≡ outcome → called a out words ≡ matrixCall n hashes offsets short beyond out words
+  unfolding matrixCall output work
   call-refused {a} r e told =
-      let same : refused r ≡ outcome = sym (ap outcomeOf e) ∙ told in
-      let stays = keeps r same in
+      let same : refused (number r) ≡ outcome = sym (ap outcomeOf e) ∙ told in
+      let stays = keeps (number r) same in
       ap (λ (t : Answer). called t out words) e
-      ∙ ap₂ (λ (x : List Float) (y : List ℕ). leaves (refused r) x y)
+      ∙ ap₂ (λ (x : List Float) (y : List ℕ). leaves (refused (number r)) x y)
       (sym (ap (λ (b : Bool). cond b out (over (replicate (n * n) zero⁺) out)) stays))
       (sym (ap (λ (b : Bool). cond b words (cleared 0 words)) stays))
       ∙ ap left same
 
-  pub call-answered : {a : Answer} {columns : List ℕ} {means : List Float} (m : ℕ) {out′ : List Float} {words′ : List ℕ}
-      → Checked n hashes offsets tight false a columns means → a ≡ answer.Features m
-      → out′ ≡ over (columnGram n (take (length hashes) columns) offsets (take m means)) out → words′ ≡ cleared 0 words
-      → called a out′ words′ ≡ gramCall n hashes offsets out words
-  unfolding gramCall output work
+  pub call-answered : {a : Answer} {chosen : List ℕ} {means : List Float} (m : ℕ) {out′ : List Float} {words′ : List ℕ}
+      → Checked n hashes offsets short beyond a chosen means → a ≡ answer.Features m
+      → out′ ≡ over (columnGram n (map (columnOf (take m chosen)) hashes) offsets (take m means)) out → words′ ≡ cleared 0 words
+      → called a out′ words′ ≡ matrixCall n hashes offsets short beyond out words
+  unfolding matrixCall output work
   call-answered {a} m {out′} {words′} c e f g =
       let same : answered m ≡ outcome = sym (ap outcomeOf e) ∙ c .told in
       ap (λ (t : Answer). called t out′ words′) e
-      ∙ ap₂ (λ (x : List Float) (y : List ℕ). leaves (answered m) x y) (f ∙ ap (λ (x : List Float). over x out) (checked-gram n hashes offsets tight false c e)) g
+      ∙ ap₂ (λ (x : List Float) (y : List ℕ). leaves (answered m) x y) (f ∙ ap (λ (x : List Float). over x out) (checked-gram n hashes offsets short beyond c e)) g
       ∙ ap left same
+
+-- `gram_matrix` is that, by its own lengths
+pub call-is : (n : ℕ) (hashes offsets : List ℕ) (out : List Float) (words : List ℕ) {short : Bool} {c : Called} → short ≡ tooShort n (length out) (length words)
+    → c ≡ matrixCall n hashes offsets short false out words → c ≡ gramCall n hashes offsets out words
+unfolding matrixCall gramCall
+call-is n hashes offsets out words e h = h ∙ ap (λ (s : Bool). matrixCall n hashes offsets s false out words) e

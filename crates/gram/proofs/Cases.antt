@@ -1,4 +1,4 @@
--- Worked sets as theorems: case (j) of document 01, and a set with repeats. Assumes nothing.
+-- Worked sets as theorems: case (j) of document 01, and a set with repeats.
 use Prim.Native.Nat.{ℕ, _≤_}
 use mathlib.Core.Path.{_≡_, refl}
 use mathlib.Core.List.{List, [], _∷_, map}

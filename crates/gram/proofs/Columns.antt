@@ -1,13 +1,13 @@
--- The matrix depends on columns alone: that of the columns is the Gram matrix of the hashes. Assumes nothing.
+-- The matrix depends on columns alone: that of the columns is the Gram matrix of the hashes.
 use mathlib.Core.Path.{_≡_, refl, sym, ap, ap₂, _∙_}
 use mathlib.Core.Bool.{Bool, true, false, _&&_, _||_, cond}
 use mathlib.Core.Logic.{_⊎_, inl, inr}
 use mathlib.Core.List.{List, [], _∷_, map}
-use Prim.Native.Nat.{ℕ, _+_, _-_, _<_, _≤_, min, max}
+use Prim.Native.Nat.{ℕ, _+_, _<_, _≤_, min, max}
 use native.Mathlib.Omega.{arith}
 use borrow.Author.Tests.{eq-eqb, ne-eqb, lt-ltb, le-ltb}
 use lib.Dec.{eqb, ltb}
-use lib.ListN.{length, getD, take, drop, length-map}
+use lib.ListN.{length, getD, drop, length-map}
 use lib.Ieee.{Float, nan}
 use Rattle.float.specs.Floats.{_⊕_, _⊖_, num, zero⁻}
 use Rattle.lists.specs.Ranges.{range, grid}
@@ -20,13 +20,14 @@ use Rattle.lists.proofs.Counts.{count-places, count-below}
 use Rattle.lists.proofs.Truths.{same-or-not, never}
 use Rattle.lists.proofs.Grids.{grid-ext}
 use Rattle.lists.proofs.Tallies.{stands-cons}
-use Rattle.lists.proofs.Parts.{drop-map, take-map, getD-map-in}
+use Rattle.lists.proofs.Parts.{getD-map-in}
 use Rattle.hashes.specs.Selected.{selected, frequency}
 use Rattle.hashes.specs.Columns.{none, columnOf}
 use Rattle.lists.proofs.Upward.{Upward, upward-upward}
 use Rattle.hashes.proofs.Upward.{position-at, stands-at}
 use Rattle.sets.specs.Sets.{setAt, sets}
 use Rattle.columns.specs.Columns.{square, columnSum, columnGram}
+use Rattle.columns.proofs.Marks.{set-columns}
 use Rattle.gram.specs.Gram.{meanSum, shared, gram}
 
 -- ---- a hash and its column
@@ -137,19 +138,13 @@ module _ (n : ℕ) (hashes offsets : List ℕ) (few : length (selected n hashes)
   unfolding selected
   upward-chosen = upward-upward _
 
-  set-columns : (i : ℕ) → setAt columns offsets i ≡ map (columnOf chosen) (setAt hashes offsets i)
-  unfolding setAt
-  set-columns i =
-      ap (take (getD offsets (i + 1) 0 - getD offsets i 0)) (drop-map (columnOf chosen) (getD offsets i 0) hashes)
-      ∙ take-map (columnOf chosen) (getD offsets (i + 1) 0 - getD offsets i 0) (drop (getD offsets i 0) hashes)
-
   sum-columns : (i : ℕ) → columnSum means (setAt columns offsets i) ≡ meanSum n hashes chosen (setAt hashes offsets i)
   unfolding columnSum meanSum
-  sum-columns i = ap (columnSum means) (set-columns i) ∙ ap (sumFrom zero⁻) (means-are chosen upward-chosen few (frequency n hashes) (setAt hashes offsets i))
+  sum-columns i = ap (columnSum means) (set-columns chosen hashes offsets i) ∙ ap (sumFrom zero⁻) (means-are chosen upward-chosen few (frequency n hashes) (setAt hashes offsets i))
 
   shared-sets : (i j : ℕ) → countIf (λ c. stands c (setAt columns offsets i) && stands c (setAt columns offsets j)) (range 0 (length means)) ≡ shared chosen (setAt hashes offsets i) (setAt hashes offsets j)
   shared-sets i j =
-      ap₂ (λ (s t : List ℕ). countIf (λ c. stands c s && stands c t) (range 0 (length means))) (set-columns i) (set-columns j)
+      ap₂ (λ (s t : List ℕ). countIf (λ c. stands c s && stands c t) (range 0 (length means))) (set-columns chosen hashes offsets i) (set-columns chosen hashes offsets j)
       ∙ ap (λ (m : ℕ). countIf (λ c. stands c (map (columnOf chosen) (setAt hashes offsets i)) && stands c (map (columnOf chosen) (setAt hashes offsets j))) (range 0 m)) (length-map chosen (frequency n hashes))
       ∙ shared-columns chosen upward-chosen few (setAt hashes offsets i) (setAt hashes offsets j)
 

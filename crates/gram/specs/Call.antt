@@ -7,13 +7,13 @@ use lib.ListN.{length, take}
 use lib.Ieee.{Float}
 use Rattle.float.specs.Floats.{zero⁺}
 use Rattle.outcome.specs.Refusals.{first}
+use Rattle.outcome.specs.Numbers.{number}
 use Rattle.outcome.specs.Outcome.{Outcome, answered, refused, judged}
 use Rattle.outcome.specs.Slices.{output, work}
 use Rattle.gram.specs.declared.Answer.{Answer}
 use Rattle.gram.specs.declared.Answer.the-variants.{Features, Refused}
 use Rattle.hashes.specs.Selected.{selected, frequency}
 use Rattle.gram.specs.Gram.{gram}
-use Rattle.hashes.specs.Columns.{columnOf}
 use Rattle.sets.specs.Lines.{tooShort, gramLines}
 
 -- the answer for any arguments: the number of selected hashes, or a refusal
@@ -23,18 +23,25 @@ features n hashes offsets short beyond = judged (first (gramLines n hashes offse
 -- the answer as it is returned
 abbrev pub outcomeOf : Answer → Outcome ℕ
 outcomeOf (Features m) = answered m
-outcomeOf (Refused r) = refused r
+outcomeOf (Refused r) = refused (number r)
 
--- What `check_gram` leaves: the answer, and where it is a number of hashes, each hash's column and the columns' means, in front of what it was lent.
-pub record Checked (n : ℕ) (hashes offsets : List ℕ) (short beyond : Bool) (r : Answer) (columns : List ℕ) (means : List Float) : Type 0 where
+-- What `check_gram` leaves: the answer, and where it is a number of hashes, these and their means, in front of what it was lent.
+pub record Checked (n : ℕ) (hashes offsets : List ℕ) (short beyond : Bool) (r : Answer) (chosen : List ℕ) (means : List Float) : Type 0 where
   pub told : outcomeOf r ≡ features n hashes offsets short beyond
-  pub placed : (m : ℕ) → r ≡ Features m → take (length hashes) columns ≡ map (columnOf (selected n hashes)) hashes
+  pub stored : (m : ℕ) → r ≡ Features m → take m chosen ≡ selected n hashes
   pub averages : (m : ℕ) → r ≡ Features m → take m means ≡ map (frequency n hashes) (selected n hashes)
 
 -- ---- the whole call: the answer, the output and the work slice afterwards
 pub data Called : Type 0 where
   leaves : Outcome ℕ → List Float → List ℕ → Called
 
+-- of an operation that goes on with the matrix. `short` says that a slice of the operation is short, `beyond` that another of its arguments is beyond its limit
+unfoldable pub matrixCall : ℕ → List ℕ → List ℕ → Bool → Bool → List Float → List ℕ → Called
+matrixCall n hashes offsets short beyond b words =
+    let o = features n hashes offsets short beyond in
+    leaves o (output zero⁺ (λ m. gram n hashes offsets) (n * n) o b) (work 0 o words)
+
+-- of `gram_matrix`
 unfoldable pub gramCall : ℕ → List ℕ → List ℕ → List Float → List ℕ → Called
 gramCall n hashes offsets out words =
     let o = features n hashes offsets (tooShort n (length out) (length words)) false in

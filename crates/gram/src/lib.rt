@@ -1,15 +1,16 @@
 // `gram_matrix` (document 01, section 4): the centred Gram matrix of sets of hashes. It asks nothing of its arguments, and its contract equates the
-// whole outcome, the answer and the final contents of both lent slices, with `gramCall` of specs/Call.antt. `check_gram` and `columns::fill_gram`
-// are its two halves, for an operation that goes on with the matrix.
+// whole outcome, the answer and the final contents of both lent slices, with `gramCall` of specs/Call.antt. `matrix` is the same for an operation that
+// goes on with the matrix.
 use outcome::Check;
 use outcome::Refusal;
 ghost use mathlib.Core.Path.{_≡_};
-ghost use Prim.Native.Nat.{_≤_, min};
+ghost use mathlib.Core.Bool.{false};
+ghost use Prim.Native.Nat.{_*_, _≤_};
 ghost use lib.ListN.{length};
 ghost use Rattle.outcome.specs.Refusals.{first};
 ghost use Rattle.outcome.specs.Outcome.{answered, judged};
 ghost use Rattle.sets.specs.Lines.{lateLines};
-ghost use Rattle.gram.specs.Call.{outcomeOf, Checked, gramCall, called};
+ghost use Rattle.gram.specs.Call.{outcomeOf, Checked, matrixCall, gramCall, called};
 
 // The number of selected hashes, or why the sets are turned away.
 pub enum Answer {
@@ -28,11 +29,10 @@ fn counted(m: usize) -> Answer
     }
 }
 
-// Lines 1, 2, 6 and 7. `short` says that a slice of the operation is short, `beyond` that another of its arguments is beyond its limit. `order`,
-// `columns` and `means` lend room; where the answer is a number of hashes, each hash's column and the columns' means are left there for `fill_gram`.
-pub fn check_gram(
-    order: &mut [u16],
-    columns: &mut [u16],
+// Lines 1, 2, 6 and 7. `short` says that a slice of the operation is short, `beyond` that another of its arguments is beyond its limit. `chosen` and
+// `means` lend room; where the answer is a number of hashes, the selected hashes and their means are left there for `fill_gram`.
+fn check_gram(
+    chosen: &mut [u64],
     means: &mut [f64],
     hashes: &[u64],
     offsets: &[usize],
@@ -40,101 +40,82 @@ pub fn check_gram(
     short: bool,
     beyond: bool,
 ) -> Answer
-    requires { ⌜ (min (length (now hashes)) 65536 ≤ length (now order)) × (min (length (now hashes)) 65536 ≤ length (now columns)) × (4096 ≤ length (now means)) ⌝ }
-    ensures { λ r. ⌜ Checked n (now (hashes .entry)) (now (offsets .entry)) short beyond r (now (columns .exit)) (now (means .exit)) ⌝ }
+    requires { ⌜ (4096 ≤ length (now chosen)) × (4096 ≤ length (now means)) ⌝ }
+    ensures { λ r. ⌜ Checked n (now (hashes .entry)) (now (offsets .entry)) short beyond r (now (chosen .exit)) (now (means .exit)) ⌝ }
 {
     let e = sets::early(offsets, n, hashes.len(), short, beyond);
     match e {
         Check::Refused(r) => Answer::Refused(r),
         Check::Passed => {
-            let k = hashes.len();
-            let m = hashes::choose(&mut order[..k], &mut columns[..k], means, hashes, n);
+            let m = hashes::select(chosen, means, hashes, n);
             counted(m)
         }
     }
 }
 
-// The whole operation, with room lent.
-fn gram_in(
-    out: &mut [f64],
+// The lines of the table, and where none holds the Gram matrix, in front of `b`; the words are cleared then. `chosen`, `means` and `sums` lend room.
+fn matrix_in(
+    b: &mut [f64],
     words: &mut [u64],
-    order: &mut [u16],
-    columns: &mut [u16],
+    chosen: &mut [u64],
     means: &mut [f64],
     sums: &mut [f64],
     hashes: &[u64],
     offsets: &[usize],
     n: usize,
+    short: bool,
+    beyond: bool,
 ) -> Answer
-    requires { ⌜ (min (length (now hashes)) 65536 ≤ length (now order)) × (min (length (now hashes)) 65536 ≤ length (now columns)) ⌝ }
-    requires { ⌜ (4096 ≤ length (now means)) × (256 ≤ length (now sums)) ⌝ }
-    ensures { λ r. ⌜ called r (now (out .exit)) (now (words .exit))
-        ≡ gramCall n (now (hashes .entry)) (now (offsets .entry)) (now (out .entry)) (now (words .entry)) ⌝ }
+    requires { ⌜ (4096 ≤ length (now chosen)) × (4096 ≤ length (now means)) × (256 ≤ length (now sums)) ⌝ }
+    requires { ⌜ (short ≡ false → (n * n ≤ length (now b)) × (n * 64 ≤ length (now words))) ⌝ }
+    ensures { λ r. ⌜ called r (now (b .exit)) (now (words .exit))
+        ≡ matrixCall n (now (hashes .entry)) (now (offsets .entry)) short beyond (now (b .entry)) (now (words .entry)) ⌝ }
 {
-    let short = sets::too_short(n, out.len(), words.len());
-    let a = check_gram(order, columns, means, hashes, offsets, n, short, false);
+    let a = check_gram(chosen, means, hashes, offsets, n, short, beyond);
     let Answer::Features(m) = a else {
         return a;
     };
-    let k = hashes.len();
-    columns::fill_gram(out, words, sums, &columns[..k], &means[..m], offsets, n);
+    columns::fill_gram(
+        b,
+        words,
+        sums,
+        hashes,
+        &chosen[..m],
+        &means[..m],
+        offsets,
+        n,
+    );
     a
 }
 
-// Room for up to 4,096 hashes, 50 KiB of stack.
-fn gram_small(
-    out: &mut [f64],
+// The same, with 66 KiB of stack. Nothing lent may be written before the selection is known.
+pub fn matrix(
+    b: &mut [f64],
     words: &mut [u64],
     hashes: &[u64],
     offsets: &[usize],
     n: usize,
+    short: bool,
+    beyond: bool,
 ) -> Answer
-    requires { ⌜ length (now hashes) ≤ 4096 ⌝ }
-    ensures { λ r. ⌜ called r (now (out .exit)) (now (words .exit))
-        ≡ gramCall n (now (hashes .entry)) (now (offsets .entry)) (now (out .entry)) (now (words .entry)) ⌝ }
+    requires { ⌜ (short ≡ false → (n * n ≤ length (now b)) × (n * 64 ≤ length (now words))) ⌝ }
+    ensures { λ r. ⌜ called r (now (b .exit)) (now (words .exit))
+        ≡ matrixCall n (now (hashes .entry)) (now (offsets .entry)) short beyond (now (b .entry)) (now (words .entry)) ⌝ }
 {
-    let mut order = [0u16; 4096];
-    let mut columns = [0u16; 4096];
+    let mut chosen = [0u64; 4096];
     let mut means = [0.0; 4096];
     let mut sums = [0.0; 256];
-    gram_in(
-        out,
+    matrix_in(
+        b,
         words,
-        &mut order,
-        &mut columns,
+        &mut chosen,
         &mut means,
         &mut sums,
         hashes,
         offsets,
         n,
-    )
-}
-
-// Room for as many hashes as the table allows, 290 KiB of stack. Nothing lent may be written before their selection is known.
-fn gram_large(
-    out: &mut [f64],
-    words: &mut [u64],
-    hashes: &[u64],
-    offsets: &[usize],
-    n: usize,
-) -> Answer
-    ensures { λ r. ⌜ called r (now (out .exit)) (now (words .exit))
-        ≡ gramCall n (now (hashes .entry)) (now (offsets .entry)) (now (out .entry)) (now (words .entry)) ⌝ }
-{
-    let mut order = [0u16; 65536];
-    let mut columns = [0u16; 65536];
-    let mut means = [0.0; 4096];
-    let mut sums = [0.0; 256];
-    gram_in(
-        out,
-        words,
-        &mut order,
-        &mut columns,
-        &mut means,
-        &mut sums,
-        hashes,
-        offsets,
-        n,
+        short,
+        beyond,
     )
 }
 
@@ -149,8 +130,6 @@ pub fn gram_matrix(
     ensures { λ r. ⌜ called r (now (out .exit)) (now (words .exit))
         ≡ gramCall n (now (hashes .entry)) (now (offsets .entry)) (now (out .entry)) (now (words .entry)) ⌝ }
 {
-    if hashes.len() <= 4096 {
-        return gram_small(out, words, hashes, offsets, n);
-    }
-    gram_large(out, words, hashes, offsets, n)
+    let short = sets::too_short(n, out.len(), words.len());
+    matrix(out, words, hashes, offsets, n, short, false)
 }

@@ -1,3 +1,2 @@
 -- Section 4 of document 01: `hash_pca`.
-pub mod Matrix
 pub mod Call

@@ -1,4 +1,7 @@
--- The sorted hashes in runs, each as long as its hash is frequent.
+-- The selected hashes, stretch by stretch, each in runs as long as a hash is frequent; and a hash looked up among them.
 pub mod Upward
+pub mod Stores
 pub mod Runs
 pub mod Scans
+pub mod Stretches
+pub mod Lookup

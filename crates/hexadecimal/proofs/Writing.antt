@@ -1,4 +1,4 @@
--- Laws of writing: one digit more, and one text after another. Assumes nothing.
+-- Laws of writing: one digit more, and one text after another.
 use Prim.Native.Nat.{ℕ, zero, suc, _+_, _-_, _*_, _/_, _%_, _^_, _<_, _≤_}
 use mathlib.Core.Path.{_≡_, refl, sym, ap, ap₂, _∙_, subst}
 use mathlib.Core.List.{List, [], _∷_, _++_, append-assoc, append-nil}

@@ -34,11 +34,10 @@ pub fn count_hits(
     lists::clear_u16(counts);
     ways::fill_counts(strata, gs, f.groups, counts);
     walk::walk(
-        strata,
-        0,
         counts,
         &mut way[..m],
         scores,
+        strata,
         t,
         p,
         w,

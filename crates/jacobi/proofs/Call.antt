@@ -1,4 +1,4 @@
--- What a call finds, and what it leaves in everything lent. Assumes nothing.
+-- What a call finds, and what it leaves in everything lent.
 use mathlib.Core.Path.{_≡_, refl, sym, ap, ap₂, _∙_}
 use mathlib.Core.Bool.{Bool, true, false}
 use mathlib.Core.List.{List, _++_}
@@ -14,12 +14,9 @@ use Rattle.lists.specs.Filters.{any, all}
 use Rattle.lists.specs.Writes.{over, cleared}
 use Rattle.lists.proofs.Ranges.{length-rows}
 use Rattle.lists.proofs.Writes.{over-all}
-use Rattle.outcome.specs.declared.Refusal.{Refusal}
-use Rattle.outcome.specs.declared.Refusal.the-variants.{Length, Limit, Value, Unordered}
-use Rattle.outcome.specs.declared.Check.{Check}
-use Rattle.outcome.specs.declared.Check.the-variants as check
+use Rattle.outcome.specs.declared.Refusal.the-variants.{Unordered}
 use Rattle.outcome.specs.Refusals.{first, unfit, short}
-use Rattle.outcome.specs.Outcome.{Outcome, answered, refused, judged, andThen}
+use Rattle.outcome.specs.Outcome.{Outcome, Told, answered, refused, passed, judged, andThen}
 use Rattle.outcome.specs.Slices.{output, work, untouched}
 use Rattle.jacobi.specs.declared.Answer.{Answer}
 use Rattle.jacobi.specs.declared.Answer.the-variants.{Sweeps, Refused}
@@ -54,10 +51,10 @@ module _ (n : ℕ) (a : List Float) {m v d : List Float} {k : ℕ} (e : swept k 
   nan-there : {b : Bool} → any isNan d ≡ b → any isNan (diagonal n m) ≡ b
   nan-there t = ap (any isNan) (sym f) ∙ t
 
-  jacobi-unordered : any isNan d ≡ true → refused Unordered ≡ jacobi n a
+  jacobi-unordered : any isNan d ≡ true → refused 11 ≡ jacobi n a
   unfolding jacobi eigenpairs
   jacobi-unordered t =
-      let here : refused Unordered ≡ eigenpairs n (swept k (turned m v)) = rw (nan-there t, eigenpairs) in
+      let here : refused 11 ≡ eigenpairs n (swept k (turned m v)) = rw (nan-there t, eigenpairs) in
       here ∙ ap (eigenpairs n) e
 
   jacobi-ordered : any isNan d ≡ false → answered (record { values = valuesIn (descending d) d; vectors = vectorsIn (descending d) n v; sweeps = k }) ≡ jacobi n a
@@ -111,11 +108,11 @@ sweeps-read n (Sweeps k) out = refl
 sweeps-read n (Refused r) out = refl
 
 -- the eigenpairs are refused for a NaN alone
-pub only-unordered : (n : ℕ) (a : List Float) (r : Refusal) → refused r ≡ jacobi n a → r ≡ Unordered
+pub only-unordered : (n : ℕ) (a : List Float) (k : ℕ) → refused k ≡ jacobi n a → k ≡ 11
 unfolding jacobi eigenpairs
-only-unordered n a r e = by (any isNan (diagonal n (sweepsFrom 100 n 0 (turned a (identity n)) .left .matrix))) _ e
+only-unordered n a k e = by (any isNan (diagonal n (sweepsFrom 100 n 0 (turned a (identity n)) .left .matrix))) _ e
   where
-    by : (b : Bool) (found : Eigen) → _≡_ {A = Outcome Eigen} (refused r) (elim b as (λ b. Outcome Eigen) [ true ↦ refused Unordered | false ↦ answered found ]) → r ≡ Unordered
+    by : (b : Bool) (found : Eigen) → _≡_ {A = Outcome Eigen} (refused k) (elim b as (λ b. Outcome Eigen) [ true ↦ refused 11 | false ↦ answered found ]) → k ≡ 11
     by true found e = cc
     by false found e = cc
 
@@ -135,44 +132,46 @@ module _ (n : ℕ) (a out m v : List Float) where
   solved-leaves r {part} {m′} {v′} e many hm hv =
       let found = solved-found n a (take (n + n * n) out) r e in
       let answer : outcomeOf r ≡ sweepsOf (jacobi n a) = sweeps-read n r part ∙ ap sweepsOf found in
-      let first : part ++ drop (n + n * n) out ≡ written n (jacobi n a) out = output-front (λ e. e .values ++ e .vectors) (n + n * n) (jacobi n a) out many (solved-out n a (take (n + n * n) out) r e) in
+      let first : part ++ drop (n + n * n) out ≡ written n (jacobi n a) out =
+      output-front (λ e. e .values ++ e .vectors) (n + n * n) (jacobi n a) out many (solved-out n a (take (n + n * n) out) r e) in
       let m-is : m′ ≡ work zero⁺ (jacobi n a) m = hm ∙ jacobi-work n a m in
       let v-is : v′ ≡ work zero⁺ (jacobi n a) v = hv ∙ jacobi-work n a v in
       λ i. record { answer = answer i; out = first i; m = m-is i; v = v-is i }
 
   -- ---- a refused call leaves all as it was, and one that passes is what `jacobi` leaves
 
-  untouched-line : {e : Refusal} → check.Refused e ≡ first (jacobiLines n a (length out) (length m) (length v)) → untouched e ≡ true
+  untouched-line : {k : ℕ} → refused k ≡ first (jacobiLines n a (length out) (length m) (length v)) → untouched k ≡ true
   unfolding jacobiLines all
   untouched-line h = first-untouched (jacobiLines n a (length out) (length m) (length v)) refl h
 
-  pub call-refused : {e : Refusal} → check.Refused e ≡ first (jacobiLines n a (length out) (length m) (length v)) → called (Refused e) out m v ≡ jacobiCall n a out m v
+  pub call-refused : {k : ℕ} → refused k ≡ first (jacobiLines n a (length out) (length m) (length v))
+      → record { answer = refused k; out = out; m = m; v = v } ≡ jacobiCall n a out m v
   unfolding jacobiCall leaves sweepsOf andThen written output work
-  call-refused {e} h =
-      let kept : called (Refused e) out m v ≡ leaves n (refused e) out m v = rw (untouched-line h) in
-      kept ∙ ap (λ (c : Check). leaves n (judged c (jacobi n a)) out m v) h
+  call-refused {k} h =
+      let kept : record { answer = refused k; out = out; m = m; v = v } ≡ leaves n (refused k) out m v = rw (untouched-line h) in
+      kept ∙ ap (λ (t : Told). leaves n (judged t (jacobi n a)) out m v) h
 
-  pub call-passed : {c : Called} → check.Passed ≡ first (jacobiLines n a (length out) (length m) (length v)) → c ≡ leaves n (jacobi n a) out m v → c ≡ jacobiCall n a out m v
+  pub call-passed : {c : Called} → passed ≡ first (jacobiLines n a (length out) (length m) (length v)) → c ≡ leaves n (jacobi n a) out m v → c ≡ jacobiCall n a out m v
   unfolding jacobiCall
-  call-passed h e = e ∙ ap (λ (c : Check). leaves n (judged c (jacobi n a)) out m v) h
+  call-passed h e = e ∙ ap (λ (t : Told). leaves n (judged t (jacobi n a)) out m v) h
 
 -- ---- the lines of the table, one by one
 
 module _ (n : ℕ) (a : List Float) (out m v : ℕ) where
-  pub line-length : misfits n a out m v ≡ true → check.Refused Length ≡ first (jacobiLines n a out m v)
+  pub line-length : misfits n a out m v ≡ true → refused 1 ≡ first (jacobiLines n a out m v)
   unfolding jacobiLines first
   line-length h = rw h
 
   module _ (h : misfits n a out m v ≡ false) where
-    pub line-limit : ltb 256 n ≡ true → check.Refused Limit ≡ first (jacobiLines n a out m v)
+    pub line-limit : ltb 256 n ≡ true → refused 2 ≡ first (jacobiLines n a out m v)
     unfolding jacobiLines first
     line-limit g = rw (h, g)
 
-    pub line-value : ltb 256 n ≡ false → any notFinite a ≡ true → check.Refused Value ≡ first (jacobiLines n a out m v)
+    pub line-value : ltb 256 n ≡ false → any notFinite a ≡ true → refused 3 ≡ first (jacobiLines n a out m v)
     unfolding jacobiLines first
     line-value g f = rw (h, g, f)
 
-    pub line-none : ltb 256 n ≡ false → any notFinite a ≡ false → check.Passed ≡ first (jacobiLines n a out m v)
+    pub line-none : ltb 256 n ≡ false → any notFinite a ≡ false → passed ≡ first (jacobiLines n a out m v)
     unfolding jacobiLines first
     line-none g f = rw (h, g, f)
 
@@ -185,11 +184,11 @@ pub record Fits (n : ℕ) (a out m v : ℕ) : Type 0 where
   pub v-fits : n * n ≤ v
   pub n-fits : n ≤ 256
 
-pub passed-fits : (n : ℕ) (a : List Float) (out m v : ℕ) → check.Passed ≡ first (jacobiLines n a out m v) → Fits n (length a) out m v
+pub passed-fits : (n : ℕ) (a : List Float) (out m v : ℕ) → passed ≡ first (jacobiLines n a out m v) → Fits n (length a) out m v
 unfolding jacobiLines misfits short any
 passed-fits n a out m v e =
-    let one = first-passed Length _ (misfits n a out m v) e in
-    let two = first-passed Limit _ (ltb 256 n) (one .1) in
+    let one = first-passed 1 _ (misfits n a out m v) e in
+    let two = first-passed 2 _ (ltb 256 n) (one .1) in
     let lengths = or-neither (unfit a (n * n)) _ (one .0) in
     let o = or-neither (ltb out (n + n * n)) _ (lengths .1) in
     let w = or-neither (ltb m (n * n)) _ (o .1) in

@@ -1,4 +1,4 @@
--- Document 01's case (k), and one with a rotation, computed. Assumes nothing.
+-- Document 01's case (k), and one with a rotation, computed.
 use mathlib.Core.Path.{_≡_, refl}
 use mathlib.Core.List.{List, [], _∷_, _++_, zipWith}
 use lib.ListN.{replicate}

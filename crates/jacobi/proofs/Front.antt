@@ -1,4 +1,4 @@
--- The first part of a longer output was lent, and comes back. Assumes nothing.
+-- The first part of a longer output was lent, and comes back.
 use mathlib.Core.Path.{_≡_, ap, _∙_}
 use mathlib.Core.Bool.{Bool, true, false, cond}
 use mathlib.Core.List.{List, _++_}

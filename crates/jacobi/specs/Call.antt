@@ -7,8 +7,8 @@ use lib.ListN.{length, take, drop}
 use lib.Ieee.{Float}
 use Rattle.float.specs.Floats.{zero⁺}
 use Rattle.lists.specs.Filters.{any}
-use Rattle.outcome.specs.declared.Refusal.the-variants.{Length, Limit, Value}
 use Rattle.outcome.specs.Refusals.{Line, _when_, first, unfit, _of_, short}
+use Rattle.outcome.specs.Numbers.{number}
 use Rattle.outcome.specs.Outcome.{Outcome, answered, refused, judged, andThen}
 use Rattle.outcome.specs.Slices.{output, work}
 use Rattle.matrix.specs.Finite.{notFinite}
@@ -23,9 +23,9 @@ misfits n a out m v = unfit a (n * n) || short ((out of n + n * n) ∷ (m of n *
 -- lines 1 to 3 of the table
 unfoldable pub jacobiLines : ℕ → List Float → ℕ → ℕ → ℕ → List Line
 jacobiLines n a out m v =
-    (Length when misfits n a out m v)
-    ∷ (Limit when ltb 256 n)
-    ∷ (Value when any notFinite a)
+    (1 when misfits n a out m v)
+    ∷ (2 when ltb 256 n)
+    ∷ (3 when any notFinite a)
     ∷ []
 
 -- the sweeps made, of what is found
@@ -55,7 +55,7 @@ jacobiCall n a out m v = leaves n (judged (first (jacobiLines n a (length out) (
 
 abbrev pub outcomeOf : Answer → Outcome ℕ
 outcomeOf (Sweeps k) = answered k
-outcomeOf (Refused r) = refused r
+outcomeOf (Refused r) = refused (number r)
 
 abbrev pub called : Answer → List Float → List Float → List Float → Called
 called r out m v = record { answer = outcomeOf r; out = out; m = m; v = v }
@@ -64,7 +64,7 @@ called r out m v = record { answer = outcomeOf r; out = out; m = m; v = v }
 
 abbrev pub eigenOf : ℕ → Answer → List Float → Outcome Eigen
 eigenOf n (Sweeps k) out = answered (record { values = take n out; vectors = drop n out; sweeps = k })
-eigenOf n (Refused r) out = refused r
+eigenOf n (Refused r) out = refused (number r)
 
 pub record Solved : Type 0 where
   pub found : Outcome Eigen

@@ -1,4 +1,4 @@
--- From what `read_lot`, `judge_lot` and `print` leave to the meaning of the whole. Assumes nothing.
+-- From what `read_lot`, `judge_lot` and `print` leave to the meaning of the whole.
 use Prim.Native.Nat.{ℕ, _≤_}
 use mathlib.Core.Path.{_≡_, sym, ap, _∙_}
 use mathlib.Core.List.{List}
@@ -7,6 +7,7 @@ use lib.ListN.{length, take, drop, length-append}
 use lib.Ieee.{Float}
 use Rattle.lists.specs.Writes.{over}
 use Rattle.outcome.specs.declared.Refusal.{Refusal}
+use Rattle.outcome.specs.Numbers.{number}
 use Rattle.outcome.specs.Outcome.{Outcome, refused, andThen}
 use Rattle.lot.specs.Lot.{Lot}
 use Rattle.judgement.specs.declared.Judgement.{Judgement}
@@ -37,9 +38,9 @@ module _ (text : List ℕ) (a : frames.Answer) {l s : List ℕ} {d : List Float}
   of-lot {h} i j = j ∙ ap (λ (o : Outcome Lot). andThen o judgement) (sym (read-fronts text (this-read (Read h) i)))
 
   -- the text was refused
-  pub of-refusal : {x : Refusal} → a ≡ Refused x → _≡_ {A = Outcome Judgement} (refused x) (andThen (readLot text) judgement)
+  pub of-refusal : {x : Refusal} → a ≡ Refused x → _≡_ {A = Outcome Judgement} (refused (number x)) (andThen (readLot text) judgement)
   unfolding andThen
-  of-refusal {x} i = ap (λ (o : Outcome Lot). andThen o judgement) (sym (read-refused text (this-read (Refused x) i)))
+  of-refusal {x} i = ap (λ (o : Outcome Lot). andThen o judgement) (sym (read-refused text x (this-read (Refused x) i)))
 
 -- that is printed
 pub judged-text : (text out : List ℕ) {o : Outcome Judgement} {new : List ℕ} {size : ℕ} → o ≡ andThen (readLot text) judgement → page size new ≡ onto (printed o) out → page size new ≡ onto (judgeText text) out

@@ -1,4 +1,4 @@
--- From what `exhaustive` leaves to what is found of a lot that was read. Assumes nothing.
+-- From what `exhaustive` leaves to what is found of a lot that was read.
 use Prim.Native.Nat.{ℕ, _+_, _*_, _≤_}
 use mathlib.Core.Path.{_≡_, ap, _∙_}
 use mathlib.Core.Bool.{Bool, false, _||_}
@@ -10,11 +10,8 @@ use lib.ListN.{replicate}
 use borrow.Author.Tests.{le-ltb}
 use Rattle.float.specs.Floats.{zero⁺}
 use Rattle.lists.specs.Filters.{any}
-use Rattle.outcome.specs.declared.Refusal.the-variants.{Ways}
-use Rattle.outcome.specs.declared.Check.{Check}
-use Rattle.outcome.specs.declared.Check.the-variants.{Passed}
 use Rattle.outcome.specs.Refusals.{Line, _when_, first, short}
-use Rattle.outcome.specs.Outcome.{judged}
+use Rattle.outcome.specs.Outcome.{Told, passed, judged}
 use Rattle.outcome.proofs.Table.{first-after}
 use Rattle.lot.specs.Lot.{Lot}
 use Rattle.lot.specs.Lines.{misfits, sizeLines, matrixLines, labelLines, testLines}
@@ -39,13 +36,13 @@ roomy n h =
     rw (le-ltb 32 n h, le-ltb 1024 (n * n) q, le-ltb 272 (16 + 8 * n) (omega (arith, h)), le-ltb 1056 (n + n * n) (omega (arith, h, q)))
 
 -- of a lot that was read lines 1 and 2 do not hold
-sizes-pass : (lot : Lot) (short : Bool) → Fits lot → short ≡ false → first (sizeLines (misfits lot || short) (lot .n) false) ≡ Passed
+sizes-pass : (lot : Lot) (short : Bool) → Fits lot → short ≡ false → first (sizeLines (misfits lot || short) (lot .n) false) ≡ passed
 unfolding first
 sizes-pass lot short f e = rw (fits-well lot f, e, le-ltb 256 (lot .n) (omega (arith, f .few)))
 
 -- nor does 4
 rest : Lot → List Line
-rest lot = matrixLines (lot .distances) ++ labelLines (lot .labels) (lot .weighted) (lot .weights) ++ ((Ways when ltb mostWays (wayCount lot)) ∷ [])
+rest lot = matrixLines (lot .distances) ++ labelLines (lot .labels) (lot .weighted) (lot .weights) ++ ((8 when ltb mostWays (wayCount lot)) ∷ [])
 
 rest-left : (lot : Lot) → Fits lot → first (rest lot) ≡ first (lines lot)
 unfolding rest lines first
@@ -60,4 +57,4 @@ left-over lot s f e =
 pub judged-by : (lot : Lot) (r : Answer) {after : test.Slices} → Fits lot → test.called r after ≡ test.exhaustiveCall lot room → test.answerOf r ≡ judgement lot
 unfolding judgement test.exhaustiveCall test.callBy test.callIn test.outcomeOf
 judged-by lot r f e =
-    ap (λ (c : test.Called). c .answer) e ∙ ap (λ (k : Check). judged k (exhaustive lot)) (left-over lot room f (roomy (lot .n) (f .few)))
+    ap (λ (c : test.Called). c .answer) e ∙ ap (λ (k : Told). judged k (exhaustive lot)) (left-over lot room f (roomy (lot .n) (f .few)))

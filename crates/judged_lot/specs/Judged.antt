@@ -2,7 +2,6 @@
 use mathlib.Core.List.{List, [], _∷_}
 use lib.Dec.{ltb}
 use Rattle.lists.specs.Filters.{any}
-use Rattle.outcome.specs.declared.Refusal.the-variants.{Value, Labels, Ways}
 use Rattle.outcome.specs.Refusals.{Line, _when_, first}
 use Rattle.outcome.specs.Outcome.{Outcome, judged}
 use Rattle.lot.specs.Lot.{Lot}
@@ -15,9 +14,9 @@ use Rattle.every_way.specs.Exhaustive.{exhaustive}
 -- lines 3, 5 and 8; of a lot that was read 1, 2 and 4 never hold: its parts fit n, which is at most 32, and weights are 1
 unfoldable pub lines : Lot → List Line
 lines lot =
-    (Value when any badDistance (lot .distances))
-    ∷ (Labels when ltb (groupCount (lot .labels)) 2)
-    ∷ (Ways when ltb mostWays (wayCount lot))
+    (3 when any badDistance (lot .distances))
+    ∷ (5 when ltb (groupCount (lot .labels)) 2)
+    ∷ (8 when ltb mostWays (wayCount lot))
     ∷ []
 
 -- what is found of a lot: a refusal, or what the exhaustive test says

@@ -1,5 +1,5 @@
 -- What `dapc` answers for labels whose lengths fit: it refuses the coordinates whatever the way, or goes by the scores of the groups. A way of a lot can be
--- judged, and its statistics are those of the lot with the way's labels. Assumes nothing.
+-- judged, and its statistics are those of the lot with the way's labels.
 use mathlib.Core.Path.{_≡_, refl, sym, ap, ap₂, subst, _∙_}
 use mathlib.Core.Bool.{Bool, true, false, not, cond, _||_}
 use mathlib.Core.List.{List, [], _∷_, _++_}
@@ -12,11 +12,8 @@ use lib.ListN.{length, replicate, length-replicate}
 use lib.Ieee.{Float}
 use Rattle.float.specs.Floats.{zero⁺}
 use Rattle.lists.specs.Filters.{any}
-use Rattle.outcome.specs.declared.Check.{Check}
-use Rattle.outcome.specs.declared.Check.the-variants as check
-use Rattle.outcome.specs.declared.Refusal.the-variants.{Value, Columns}
 use Rattle.outcome.specs.Refusals.{first, short}
-use Rattle.outcome.specs.Outcome.{Outcome, answered, refused, judged, andThen}
+use Rattle.outcome.specs.Outcome.{Outcome, Told, passed, answered, refused, judged, andThen}
 use Rattle.lot.specs.Lot.{Lot, none}
 use Rattle.lot.specs.Kept.{kept, names, groups, groupEach, keptCount, groupCount}
 use Rattle.lot.specs.Way.{IsWay, relabelled}
@@ -39,7 +36,7 @@ use Rattle.judging.specs.Judging.{barredBy, frameOf, locationBy, dispers
 use Rattle.judging.proofs.Cases.{answer-found}
 
 -- by the two lines that coordinates can meet
-by-lines : (b c : Bool) (o : Outcome Scores) → found (judged (cond b (check.Refused Value) (cond c (check.Refused Columns) check.Passed)) o) ≡ cond (b || c) Withheld (found o)
+by-lines : (b c : Bool) (o : Outcome Scores) → found (judged (cond b (refused 3) (cond c (refused 9) passed)) o) ≡ cond (b || c) Withheld (found o)
 unfolding found
 by-lines true c o = refl
 by-lines false true o = refl
@@ -66,7 +63,7 @@ module _ (n columns : ℕ) (x : List Float) (labels : List ℕ) (coordinates : l
       rw (eq-eqb _ _ coordinates, eq-eqb _ _ labelled, wide, le-ltb (length assigned) n (omega (arith, length-replicate {A = ℕ} n 0)))
 
   lines-are : first (dapcLines n columns x labels (length out) (length assigned))
-      ≡ cond (any badCoordinate x) (check.Refused Value) (cond (ltb (leading columns m g) 2) (check.Refused Columns) check.Passed)
+      ≡ cond (any badCoordinate x) (refused 3) (cond (ltb (leading columns m g) 2) (refused 9) passed)
   unfolding dapcLines shapeLines groupLines first
   lines-are = rw (fits, le-ltb 256 n few, le-ltb 16 columns narrow, le-ltb g 2 two)
 
@@ -80,7 +77,7 @@ module _ (n columns : ℕ) (x : List Float) (labels : List ℕ) (coordinates : l
   assignment-is =
       let answer = judged (first (dapcLines n columns x labels (length out) (length assigned))) (dapc n columns x (groupEach labels) g) in
       answer-found n (leading columns m g) (axesOf g (leading columns m g)) answer out assigned
-      ∙ ap₂ (λ (c : Check) (o : Outcome Scores). found (judged c o)) lines-are scored
+      ∙ ap₂ (λ (c : Told) (o : Outcome Scores). found (judged c o)) lines-are scored
       ∙ by-lines (any badCoordinate x) (ltb (leading columns m g) 2) (discriminate n columns (leading columns m g) x (groupEach labels) g)
 
 -- ---- a way of a lot

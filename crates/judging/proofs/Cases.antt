@@ -1,4 +1,4 @@
--- A way's statistics from their parts, and its assignment by cases, as the code takes it apart. Assumes nothing.
+-- A way's statistics from their parts, and its assignment by cases, as the code takes it apart.
 use mathlib.Core.Path.{_≡_, refl, sym, ap, ap₂, subst, _∙_}
 use mathlib.Core.Bool.{Bool, true, false, _||_}
 use mathlib.Core.List.{List}

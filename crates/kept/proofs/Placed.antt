@@ -1,4 +1,4 @@
--- The group of each sample: put sample by sample on those that are kept, it is the group of its label, or none. Assumes nothing.
+-- The group of each sample: put sample by sample on those that are kept, it is the group of its label, or none.
 use mathlib.Core.Path.{_≡_, refl, sym, ap, subst, _∙_}
 use mathlib.Core.Bool.{Bool, true, false, cond, _||_, true≢false}
 use mathlib.Core.List.{List, _++_, map, List·Memᴰ as Member}

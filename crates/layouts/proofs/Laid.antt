@@ -1,16 +1,15 @@
--- The parts of an answer, and its number, as they are laid out. Assumes nothing.
+-- The parts of an answer, and its number, as they are laid out.
 use mathlib.Core.Path.{_≡_, sym, ap, _∙_}
 use mathlib.Core.List.{[], _∷_}
 use Prim.Native.Nat.{ℕ}
 use lib.Ieee.{Float}
-use Rattle.outcome.specs.declared.Refusal.{Refusal}
-use Rattle.outcome.specs.Refusals.{number}
 use Rattle.outcome.specs.Outcome.{Outcome, answered, refused}
 use Rattle.measurement.specs.declared.TestResult.{TestResult}
 use Rattle.judgement.specs.declared.Judgement.{Judgement}
 use Rattle.layouts.specs.Coded.{coded, codedAs}
-use Rattle.layouts.specs.Layouts.{pOf, testRow, fOf, isFinite, isAssigned, wayRow}
-use Rattle.chances.specs.Chances.{given}
+use Rattle.layouts.specs.Layouts.{testRow, isAssigned, wayRow}
+use Rattle.statistics.specs.Hits.{stateOf, valueOf}
+use Rattle.chances.specs.Chances.{given, pOf}
 use Rattle.way_hits.specs.WayHits.{rightOf}
 
 -- ---- by what is answered
@@ -20,7 +19,7 @@ module _ {A B : Type 0} (f : A → B) (before : B) {o : Outcome A} where
   unfolding coded
   laid-out e g = ap (λ (x : B). codedAs 0 x) g ∙ ap (λ (o : Outcome A). coded f o before) (sym e)
 
-  pub turned-away : {r : Refusal} {code : ℕ} → o ≡ refused r → code ≡ number r → codedAs code before ≡ coded f o before
+  pub turned-away : {r code : ℕ} → o ≡ refused r → code ≡ r → codedAs code before ≡ coded f o before
   unfolding coded
   turned-away e g = ap (λ (k : ℕ). codedAs k before) g ∙ ap (λ (o : Outcome A). coded f o before) (sym e)
 
@@ -31,8 +30,8 @@ pub test-row-is : (t : TestResult) {p q : Float} {a b : ℕ} → p ≡ pOf (t .p
 unfolding testRow
 test-row-is t ep eq ea eb = rw (ep, eq, ea, eb)
 
-pub way-row-is : (j : Judgement) {f d : Float} {a b c k : ℕ} → f ≡ fOf (j .location .statistic) → d ≡ fOf (j .dispersion .statistic) → a ≡ isFinite (j .location .statistic)
-    → b ≡ isFinite (j .dispersion .statistic) → c ≡ isAssigned (j .assigned .assignment) → k ≡ rightOf (j .assigned .assignment)
+pub way-row-is : (j : Judgement) {f d : Float} {a b c k : ℕ} → f ≡ valueOf (j .location .statistic) → d ≡ valueOf (j .dispersion .statistic) → a ≡ stateOf (j .location .statistic)
+    → b ≡ stateOf (j .dispersion .statistic) → c ≡ isAssigned (j .assigned .assignment) → k ≡ rightOf (j .assigned .assignment)
     → let s = j .summary in record {
       values = f ∷ s .r2 ∷ d ∷ s .«informative_fraction» ∷ [];
       numbers = s .n ∷ s .«n_groups» ∷ j .ways ∷ a ∷ j .location .hits ∷ b ∷ j .dispersion .hits ∷ c ∷ k ∷ j .assigned .hits ∷ s .warnings ∷ [];

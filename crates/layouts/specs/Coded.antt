@@ -3,7 +3,6 @@
 use Prim.Native.Nat.{ℕ}
 use mathlib.Core.List.{List}
 use lib.Ieee.{Float}
-use Rattle.outcome.specs.Refusals.{number}
 use Rattle.outcome.specs.Outcome.{Outcome, answered, refused}
 
 pub record Coded (B : Type 0) : Type 0 where
@@ -12,7 +11,7 @@ pub record Coded (B : Type 0) : Type 0 where
 
 unfoldable pub coded : {A B : Type 0} → (A → B) → Outcome A → B → Coded B
 coded f (answered a) before = record { code = 0; parts = f a }
-coded f (refused r) before = record { code = number r; parts = before }
+coded f (refused r) before = record { code = r; parts = before }
 
 abbrev pub codedAs : {B : Type 0} → ℕ → B → Coded B
 codedAs code parts = record { code = code; parts = parts }

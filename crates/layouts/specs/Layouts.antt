@@ -1,17 +1,12 @@
 -- The parts of each operation's answer, in the order in which they are laid out. Definitions only.
 use Prim.Native.Nat.{ℕ}
+use mathlib.Core.Bool.{cond}
 use mathlib.Core.List.{List, [], _∷_}
-use lib.Ieee.{Float}
-use Rattle.float.specs.Floats.{zero⁺}
-use Rattle.chances.specs.declared.Chance.{Chance}
-use Rattle.chances.specs.declared.Chance.the-variants.{P, NoP}
-use Rattle.chances.specs.Chances.{given}
+use Rattle.chances.specs.Chances.{given, pOf}
 use Rattle.measurement.specs.declared.TestResult.{TestResult}
-use Rattle.statistics.specs.declared.Statistic.{Statistic}
-use Rattle.statistics.specs.declared.Statistic.the-variants.{Finite, Unbounded}
+use Rattle.statistics.specs.Hits.{stateOf, valueOf}
 use Rattle.way_hits.specs.declared.Assignment.{Assignment}
-use Rattle.way_hits.specs.declared.Assignment.the-variants.{Right, Withheld}
-use Rattle.way_hits.specs.WayHits.{rightOf}
+use Rattle.way_hits.specs.WayHits.{isGiven, rightOf}
 use Rattle.judgement.specs.declared.Judgement.{Judgement}
 use Rattle.discriminant.specs.declared.Separation.{Separation}
 use Rattle.layouts.specs.declared.TestRow.{TestRow}
@@ -19,11 +14,6 @@ use Rattle.layouts.specs.declared.WayRow.{WayRow}
 use Rattle.layouts.specs.Coded.{Arrays, arrays}
 
 -- ---- `test`
-
--- a p, 0 where there is none
-abbrev pub pOf : Chance → Float
-pOf (P p) = p
-pOf NoP = zero⁺
 
 -- values: F, r2, p, dispersion F, its p, informative fraction;
 -- numbers: kept samples, groups, whether there is a p of location, and of dispersion, warnings
@@ -39,19 +29,9 @@ testArrays t = arrays (testRow t .values) (testRow t .numbers)
 
 -- ---- `exhaustive`
 
--- the F of a statistic, 0 where it is unbounded; and whether it is finite
-abbrev pub fOf : Statistic → Float
-fOf (Finite f) = f
-fOf Unbounded = zero⁺
-
-abbrev pub isFinite : Statistic → ℕ
-isFinite (Finite f) = 1
-isFinite Unbounded = 0
-
--- whether there is an assignment
+-- 1 where there is an assignment
 abbrev pub isAssigned : Assignment → ℕ
-isAssigned (Right k) = 1
-isAssigned Withheld = 0
+isAssigned a = cond (isGiven a) 1 0
 
 -- values: location F, r2, dispersion F, informative fraction;
 -- numbers: kept samples, groups, M; whether the location F is finite, and its hits; the same of dispersion; whether there is an assignment, its right count
@@ -59,14 +39,14 @@ isAssigned Withheld = 0
 unfoldable pub wayRow : Judgement → WayRow
 wayRow j =
     record {
-      values = fOf (j .location .statistic) ∷ j .summary .r2 ∷ fOf (j .dispersion .statistic) ∷ j .summary .«informative_fraction» ∷ [];
+      values = valueOf (j .location .statistic) ∷ j .summary .r2 ∷ valueOf (j .dispersion .statistic) ∷ j .summary .«informative_fraction» ∷ [];
       numbers =
           j .summary .n
           ∷ j .summary .«n_groups»
           ∷ j .ways
-          ∷ isFinite (j .location .statistic)
+          ∷ stateOf (j .location .statistic)
           ∷ j .location .hits
-          ∷ isFinite (j .dispersion .statistic)
+          ∷ stateOf (j .dispersion .statistic)
           ∷ j .dispersion .hits
           ∷ isAssigned (j .assigned .assignment)
           ∷ rightOf (j .assigned .assignment)
@@ -78,11 +58,10 @@ wayRow j =
 abbrev pub wayArrays : Judgement → Arrays
 wayArrays j = arrays (wayRow j .values) (wayRow j .numbers)
 
--- ---- `hash_pca`
+-- ---- one number: the selected hashes of `hash_pca` and `gram_matrix`, the sweeps of `jacobi_eigen`
 
--- the number of selected hashes
-abbrev pub selectedOf : ℕ → ℕ
-selectedOf k = k
+abbrev pub countOf : ℕ → ℕ
+countOf k = k
 
 -- ---- `dapc`
 

@@ -1,27 +1,25 @@
 // What an operation answers, as a number and arrays, for languages that have no enums: 0 and the parts of the answer, or the refusal's number and the
 // arrays untouched.
-use chances::Chance;
 use discriminant::Separation;
 use judgement::Judgement;
 use measurement::TestResult;
 use outcome::Check;
 use outcome::number_of;
-use statistics::Statistic;
 use way_hits::Assignment;
 ghost use mathlib.Core.Path.{_≡_};
 ghost use Rattle.sampled.specs.Call as test;
 ghost use Rattle.every_way.specs.Call as ways;
 ghost use Rattle.gram.specs.Call as sets;
+ghost use Rattle.jacobi.specs.Call as eigen;
 ghost use Rattle.discriminant.specs.Outputs as scores;
 ghost use Rattle.layouts.specs.Coded.{coded, codedAs, arrays};
-ghost use Rattle.layouts.specs.Layouts.{pOf, testRow, testArrays, fOf, isFinite, isAssigned, wayRow, wayArrays, selectedOf, dapcNumbers};
-ghost use Rattle.outcome.specs.Refusals.{codeOf};
-ghost use Rattle.chances.specs.Chances.{given};
-ghost use Rattle.way_hits.specs.WayHits.{rightOf};
+ghost use Rattle.layouts.specs.Layouts.{testRow, testArrays, isAssigned, wayRow, wayArrays, countOf, dapcNumbers};
+ghost use Rattle.outcome.specs.Numbers.{told};
+ghost use Rattle.outcome.specs.Outcome.{code};
 
 // A check's number.
 pub fn code_of(c: Check) -> u8
-    ensures { λ r. ⌜ r ≡ codeOf c ⌝ }
+    ensures { λ r. ⌜ r ≡ code (told c) ⌝ }
 {
     match c {
         Check::Refused(e) => number_of(e),
@@ -30,26 +28,6 @@ pub fn code_of(c: Check) -> u8
 }
 
 // ---- `test`
-
-// A p, 0 where there is none.
-fn p_of(c: Chance) -> f64
-    ensures { λ r. ⌜ r ≡ pOf c ⌝ }
-{
-    match c {
-        Chance::P(p) => p,
-        Chance::NoP => 0.0,
-    }
-}
-
-// Whether there is a p.
-fn is_given(c: Chance) -> u64
-    ensures { λ r. ⌜ r ≡ given c ⌝ }
-{
-    match c {
-        Chance::P(_p) => 1,
-        Chance::NoP => 0,
-    }
-}
 
 pub struct TestRow {
     pub values: [f64; 6],
@@ -63,11 +41,11 @@ pub fn test_row(t: TestResult) -> TestRow
     let s = t.summary;
     let p = t.p;
     let q = t.disp_p;
-    let first = p_of(p);
-    let second = p_of(q);
+    let first = chances::p_of(p);
+    let second = chances::p_of(q);
     let values = [t.f, s.r2, first, t.disp_f, second, s.informative_fraction];
-    let one = is_given(p);
-    let other = is_given(q);
+    let one = chances::is_given(p);
+    let other = chances::is_given(q);
     let numbers = [s.n as u64, s.n_groups as u64, one, other, s.warnings as u64];
     TestRow { values, numbers }
 }
@@ -90,44 +68,14 @@ pub fn lay_test(a: sampled::Answer, values: &mut [f64; 6], numbers: &mut [u64; 5
 
 // ---- `exhaustive`
 
-// The F of a statistic, 0 where it is unbounded.
-fn f_of(s: Statistic) -> f64
-    ensures { λ r. ⌜ r ≡ fOf s ⌝ }
-{
-    let Statistic::Finite(f) = s else {
-        return 0.0;
-    };
-    f
-}
-
-// Whether it is finite.
-fn is_bounded(s: Statistic) -> u64
-    ensures { λ r. ⌜ r ≡ isFinite s ⌝ }
-{
-    let Statistic::Finite(_f) = s else {
-        return 0;
-    };
-    1
-}
-
-// The right count of an assignment, 0 where there is none.
-fn right_of(a: Assignment) -> u64
-    ensures { λ r. ⌜ r ≡ rightOf a ⌝ }
-{
-    let Assignment::Right(k) = a else {
-        return 0;
-    };
-    k as u64
-}
-
-// Whether there is one.
+// 1 where there is an assignment, 0 where there is none.
 fn is_assigned(a: Assignment) -> u64
     ensures { λ r. ⌜ r ≡ isAssigned a ⌝ }
 {
-    let Assignment::Right(_k) = a else {
-        return 0;
-    };
-    1
+    if way_hits::is_given(a) {
+        return 1;
+    }
+    0
 }
 
 pub struct WayRow {
@@ -146,11 +94,13 @@ pub fn way_row(j: Judgement) -> WayRow
     let ls = l.statistic;
     let ds = d.statistic;
     let given = a.assignment;
-    let values = [f_of(ls), s.r2, f_of(ds), s.informative_fraction];
-    let first = is_bounded(ls);
-    let second = is_bounded(ds);
+    let f = statistics::value_of(ls);
+    let disp_f = statistics::value_of(ds);
+    let values = [f, s.r2, disp_f, s.informative_fraction];
+    let first = statistics::state_of(ls);
+    let second = statistics::state_of(ds);
     let third = is_assigned(given);
-    let right = right_of(given);
+    let right = way_hits::right_of(given);
     let numbers = [
         s.n as u64,
         s.n_groups as u64,
@@ -183,10 +133,10 @@ pub fn lay_ways(a: every_way::Answer, values: &mut [f64; 4], numbers: &mut [u64;
     }
 }
 
-// ---- `hash_pca`
+// ---- one number: `hash_pca` and `gram_matrix`
 
 pub fn lay_selected(a: gram::Answer, selected: &mut usize) -> u8
-    ensures { λ r. ⌜ codedAs r (now (selected .exit)) ≡ coded selectedOf (sets.outcomeOf a) (now (selected .entry)) ⌝ }
+    ensures { λ r. ⌜ codedAs r (now (selected .exit)) ≡ coded countOf (sets.outcomeOf a) (now (selected .entry)) ⌝ }
 {
     match a {
         gram::Answer::Refused(e) => number_of(e),
@@ -212,6 +162,20 @@ pub fn lay_scores(a: discriminant::Answer, numbers: &mut [usize; 3]) -> u8
         discriminant::Answer::Refused(e) => number_of(e),
         discriminant::Answer::Scored(s) => {
             *numbers = dapc_numbers(s);
+            0
+        }
+    }
+}
+
+// ---- one number: `jacobi_eigen`
+
+pub fn lay_sweeps(a: jacobi::Answer, sweeps: &mut usize) -> u8
+    ensures { λ r. ⌜ codedAs r (now (sweeps .exit)) ≡ coded countOf (eigen.outcomeOf a) (now (sweeps .entry)) ⌝ }
+{
+    match a {
+        jacobi::Answer::Refused(e) => number_of(e),
+        jacobi::Answer::Sweeps(k) => {
+            *sweeps = k;
             0
         }
     }

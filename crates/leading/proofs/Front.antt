@@ -1,4 +1,4 @@
--- The leading part of all the eigenpairs, as the part `&pairs[n..n + k * n]`. Assumes nothing.
+-- The leading part of all the eigenpairs, as the part `&pairs[n..n + k * n]`.
 use mathlib.Core.Path.{_≡_}
 use mathlib.Core.List.{List}
 use Prim.Native.Nat.{ℕ, _+_, _-_, _*_, _≤_}

@@ -1,4 +1,4 @@
--- The lengths that are told are those that line 1 of the table asks, no more and no less: of slices of just these lengths none is short. Assumes nothing.
+-- The lengths that are told are those that line 1 of the table asks, no more and no less: of slices of just these lengths none is short.
 use Prim.Native.Nat.{ℕ, _+_, _*_, _≤_}
 use mathlib.Core.Path.{_≡_, refl, sym, ap, _∙_}
 use mathlib.Core.Bool.{Bool, true, false, not, _||_}
@@ -6,19 +6,23 @@ use mathlib.Core.List.{List, [], _∷_, _++_}
 use native.Mathlib.Omega.{arith}
 use lib.Dec.{eqb, ltb}
 use lib.ListN.{length}
+use lib.Ieee.{Float}
 use borrow.Author.Tests.{ltb-false, le-ltb}
 use Rattle.lists.specs.Filters.{any}
-use Rattle.outcome.specs.Refusals.{Lent, _of_, short}
+use Rattle.outcome.specs.Refusals.{Lent, _of_, short, unfit}
 use Rattle.outcome.specs.Outcome.{Outcome, answered, refused}
 use Rattle.judgement.specs.declared.Judgement.{Judgement}
 use Rattle.sampled.specs.Call as test
 use Rattle.every_way.specs.Call as ways
 use Rattle.ordination_lines.specs.Lengths.{tooShort, lacking}
+use Rattle.jacobi.specs.Call as jacobi
+use Rattle.topeigs_lines.specs.TopLines as top
+use Rattle.sets.specs.Lines as sets
 use Rattle.dapc_lines.specs.DapcLines as dapc
 use Rattle.hexadecimal.specs.Hex.{hex}
 use Rattle.printing.specs.Printed.{testedLine, assignedLine, verdictLines, refusalLine, printed}
 use Rattle.judge.specs.Judge.{judgeText}
-use Rattle.lengths.specs.Lengths.{testLengths, waysLengths, pcoaLengths, hashPcaLengths, dapcLengths, judgeLength, tell, told}
+use Rattle.lengths.specs.Lengths.{testLengths, waysLengths, pcoaLengths, hashPcaLengths, dapcLengths, jacobiLengths, topLengths, gramLengths, judgeLength, tell, told}
 
 -- slices of these lengths, of which those are asked
 unfoldable pub lent : List ℕ → List ℕ → List Lent
@@ -85,6 +89,20 @@ pub dapc-asks : (n columns x labels out assigned : ℕ)
 unfolding dapc.misfits lent dapcLengths
 dapc-asks n columns x labels out assigned = refl
 
+pub jacobi-asks : (n : ℕ) (a : List Float) (out m v : ℕ)
+    → jacobi.misfits n a out m v ≡ (unfit a (n * n) || short (lent (out ∷ m ∷ v ∷ []) (jacobiLengths n)))
+unfolding jacobi.misfits lent jacobiLengths
+jacobi-asks n a out m v = refl
+
+pub top-asks : (k n a out w m v : ℕ)
+    → top.misfits k n a out w m v ≡ (not (eqb a (n * n)) || short (lent (out ∷ w ∷ m ∷ v ∷ []) (topLengths n k)))
+unfolding top.misfits lent topLengths
+top-asks k n a out w m v = refl
+
+pub gram-asks : (n out words : ℕ) → sets.tooShort n out words ≡ short (lent (out ∷ words ∷ []) (gramLengths n))
+unfolding sets.tooShort lent gramLengths
+gram-asks n out words = refl
+
 -- what is printed has room
 printed-fits : (o : Outcome Judgement) → length (printed o) ≤ judgeLength
 unfolding printed verdictLines testedLine assignedLine refusalLine hex
@@ -116,6 +134,12 @@ pub hash-pca-told : (n : ℕ) {out k l : ℕ} {b : Bool} (before : List ℕ) →
 unfolding hashPcaLengths
 hash-pca-told n before e f g =
     (λ i. told 0 (e i ∷ n * n ∷ (n + n * n) ∷ n * n ∷ n * n ∷ n * 64 ∷ [])) ∙ ap (λ (k : ℕ). told 0 (hashPcaLengths n k)) f ∙ within _ before g
+
+pub top-told : (n : ℕ) {out k l : ℕ} {b : Bool} (before : List ℕ) → out ≡ k + k * n → k ≡ l → b ≡ false
+    → told 0 (out ∷ (n + n * n) ∷ n * n ∷ n * n ∷ []) ≡ tell b (topLengths n l) before
+unfolding topLengths
+top-told n before e f g =
+    (λ i. told 0 (e i ∷ (n + n * n) ∷ n * n ∷ n * n ∷ [])) ∙ ap (λ (k : ℕ). told 0 (topLengths n k)) f ∙ within _ before g
 
 -- n that is not past the limit, whatever else is tested
 pub few : (n : ℕ) (b : Bool) {r : Bool} → r ≡ (ltb 256 n || b) → r ≡ false → n ≤ 256

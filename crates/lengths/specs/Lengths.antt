@@ -3,8 +3,6 @@
 use Prim.Native.Nat.{ℕ, _+_, _*_}
 use mathlib.Core.Bool.{Bool, cond}
 use mathlib.Core.List.{List, [], _∷_}
-use Rattle.outcome.specs.declared.Refusal.the-variants.{Limit}
-use Rattle.outcome.specs.Refusals.{number}
 
 -- `test`: names, counts, means; terms, pulls
 unfoldable pub testLengths : ℕ → List ℕ
@@ -26,6 +24,18 @@ hashPcaLengths n k = (k + k + n * k) ∷ n * n ∷ (n + n * n) ∷ n * n ∷ n *
 unfoldable pub dapcLengths : ℕ → ℕ → List ℕ
 dapcLengths n columns = (columns + n * columns) ∷ n ∷ []
 
+-- `jacobi_eigen`: out; m, v
+unfoldable pub jacobiLengths : ℕ → List ℕ
+jacobiLengths n = (n + n * n) ∷ n * n ∷ n * n ∷ []
+
+-- `top_eigs`, for k components: out; w, m, v
+unfoldable pub topLengths : ℕ → ℕ → List ℕ
+topLengths n k = (k + k * n) ∷ (n + n * n) ∷ n * n ∷ n * n ∷ []
+
+-- `gram_matrix`: out; words
+unfoldable pub gramLengths : ℕ → List ℕ
+gramLengths n = n * n ∷ n * 64 ∷ []
+
 -- `judge`: the most bytes that are printed
 abbrev pub judgeLength : ℕ
 judgeLength = 93
@@ -37,7 +47,7 @@ pub record Told : Type 0 where
 
 -- Past a limit of line 2 no call is accepted, whatever is lent: 2, and the array stays. Else 0 and the lengths.
 unfoldable pub tell : Bool → List ℕ → List ℕ → Told
-tell beyond asked before = record { code = cond beyond (number Limit) 0; lengths = cond beyond before asked }
+tell beyond asked before = record { code = cond beyond 2 0; lengths = cond beyond before asked }
 
 abbrev pub told : ℕ → List ℕ → Told
 told code lengths = record { code = code; lengths = lengths }

@@ -5,7 +5,7 @@ ghost use mathlib.Core.Bool.{_||_};
 ghost use Prim.Native.Nat.{_+_, _*_, _≤_, min};
 ghost use lib.Dec.{ltb};
 ghost use Rattle.ordination_lines.specs.Lines.{badComponents};
-ghost use Rattle.lengths.specs.Lengths.{testLengths, waysLengths, pcoaLengths, hashPcaLengths, dapcLengths, judgeLength, tell, told};
+ghost use Rattle.lengths.specs.Lengths.{testLengths, waysLengths, pcoaLengths, hashPcaLengths, dapcLengths, jacobiLengths, topLengths, gramLengths, judgeLength, tell, told};
 
 pub fn test_lengths(n: usize, lengths: &mut [usize; 5]) -> u8
     ensures { λ r. ⌜ told r (now (lengths .exit)) ≡ tell (ltb 256 n) (testLengths n) (now (lengths .entry)) ⌝ }
@@ -83,6 +83,48 @@ pub fn dapc_lengths(n: usize, columns: usize, lengths: &mut [usize; 2]) -> u8
         return 2;
     }
     *lengths = [columns + n * columns, n];
+    0
+}
+
+pub fn jacobi_lengths(n: usize, lengths: &mut [usize; 3]) -> u8
+    ensures { λ r. ⌜ told r (now (lengths .exit)) ≡ tell (ltb 256 n) (jacobiLengths n) (now (lengths .entry)) ⌝ }
+{
+    if 256 < n {
+        return 2;
+    }
+    let q = n * n;
+    *lengths = [n + q, q, q];
+    0
+}
+
+// k values and k rows of n.
+fn pairs(n: usize, k: usize) -> usize
+    requires { ⌜ (n ≤ 256) × (k ≤ n) ⌝ }
+    ensures { λ r. ⌜ r ≡ k + k * n ⌝ }
+{
+    k + k * n
+}
+
+pub fn top_eigs_lengths(n: usize, components: usize, lengths: &mut [usize; 4]) -> u8
+    ensures { λ r. ⌜ told r (now (lengths .exit)) ≡ tell (ltb 256 n || badComponents components) (topLengths n (min components n)) (now (lengths .entry)) ⌝ }
+{
+    if is_beyond(n, components) {
+        return 2;
+    }
+    let k = ordination_lines::leading(components, n);
+    let out = pairs(n, k);
+    let q = n * n;
+    *lengths = [out, n + q, q, q];
+    0
+}
+
+pub fn gram_lengths(n: usize, lengths: &mut [usize; 2]) -> u8
+    ensures { λ r. ⌜ told r (now (lengths .exit)) ≡ tell (ltb 256 n) (gramLengths n) (now (lengths .entry)) ⌝ }
+{
+    if 256 < n {
+        return 2;
+    }
+    *lengths = [n * n, n * 64];
     0
 }
 

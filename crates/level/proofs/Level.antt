@@ -1,4 +1,4 @@
--- The level of a test that counts hits over a finite list. Assumes nothing.
+-- The level of a test that counts hits over a finite list.
 use mathlib.Core.Path.{_≡_, refl, sym, ap, _∙_}
 use mathlib.Core.Bool.{Bool, true, false, _&&_, true≢false}
 use mathlib.Core.Logic.{_⊎_, inl, inr, ⊎-elim}

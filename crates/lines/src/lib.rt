@@ -8,6 +8,7 @@ ghost use lib.Dec.{eqb, ltb};
 ghost use lib.ListN.{length, getD};
 ghost use lib.Ieee.{le};
 ghost use Rattle.lists.specs.Filters.{any, firstAt};
+ghost use Rattle.outcome.specs.Numbers.{told};
 ghost use Rattle.outcome.specs.Refusals.{first};
 ghost use Rattle.lot.specs.Lot.{none, lotOf};
 ghost use Rattle.lot.specs.Kept as spec;
@@ -127,7 +128,7 @@ fn bad_weights(weighted: bool, weights: &[f64]) -> bool
 
 // Lines 1 and 2, for n samples. `misfit` says that a length does not fit n or a lent slice is short, `beyond` that another argument is beyond its limit.
 pub fn check_sizes(misfit: bool, n: usize, beyond: bool) -> Check
-    ensures { λ r. ⌜ r ≡ first (sizeLines misfit n beyond) ⌝ }
+    ensures { λ r. ⌜ told r ≡ first (sizeLines misfit n beyond) ⌝ }
 {
     if misfit {
         return Check::Refused(Refusal::Length);
@@ -143,7 +144,7 @@ pub fn check_sizes(misfit: bool, n: usize, beyond: bool) -> Check
 
 // Line 3, by the distances alone.
 pub fn check_matrix(distances: &[f64]) -> Check
-    ensures { λ r. ⌜ r ≡ first (matrixLines (now (distances .entry))) ⌝ }
+    ensures { λ r. ⌜ told r ≡ first (matrixLines (now (distances .entry))) ⌝ }
 {
     if any_outside(0.0, MOST, distances) {
         return Check::Refused(Refusal::Value);
@@ -154,7 +155,7 @@ pub fn check_matrix(distances: &[f64]) -> Check
 // Lines 4 and 5.
 fn check_labels(labels: &[u16], weighted: bool, weights: &[f64]) -> Check
     requires { ⌜ length (now labels) < 65536 ⌝ }
-    ensures { λ r. ⌜ r ≡ first (labelLines (now (labels .entry)) weighted (now (weights .entry))) ⌝ }
+    ensures { λ r. ⌜ told r ≡ first (labelLines (now (labels .entry)) weighted (now (weights .entry))) ⌝ }
 {
     if bad_weights(weighted, weights) {
         return Check::Refused(Refusal::Weight);
@@ -177,7 +178,7 @@ pub fn check_lot(
     short: bool,
     beyond: bool,
 ) -> Check
-    ensures { λ r. ⌜ r ≡ first (testLines (lotOf n (now (distances .entry)) (now (labels .entry)) stratified (now (strata .entry)) weighted (now (weights .entry))) short beyond) ⌝ }
+    ensures { λ r. ⌜ told r ≡ first (testLines (lotOf n (now (distances .entry)) (now (labels .entry)) stratified (now (strata .entry)) weighted (now (weights .entry))) short beyond) ⌝ }
 {
     let misfit = misfits(
         n,

@@ -1,4 +1,4 @@
--- How many members of a list pass a test. Assumes nothing.
+-- How many members of a list pass a test.
 use mathlib.Core.Path.{_≡_, refl, sym, ap, _∙_, ap₂}
 use mathlib.Core.Bool.{Bool, true, false, _&&_, _||_, cond, true≢false}
 use mathlib.Core.Logic.{⊎-elim}

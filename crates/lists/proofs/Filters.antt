@@ -1,5 +1,4 @@
 -- Filters, counts and searches: one member more, at the front (a loop that holds what is left) and at the end (a loop that holds what is done).
--- Assumes nothing.
 use mathlib.Core.Path.{_≡_, refl, sym, ap, _∙_}
 use mathlib.Core.Bool.{Bool, true, false, _&&_, _||_, cond}
 use mathlib.Core.List.{List, [], _∷_, _++_, append-nil}

@@ -1,4 +1,4 @@
--- Rows and grids: rows put, parts put back, entries of a grid. Assumes nothing.
+-- Rows and grids: rows put, parts put back, entries of a grid.
 use mathlib.Core.Path.{_≡_, refl, sym, ap, _∙_, subst}
 use mathlib.Core.Logic.{⊎-elim}
 use mathlib.Core.List.{List, _++_, append-assoc}

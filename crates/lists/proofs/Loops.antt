@@ -1,4 +1,4 @@
--- A loop that has made k turns makes one more. Assumes nothing.
+-- A loop that has made k turns makes one more.
 -- The invariant is `x ≡ inTurn step k x₀`; it begins by `refl` at 0, a turn is `inTurn-next _ _ _ inv ensures`. No induction in any function's proof.
 use mathlib.Core.Path.{_≡_, refl, sym, ap, subst, _∙_}
 use mathlib.Core.List.{List}

@@ -1,4 +1,4 @@
--- What is a member of a list: of a range, of rows, of those kept, and what a member does to a count or a test of the whole. Assumes nothing.
+-- What is a member of a list: of a range, of rows, of those kept, and what a member does to a count or a test of the whole.
 use mathlib.Core.Path.{_≡_, refl, sym, ap, _∙_, ap₂}
 use mathlib.Core.Bool.{Bool, true, false, _||_, cond, true≢false}
 use mathlib.Core.Logic.{_⊎_, inl, inr, ⊎-elim}

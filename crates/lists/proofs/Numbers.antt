@@ -1,4 +1,4 @@
--- Sums of whole numbers over lists and pairs. Assumes nothing.
+-- Sums of whole numbers over lists and pairs.
 use mathlib.Core.Path.{_≡_, refl, sym, ap, ap₂, _∙_}
 use mathlib.Core.List.{List, [], _∷_, _++_, map}
 use Prim.Native.Nat.{ℕ, zero, suc, _+_, _-_, _*_, _<_, _≤_}

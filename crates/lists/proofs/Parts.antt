@@ -1,4 +1,4 @@
--- Fronts, parts and images of lists, and lists written over others. Assumes nothing.
+-- Fronts, parts and images of lists, and lists written over others.
 use mathlib.Core.Path.{_≡_, refl, sym, ap, _∙_}
 use mathlib.Core.List.{List, [], _∷_, _++_, map, append-assoc, append-nil}
 use Prim.Native.Nat.{ℕ, zero, suc, _+_, _-_, _<_, _≤_}

@@ -1,4 +1,4 @@
--- Ranges, tables and rows: their first member, their last, their length and their entries. Assumes nothing.
+-- Ranges, tables and rows: their first member, their last, their length and their entries.
 use mathlib.Core.Path.{_≡_, refl, sym, ap, ap₂, _∙_, subst}
 use mathlib.Core.List.{List, [], _∷_, _++_, map, append-assoc}
 use Prim.Native.Nat.{ℕ, zero, suc, _+_, _-_, _*_, _<_, _≤_}

@@ -1,5 +1,4 @@
 -- Rows of a matrix as parts of one list. The part `&m[i * w..i * w + w]` as the check has it is row i, and the part put back is row i put back.
--- Assumes nothing.
 use mathlib.Core.Path.{_≡_, refl, sym, ap, _∙_}
 use mathlib.Core.Bool.{Bool, true, false}
 use mathlib.Core.List.{List, _++_}

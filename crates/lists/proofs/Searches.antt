@@ -1,4 +1,4 @@
--- Searches through a list: whether one passes, all do, and the first that does. Assumes nothing.
+-- Searches through a list: whether one passes, all do, and the first that does.
 use mathlib.Core.Path.{_≡_, refl, sym, ap, _∙_, ap₂}
 use mathlib.Core.Bool.{Bool, true, false, _&&_, _||_, cond}
 use mathlib.Core.Logic.{_⊎_, inl, inr, ⊎-elim}

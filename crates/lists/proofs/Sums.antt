@@ -1,4 +1,4 @@
--- The laws by which a loop is a sum: one turn (`-turn`), the end (`-end`). Assumes nothing.
+-- The laws by which a loop is a sum: one turn (`-turn`), the end (`-end`).
 -- A loop `for i in lo..hi { s = s + f(i); }` has the invariant "the sum of what is left, from s, is the whole sum":
 --     sumFrom s (map f (range i hi)) ≡ sumFrom s₀ (map f (range lo hi))
 -- It begins by `refl`; `sum-turn` and `sum-end` take the invariant and hand it on. The same over a list by its places, and over pairs.

@@ -1,4 +1,4 @@
--- Sums, products and counts of whole numbers; whether a number stands in a list. Assumes nothing.
+-- Sums, products and counts of whole numbers; whether a number stands in a list.
 use mathlib.Core.Path.{_≡_, refl, sym, ap, _∙_, ap₂}
 use mathlib.Core.Bool.{Bool, true, _||_}
 use mathlib.Core.Logic.{_⊎_, inl, inr, ⊎-elim}

@@ -1,4 +1,4 @@
--- Truths joined, and two numbers compared. Assumes nothing.
+-- Truths joined, and two numbers compared.
 use mathlib.Core.Path.{_≡_, refl, sym, ap}
 use mathlib.Core.Bool.{Bool, true, false, _&&_, _||_, cond, true≢false}
 use mathlib.Core.Logic.{_⊎_, inl, inr, ⊎-elim}

@@ -1,4 +1,4 @@
--- A list written over the front of a slice, one entry or one part more at a time. Assumes nothing.
+-- A list written over the front of a slice, one entry or one part more at a time.
 -- A loop `for i in 0..n { l[i] = f(i); }` has the invariant `l ≡ over (table i f) l₀`: it begins by `refl`, a turn is `table-next`, the end `over-all`.
 use mathlib.Core.Path.{_≡_, refl, sym, ap, ap₂, _∙_, subst}
 use mathlib.Core.List.{List, [], _∷_, _++_, append-assoc, append-nil}

@@ -1,4 +1,4 @@
--- Two lists of one length, entry by entry. Assumes nothing.
+-- Two lists of one length, entry by entry.
 use mathlib.Core.Path.{_≡_, refl, sym, ap, _∙_, subst}
 use mathlib.Core.List.{List, [], _∷_, zipWith}
 use Prim.Native.Nat.{ℕ, zero, suc, _<_}

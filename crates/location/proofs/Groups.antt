@@ -1,4 +1,4 @@
--- A group's part of within, from its pair sum; a sum over groups, with one more and with two more; fewer groups. Assumes nothing.
+-- A group's part of within, from its pair sum; a sum over groups, with one more and with two more; fewer groups.
 use mathlib.Core.Path.{_≡_, refl, sym, ap, _∙_}
 use mathlib.Core.List.{List, [], _∷_}
 use Prim.Native.Nat.{ℕ, _+_, _*_, _≤_}

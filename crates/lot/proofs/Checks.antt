@@ -1,4 +1,4 @@
--- What is known of a lot whose parts fit n, and of one that no line turns away. Assumes nothing.
+-- What is known of a lot whose parts fit n, and of one that no line turns away.
 use mathlib.Core.Path.{_≡_, refl, sym, _∙_}
 use mathlib.Core.Bool.{Bool, true, false, not, _&&_, _||_, true≢false}
 use mathlib.Core.List.{List, _++_}
@@ -9,9 +9,7 @@ use lib.Dec.{eqb, ltb}
 use lib.ListN.{length}
 use lib.Ieee.{Float}
 use Rattle.lists.specs.Filters.{any, all}
-use Rattle.outcome.specs.declared.Refusal.{Refusal}
-use Rattle.outcome.specs.declared.Refusal.the-variants.{Length, Limit, Value, Weight, Labels}
-use Rattle.outcome.specs.declared.Check.the-variants.{Passed, Refused}
+use Rattle.outcome.specs.Outcome.{passed, refused}
 use Rattle.outcome.specs.Refusals.{first}
 use Rattle.outcome.specs.Slices.{untouched}
 use Rattle.lot.specs.Lot.{Lot}
@@ -55,43 +53,43 @@ pub record Sized (misfit : Bool) (n : ℕ) (beyond : Bool) : Type 0 where
   pub few : n ≤ 256
   pub within : beyond ≡ false
 
-pub sizes-known : (misfit : Bool) (n : ℕ) (beyond : Bool) → first (sizeLines misfit n beyond) ≡ Passed → Sized misfit n beyond
+pub sizes-known : (misfit : Bool) (n : ℕ) (beyond : Bool) → first (sizeLines misfit n beyond) ≡ passed → Sized misfit n beyond
 sizes-known misfit n beyond e =
-    let one = first-passed Length _ misfit (sym e) in
-    let two = or-neither (ltb 256 n) beyond (first-passed Limit _ _ (one .1) .0) in
+    let one = first-passed 1 _ misfit (sym e) in
+    let two = or-neither (ltb 256 n) beyond (first-passed 2 _ _ (one .1) .0) in
     record { fit = one .0; few = ltb-false _ _ (two .0); within = two .1 }
 
 -- 3
-pub values-known : (d : List Float) → first (matrixLines d) ≡ Passed → any badDistance d ≡ false
-values-known d e = first-passed Value _ _ (sym e) .0
+pub values-known : (d : List Float) → first (matrixLines d) ≡ passed → any badDistance d ≡ false
+values-known d e = first-passed 3 _ _ (sym e) .0
 
 -- 4 and 5
 pub record Labelled (labels : List ℕ) (weighted : Bool) (weights : List Float) : Type 0 where
   pub weighed : (weighted && any badWeight weights) ≡ false
   pub groups : 2 ≤ groupCount labels
 
-pub labels-known : (labels : List ℕ) (weighted : Bool) (weights : List Float) → first (labelLines labels weighted weights) ≡ Passed → Labelled labels weighted weights
+pub labels-known : (labels : List ℕ) (weighted : Bool) (weights : List Float) → first (labelLines labels weighted weights) ≡ passed → Labelled labels weighted weights
 labels-known labels weighted weights e =
-    let four = first-passed Weight _ _ (sym e) in
-    record { weighed = four .0; groups = ltb-false _ _ (first-passed Labels _ _ (four .1) .0) }
+    let four = first-passed 4 _ _ (sym e) in
+    record { weighed = four .0; groups = ltb-false _ _ (first-passed 5 _ _ (four .1) .0) }
 
 -- ---- a lot that no line turns away
 
 -- by the groups
 pub record Clear (lot : Lot) (short beyond : Bool) : Type 0 where
-  pub sizes : first (sizeLines (misfits lot || short) (lot .n) beyond) ≡ Passed
-  pub matrix : first (matrixLines (lot .distances)) ≡ Passed
-  pub labels : first (labelLines (lot .labels) (lot .weighted) (lot .weights)) ≡ Passed
+  pub sizes : first (sizeLines (misfits lot || short) (lot .n) beyond) ≡ passed
+  pub matrix : first (matrixLines (lot .distances)) ≡ passed
+  pub labels : first (labelLines (lot .labels) (lot .weighted) (lot .weights)) ≡ passed
 
 module _ (lot : Lot) (short beyond : Bool) where
-  pub passed-clear : first (testLines lot short beyond) ≡ Passed → Clear lot short beyond
+  pub passed-clear : first (testLines lot short beyond) ≡ passed → Clear lot short beyond
   unfolding testLines
   passed-clear e =
       let sizes = first-both (sizeLines (misfits lot || short) (lot .n) beyond) (matrixLines (lot .distances) ++ labelLines (lot .labels) (lot .weighted) (lot .weights)) e in
       let rest = first-both (matrixLines (lot .distances)) (labelLines (lot .labels) (lot .weighted) (lot .weights)) (sizes .1) in
       record { sizes = sizes .0; matrix = rest .0; labels = rest .1 }
 
-  pub clear-passed : Clear lot short beyond → first (testLines lot short beyond) ≡ Passed
+  pub clear-passed : Clear lot short beyond → first (testLines lot short beyond) ≡ passed
   unfolding testLines
   clear-passed c =
       first-after (sizeLines (misfits lot || short) (lot .n) beyond) (matrixLines (lot .distances) ++ labelLines (lot .labels) (lot .weighted) (lot .weights)) (c .sizes)
@@ -108,7 +106,7 @@ pub record Passes (lot : Lot) (short beyond : Bool) : Type 0 where
   pub weights : (lot .weighted && any badWeight (lot .weights)) ≡ false
   pub groups : 2 ≤ groupCount (lot .labels)
 
-pub passes : (lot : Lot) (short beyond : Bool) → first (testLines lot short beyond) ≡ Passed → Passes lot short beyond
+pub passes : (lot : Lot) (short beyond : Bool) → first (testLines lot short beyond) ≡ passed → Passes lot short beyond
 passes lot short beyond e =
     let clear = passed-clear lot short beyond e in
     let sized = sizes-known (misfits lot || short) (lot .n) beyond (clear .sizes) in
@@ -125,7 +123,7 @@ passes lot short beyond e =
     }
 
 -- a refusal of theirs leaves what is lent alone
-pub lines-untouched : (lot : Lot) (short beyond : Bool) {r : Refusal} → Refused r ≡ first (testLines lot short beyond) → untouched r ≡ true
+pub lines-untouched : (lot : Lot) (short beyond : Bool) {k : ℕ} → refused k ≡ first (testLines lot short beyond) → untouched k ≡ true
 unfolding testLines all
 lines-untouched lot short beyond e = first-untouched (testLines lot short beyond) refl e
 

@@ -1,4 +1,4 @@
--- Fewer than two groups: no label that two samples have differs from another. Assumes nothing.
+-- Fewer than two groups: no label that two samples have differs from another.
 use mathlib.Core.Path.{_≡_, refl, sym, ap, _∙_, subst}
 use mathlib.Core.Bool.{Bool, true, false, not, _&&_, true≢false}
 use mathlib.Core.List.{List, List·Memᴰ as Member}

@@ -1,4 +1,4 @@
--- The front of a slice filled one entry after the other. Assumes nothing.
+-- The front of a slice filled one entry after the other.
 use mathlib.Core.Path.{_≡_, refl, sym, ap, _∙_, subst}
 use mathlib.Core.Bool.{Bool, true, false}
 use mathlib.Core.List.{List, [], _∷_, _++_}

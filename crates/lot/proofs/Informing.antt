@@ -1,4 +1,4 @@
--- A stratum informs if one of its samples is in another group than a given one of them. Assumes nothing.
+-- A stratum informs if one of its samples is in another group than a given one of them.
 use mathlib.Core.Path.{_≡_, refl, sym, ap, _∙_}
 use mathlib.Core.Bool.{Bool, true, false, not, _&&_}
 use mathlib.Core.List.{List, List·Memᴰ as Member}

@@ -1,4 +1,4 @@
--- Strata are named by first appearance, and numbered: one sample more. Assumes nothing.
+-- Strata are named by first appearance, and numbered: one sample more.
 use mathlib.Core.Path.{_≡_, refl, sym, ap, ap₂, _∙_}
 use mathlib.Core.Bool.{Bool, true, false, not, cond}
 use mathlib.Core.List.{List, [], _∷_, _++_, map, foldl}

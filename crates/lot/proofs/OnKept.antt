@@ -1,4 +1,4 @@
--- A way put on the samples with a kept label: what is kept then, what stands where, and how many there are of each label. Assumes nothing.
+-- A way put on the samples with a kept label: what is kept then, what stands where, and how many there are of each label.
 use mathlib.Core.Path.{_≡_, refl, sym, ap, ap₂, _∙_}
 use mathlib.Core.Bool.{Bool, true, false, cond}
 use mathlib.Core.List.{List, [], _∷_, map, List·Memᴰ as Member, List·Memᴰ·head as here, List·Memᴰ·tail as there}

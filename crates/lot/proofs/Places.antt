@@ -1,4 +1,4 @@
--- Members that pass a test, by their places: the labels of the kept samples are the labels that pass. Assumes nothing.
+-- Members that pass a test, by their places: the labels of the kept samples are the labels that pass.
 use mathlib.Core.Path.{_≡_, refl, sym, ap, ap₂, _∙_}
 use mathlib.Core.Bool.{Bool, true, false, cond, true≢false}
 use mathlib.Core.List.{List, [], _∷_, map}

@@ -1,5 +1,5 @@
 -- A way handed in as the observed one: every label is held by as many samples as before, so the same samples are kept, their labels are numbered alike,
--- the strata and those that inform are the same, and the groups are the way. Assumes nothing.
+-- the strata and those that inform are the same, and the groups are the way.
 use mathlib.Core.Path.{_≡_, sym, ap, ap₂, _∙_, fun-ext}
 use mathlib.Core.Bool.{Bool, true, not, _&&_, cond}
 use mathlib.Core.List.{List, map, List·Memᴰ as Member}

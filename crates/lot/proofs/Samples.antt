@@ -1,4 +1,4 @@
--- Kept samples and their groups: how many there are, and that each has its place. Assumes nothing.
+-- Kept samples and their groups: how many there are, and that each has its place.
 use mathlib.Core.Path.{_≡_, refl, sym, ap, _∙_, subst}
 use mathlib.Core.Bool.{Bool, true, cond}
 use mathlib.Core.List.{List, _++_, map}

@@ -1,4 +1,4 @@
--- Counts of labels within strata: what a sample adds, which sample there is for a count, and that a way keeps every count of the whole. Assumes nothing.
+-- Counts of labels within strata: what a sample adds, which sample there is for a count, and that a way keeps every count of the whole.
 use mathlib.Core.Path.{_≡_, refl, sym, ap, ap₂, _∙_}
 use mathlib.Core.Bool.{Bool, true, false, _&&_, cond}
 use mathlib.Core.Logic.{_⊎_, inl, inr, ⊎-elim}

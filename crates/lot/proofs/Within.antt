@@ -1,4 +1,4 @@
--- Every kept sample has a group below g and a stratum below the number of strata, and the groups' labels go upward. Assumes nothing.
+-- Every kept sample has a group below g and a stratum below the number of strata, and the groups' labels go upward.
 use mathlib.Core.Path.{_≡_, refl, sym, ap, ap₂, _∙_, subst}
 use mathlib.Core.Bool.{Bool, true, false, not, cond}
 use mathlib.Core.List.{List, [], _∷_, map, List·Memᴰ as Member, List·Memᴰ·head as here, List·Memᴰ·tail as there}

@@ -6,7 +6,6 @@ use lib.Dec.{ltb}
 use lib.Ieee.{Float, le}
 use Rattle.float.specs.Floats.{zero⁺, 2^-20, 2^20}
 use Rattle.lists.specs.Filters.{any}
-use Rattle.outcome.specs.declared.Refusal.the-variants.{Length, Limit, Value, Weight, Labels}
 use Rattle.outcome.specs.Refusals.{Line, _when_, unfit}
 use Rattle.lot.specs.Lot.{Lot}
 use Rattle.lot.specs.Kept.{groupCount}
@@ -28,15 +27,15 @@ misfits lot =
 
 -- 1 and 2: `misfit` says that a length does not fit n or a lent slice is short, `beyond` that an argument other than n is beyond its limit
 abbrev pub sizeLines : Bool → ℕ → Bool → List Line
-sizeLines misfit n beyond = (Length when misfit) ∷ (Limit when ltb 256 n || beyond) ∷ []
+sizeLines misfit n beyond = (1 when misfit) ∷ (2 when ltb 256 n || beyond) ∷ []
 
 -- 3, of distances alone
 abbrev pub matrixLines : List Float → List Line
-matrixLines distances = (Value when any badDistance distances) ∷ []
+matrixLines distances = (3 when any badDistance distances) ∷ []
 
 -- 4 and 5, of labels and weights
 abbrev pub labelLines : List ℕ → Bool → List Float → List Line
-labelLines labels weighted weights = (Weight when weighted && any badWeight weights) ∷ (Labels when ltb (groupCount labels) 2) ∷ []
+labelLines labels weighted weights = (4 when weighted && any badWeight weights) ∷ (5 when ltb (groupCount labels) 2) ∷ []
 
 -- Both tests: `short` says that an output or work slice is short, `beyond` that another argument is beyond its limit.
 unfoldable pub testLines : Lot → Bool → Bool → List Line

@@ -1,4 +1,4 @@
--- Coordinates in a lent slice are those of the ordination, and there are as many as there should be. Assumes nothing.
+-- Coordinates in a lent slice are those of the ordination, and there are as many as there should be.
 use mathlib.Core.Path.{_≡_, refl, sym, ap, subst, _∙_}
 use mathlib.Core.Bool.{false}
 use mathlib.Core.List.{List, _++_}
@@ -8,7 +8,6 @@ use native.Mathlib.Omega.{arith}
 use lib.ListN.{length, take, drop, length-drop}
 use lib.Seq.{length-take-le, drop-append-le, take-at}
 use lib.Ieee.{Float}
-use Rattle.outcome.specs.declared.Refusal.{Refusal}
 use Rattle.outcome.specs.declared.Check.{Check}
 use Rattle.outcome.specs.declared.Check.the-variants as check
 use Rattle.outcome.specs.Outcome.{Outcome, answered, refused}
@@ -20,7 +19,7 @@ use Rattle.pcoa.specs.Given.{Given, given, gives, coordinatesOf}
 use Rattle.pcoa.proofs.Late.{Late}
 use Rattle.pcoa.proofs.Call.{late-pcoa, ordinate-min}
 use Rattle.judging.specs.Assignments.{columnsOf}
-use Rattle.lot_ordination.specs.Ordination.{coordsIn, told, coordsOf}
+use Rattle.lot_ordination.specs.Ordination.{coordsIn, coordsTold, coordsOf}
 
 -- ---- how many columns there are
 
@@ -51,7 +50,7 @@ coords-lent n k out rest e =
     let long : length (drop (k + k) out) ≡ n * k = omega (arith, length-drop (k + k) out) in
     ap (take (n * k)) (drop-append-le (k + k) out rest (omega arith)) ∙ take-at (drop (k + k) out) rest (n * k) long
 
-told-by : (n : ℕ) {k : ℕ} (r : Check) (out rest : List Float) → k ≡ columnsOf n → length out ≡ k + k + n * k → told n r (out ++ rest) ≡ coordsOf (coordinatesOf k r out)
+told-by : (n : ℕ) {k : ℕ} (r : Check) (out rest : List Float) → k ≡ columnsOf n → length out ≡ k + k + n * k → coordsTold n r (out ++ rest) ≡ coordsOf (coordinatesOf k r out)
 unfolding coordsOf
 told-by n {k} check.Passed out rest ek e = ap answered (ap (λ (k : ℕ). coordsAt n k (out ++ rest)) (sym ek) ∙ coords-lent n k out rest e)
 told-by n (check.Refused r) out rest ek e = refl
@@ -62,7 +61,7 @@ unfolding pcoa
 pcoa-min n d e = ap (λ (k : ℕ). ordinate k n (centred n d)) e ∙ ordinate-min 8 n (centred n d)
 
 pub told-is : (n : ℕ) {k : ℕ} (d : List Float) (r : Check) (out old rest : List Float) → k ≡ columnsOf n → length out ≡ k + k + n * k → given k r out ≡ gives k n (pcoa k n d) old
-    → told n r (out ++ rest) ≡ coordsOf (pcoa 8 n d)
+    → coordsTold n r (out ++ rest) ≡ coordsOf (pcoa 8 n d)
 unfolding gives
 told-is n d r out old rest ek e h = told-by n r out rest ek e ∙ ap (λ (g : Given). coordsOf (g .found)) h ∙ ap coordsOf (pcoa-min n d ek)
 
@@ -73,5 +72,5 @@ unfolding coordsOf
 late-coords (answered c) h = tt
 late-coords (refused r) h = h
 
-pub late-told : (n : ℕ) (d : List Float) {r : Refusal} → refused r ≡ coordsOf (pcoa 8 n d) → untouched r ≡ false
+pub late-told : (n : ℕ) (d : List Float) {r : ℕ} → refused r ≡ coordsOf (pcoa 8 n d) → untouched r ≡ false
 late-told n d is = subst (λ (o : Outcome (List Float)). Late o) (sym is) (late-coords (pcoa 8 n d) (late-pcoa 8 n d))

@@ -5,6 +5,7 @@ use Prim.Native.Nat.{ℕ, _+_, _*_, _≤_}
 use lib.ListN.{length, take, drop}
 use lib.Ieee.{Float}
 use Rattle.outcome.specs.declared.Check.{Check}
+use Rattle.outcome.specs.Numbers.{number}
 use Rattle.outcome.specs.declared.Check.the-variants.{Passed, Refused}
 use Rattle.outcome.specs.Outcome.{Outcome, answered, refused}
 use Rattle.coordinates.specs.Finish.{Coordinates}
@@ -15,9 +16,9 @@ abbrev pub coordsIn : ℕ → List Float → List Float
 coordsIn n l = let k = columnsOf n in take (n * k) (drop (k + k) l)
 
 -- what is told of them by a return and a slice, and by the ordination
-abbrev pub told : ℕ → Check → List Float → Outcome (List Float)
-told n Passed l = answered (coordsIn n l)
-told n (Refused r) l = refused r
+abbrev pub coordsTold : ℕ → Check → List Float → Outcome (List Float)
+coordsTold n Passed l = answered (coordsIn n l)
+coordsTold n (Refused r) l = refused (number r)
 
 unfoldable pub coordsOf : Outcome Coordinates → Outcome (List Float)
 coordsOf (answered c) = answered (c .coords)

@@ -3,7 +3,7 @@ use outcome::Check;
 ghost use mathlib.Core.Path.{_≡_};
 ghost use lib.ListN.{length};
 ghost use Rattle.coordinates.specs.Pcoa.{pcoa};
-ghost use Rattle.lot_ordination.specs.Ordination.{told, coordsOf, Ordinating};
+ghost use Rattle.lot_ordination.specs.Ordination.{coordsTold, coordsOf, Ordinating};
 
 // The coordinates of all n samples go to `coords`, after their values and shares. The others lend room.
 pub fn ordinate(
@@ -16,7 +16,7 @@ pub fn ordinate(
     n: usize,
 ) -> Check
     requires { ⌜ Ordinating n (now distances) (length (now coords)) (length (now terms)) (length (now pulls)) (length (now room)) (length (now vectors)) ⌝ }
-    ensures { λ r. ⌜ told n r (now (coords .exit)) ≡ coordsOf (pcoa 8 n (now (distances .entry))) ⌝ }
+    ensures { λ r. ⌜ coordsTold n r (now (coords .exit)) ≡ coordsOf (pcoa 8 n (now (distances .entry))) ⌝ }
 {
     let k = ordination_lines::leading(8, n);
     let e = k + k + n * k;

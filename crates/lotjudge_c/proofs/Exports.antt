@@ -1,4 +1,4 @@
--- What the functions for other languages return and write, by what the operations answer and how it is laid out. Assumes nothing.
+-- What the functions for other languages return and write, by what the operations answer and how it is laid out.
 use mathlib.Core.Path.{_≡_, ap, _∙_}
 use mathlib.Core.List.{List}
 use Prim.Native.Nat.{ℕ}
@@ -14,10 +14,15 @@ use Rattle.gram.specs.Call as gram
 use Rattle.hash_pca.specs.Call as hashes
 use Rattle.discriminant.specs.declared.Answer as dapc-answer
 use Rattle.discriminant.specs.Outputs as dapc
+use Rattle.jacobi.specs.declared.Answer as jacobi-answer
+use Rattle.jacobi.specs.Call as jacobi
+use Rattle.topeigs.specs.Call as top
 use Rattle.layouts.specs.Coded.{Coded, coded, codedAs, Arrays}
-use Rattle.layouts.specs.Layouts.{testArrays, wayArrays, selectedOf, dapcNumbers}
+use Rattle.layouts.specs.Layouts.{testArrays, wayArrays, countOf, dapcNumbers}
 use Rattle.lotjudge_c.specs.Exported.{exportTest, testExport, exportWays, waysExport, exportPcoa, pcoaExport, exportHashPca, hashPcaExport, exportDapc, dapcExport}
-use Rattle.outcome.specs.Refusals.{codeOf}
+use Rattle.outcome.specs.Numbers.{told}
+use Rattle.outcome.specs.Outcome.{code}
+use Rattle.lotjudge_c.specs.Exported.{JacobiEigen, exportJacobi, jacobiExport, exportTop, topExport, GramMatrix, exportGram, gramExport}
 
 pub test-returns : (a : test-answer.Answer) {s : test.Slices} {c : test.Called} {code : ℕ} {parts : Arrays} (before : Arrays)
     → test.called a s ≡ c → codedAs code parts ≡ coded testArrays (test.answerOf a) before → testExport code parts s ≡ exportTest c before
@@ -29,12 +34,12 @@ pub ways-return : (a : ways-answer.Answer) {s : ways.Slices} {c : ways.Called} {
 unfolding exportWays
 ways-return a {s = s} before e f = ap (λ (t : Coded Arrays). record { told = t; after = s }) f ∙ ap (λ (c : ways.Called). exportWays c before) e
 
-pub pcoa-returns : {r : Check} {k : ℕ} {out b w m v : List Float} {c : pcoa.Called} → pcoa.called r out b w m v ≡ c → k ≡ codeOf r → pcoaExport k out b w m v ≡ exportPcoa c
+pub pcoa-returns : (r : Check) {k : ℕ} {out b w m v : List Float} {c : pcoa.Called} → pcoa.called r out b w m v ≡ c → k ≡ code (told r) → pcoaExport k out b w m v ≡ exportPcoa c
 unfolding exportPcoa
-pcoa-returns {out = out} {b = b} {w = w} {m = m} {v = v} e f = (λ i. pcoaExport (f i) out b w m v) ∙ ap exportPcoa e
+pcoa-returns r {out = out} {b = b} {w = w} {m = m} {v = v} e f = (λ i. pcoaExport (f i) out b w m v) ∙ ap exportPcoa e
 
 pub hash-pca-returns : (a : gram-answer.Answer) {code selected : ℕ} {out b w m v : List Float} {words : List ℕ} {c : hashes.Called} (before : ℕ)
-    → hashes.called a out b w m v words ≡ c → codedAs code selected ≡ coded selectedOf (gram.outcomeOf a) before
+    → hashes.called a out b w m v words ≡ c → codedAs code selected ≡ coded countOf (gram.outcomeOf a) before
     → hashPcaExport code selected out b w m v words ≡ exportHashPca c before
 unfolding exportHashPca
 hash-pca-returns a {out = out} {b = b} {w = w} {m = m} {v = v} {words = words} before e f =
@@ -45,3 +50,19 @@ pub dapc-returns : (a : dapc-answer.Answer) {code : ℕ} {out : List Float} {ass
 unfolding exportDapc
 dapc-returns a {out = out} {assigned = assigned} before e f =
     ap (λ (t : Coded (List ℕ)). record { told = t; out = out; assigned = assigned }) f ∙ ap (λ (c : dapc.Called). exportDapc c before) e
+
+pub jacobi-returns : (a : jacobi-answer.Answer) {code sweeps : ℕ} {out m v : List Float} {c : jacobi.Called} (before : ℕ)
+    → jacobi.called a out m v ≡ c → codedAs code sweeps ≡ coded countOf (jacobi.outcomeOf a) before → jacobiExport code sweeps out m v ≡ exportJacobi c before
+unfolding exportJacobi
+jacobi-returns a {out = out} {m = m} {v = v} before e f =
+    ap (λ (t : Coded ℕ). record { told = t; out = out; m = m; v = v }) f ∙ ap (λ (c : jacobi.Called). exportJacobi c before) e
+
+pub top-returns : (r : Check) {k : ℕ} {out w m v : List Float} {c : top.Called} → top.called r out w m v ≡ c → k ≡ code (told r) → topExport k out w m v ≡ exportTop c
+unfolding exportTop
+top-returns r {out = out} {w = w} {m = m} {v = v} e f = (λ i. topExport (f i) out w m v) ∙ ap exportTop e
+
+pub gram-returns : (a : gram-answer.Answer) {code selected : ℕ} {out : List Float} {words : List ℕ} {c : gram.Called} (before : ℕ)
+    → gram.called a out words ≡ c → codedAs code selected ≡ coded countOf (gram.outcomeOf a) before → gramExport code selected out words ≡ exportGram c before
+unfolding exportGram
+gram-returns a {out = out} {words = words} before e f =
+    ap (λ (t : Coded ℕ). record { told = t; out = out; words = words }) f ∙ ap (λ (c : gram.Called). exportGram c before) e

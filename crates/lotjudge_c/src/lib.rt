@@ -11,11 +11,15 @@ ghost use Rattle.pcoa.specs.Call.{pcoaCall};
 ghost use Rattle.ordination_lines.specs.Lines.{badComponents};
 ghost use Rattle.hash_pca.specs.Call.{hashPcaCall};
 ghost use Rattle.dapc.specs.Call.{dapcCall};
+ghost use Rattle.jacobi.specs.Call.{jacobiCall};
+ghost use Rattle.topeigs.specs.Call.{topCall};
+ghost use Rattle.gram.specs.Call.{gramCall};
 ghost use Rattle.hexadecimal.specs.Page.{page, onto};
 ghost use Rattle.judge.specs.Judge.{judgeText};
 ghost use Rattle.layouts.specs.Coded.{arrays};
-ghost use Rattle.lengths.specs.Lengths.{testLengths, waysLengths, pcoaLengths, hashPcaLengths, dapcLengths, judgeLength, tell, told};
+ghost use Rattle.lengths.specs.Lengths.{testLengths, waysLengths, pcoaLengths, hashPcaLengths, dapcLengths, jacobiLengths, topLengths, gramLengths, judgeLength, tell, told};
 ghost use Rattle.lotjudge_c.specs.Exported.{exportTest, testExport, exportWays, waysExport, exportPcoa, pcoaExport, exportHashPca, hashPcaExport, exportDapc, dapcExport};
+ghost use Rattle.lotjudge_c.specs.Exported.{exportJacobi, jacobiExport, exportTop, topExport, exportGram, gramExport};
 
 #[no_mangle]
 pub extern "C" fn lotjudge_test(
@@ -161,6 +165,55 @@ pub extern "C" fn lotjudge_dapc(
 }
 
 #[no_mangle]
+pub extern "C" fn lotjudge_jacobi_eigen(
+    a: &[f64],
+    n: usize,
+    out: &mut [f64],
+    m: &mut [f64],
+    v: &mut [f64],
+    sweeps: &mut usize,
+) -> u8
+    ensures { λ r. ⌜ jacobiExport r (now (sweeps .exit)) (now (out .exit)) (now (m .exit)) (now (v .exit))
+        ≡ exportJacobi (jacobiCall n (now (a .entry)) (now (out .entry)) (now (m .entry)) (now (v .entry))) (now (sweeps .entry)) ⌝ }
+{
+    let r = jacobi::jacobi_eigen(a, n, out, m, v);
+    layouts::lay_sweeps(r, sweeps)
+}
+
+#[no_mangle]
+pub extern "C" fn lotjudge_top_eigs(
+    a: &[f64],
+    n: usize,
+    components: usize,
+    out: &mut [f64],
+    w: &mut [f64],
+    m: &mut [f64],
+    v: &mut [f64],
+) -> u8
+    ensures { λ r. ⌜ topExport r (now (out .exit)) (now (w .exit)) (now (m .exit)) (now (v .exit))
+        ≡ exportTop (topCall components n (now (a .entry)) (now (out .entry)) (now (w .entry)) (now (m .entry)) (now (v .entry))) ⌝ }
+{
+    let r = topeigs::top_eigs(a, n, components, out, w, m, v);
+    layouts::code_of(r)
+}
+
+#[no_mangle]
+pub extern "C" fn lotjudge_gram_matrix(
+    hashes: &[u64],
+    offsets: &[usize],
+    n: usize,
+    out: &mut [f64],
+    words: &mut [u64],
+    selected: &mut usize,
+) -> u8
+    ensures { λ r. ⌜ gramExport r (now (selected .exit)) (now (out .exit)) (now (words .exit))
+        ≡ exportGram (gramCall n (now (hashes .entry)) (now (offsets .entry)) (now (out .entry)) (now (words .entry))) (now (selected .entry)) ⌝ }
+{
+    let r = gram::gram_matrix(hashes, offsets, n, out, words);
+    layouts::lay_selected(r, selected)
+}
+
+#[no_mangle]
 pub extern "C" fn lotjudge_judge(text: &[u8], out: &mut [u8; 93]) -> usize
     ensures { λ r. ⌜ page r (now (out .exit)) ≡ onto (judgeText (now (text .entry))) (now (out .entry)) ⌝ }
 {
@@ -214,6 +267,31 @@ pub extern "C" fn lotjudge_dapc_lengths(n: usize, columns: usize, lengths: &mut 
     ensures { λ r. ⌜ told r (now (lengths .exit)) ≡ tell (ltb 256 n || ltb 16 columns) (dapcLengths n columns) (now (lengths .entry)) ⌝ }
 {
     lengths::dapc_lengths(n, columns, lengths)
+}
+
+#[no_mangle]
+pub extern "C" fn lotjudge_jacobi_eigen_lengths(n: usize, lengths: &mut [usize; 3]) -> u8
+    ensures { λ r. ⌜ told r (now (lengths .exit)) ≡ tell (ltb 256 n) (jacobiLengths n) (now (lengths .entry)) ⌝ }
+{
+    lengths::jacobi_lengths(n, lengths)
+}
+
+#[no_mangle]
+pub extern "C" fn lotjudge_top_eigs_lengths(
+    n: usize,
+    components: usize,
+    lengths: &mut [usize; 4],
+) -> u8
+    ensures { λ r. ⌜ told r (now (lengths .exit)) ≡ tell (ltb 256 n || badComponents components) (topLengths n (min components n)) (now (lengths .entry)) ⌝ }
+{
+    lengths::top_eigs_lengths(n, components, lengths)
+}
+
+#[no_mangle]
+pub extern "C" fn lotjudge_gram_matrix_lengths(n: usize, lengths: &mut [usize; 2]) -> u8
+    ensures { λ r. ⌜ told r (now (lengths .exit)) ≡ tell (ltb 256 n) (gramLengths n) (now (lengths .entry)) ⌝ }
+{
+    lengths::gram_lengths(n, lengths)
 }
 
 #[no_mangle]

@@ -1,5 +1,5 @@
 -- Sums that a loop adds up in the cells of a matrix, n rows of w. To the cell j, c go the terms `f j c i`, in order, of those i that pass the test `q j`.
--- The invariant `Adding`: i turns are made, and what is left of each cell's sum, from what the cell holds, is the whole sum. Assumes nothing.
+-- The invariant `Adding`: i turns are made, and what is left of each cell's sum, from what the cell holds, is the whole sum.
 use mathlib.Core.Path.{_≡_, refl, sym, ap, subst, _∙_}
 use mathlib.Core.Bool.{Bool, true, false}
 use mathlib.Core.List.{List, map}

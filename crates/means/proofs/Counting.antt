@@ -1,5 +1,5 @@
 -- How many samples each of g groups has, counted in one pass. The invariant `Counting`: i samples are counted, and with what is left each group has its
--- whole count. Assumes nothing.
+-- whole count.
 use mathlib.Core.Path.{_≡_, sym, ap, _∙_}
 use mathlib.Core.List.{List}
 use Prim.Native.Nat.{ℕ, _+_, _-_, _<_, _≤_}

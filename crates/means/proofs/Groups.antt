@@ -1,4 +1,4 @@
--- What a sample's group number j tells of the tests by which samples are picked. Assumes nothing.
+-- What a sample's group number j tells of the tests by which samples are picked.
 use mathlib.Core.Path.{_≡_, sym, ap, subst, _∙_}
 use mathlib.Core.Bool.{true, false, not}
 use mathlib.Core.List.{List}

@@ -1,4 +1,4 @@
--- A matrix, n rows of w, that a loop works out row by row in its own place: entry i, c becomes `g i c`. Assumes nothing.
+-- A matrix, n rows of w, that a loop works out row by row in its own place: entry i, c becomes `g i c`.
 use mathlib.Core.Path.{_≡_, sym, ap, subst, _∙_}
 use mathlib.Core.List.{List}
 use Prim.Native.Nat.{ℕ, _+_, _-_, _*_, _<_, _≤_}

@@ -1,4 +1,4 @@
--- A sample more in the sums of all, and in those of its group. Assumes nothing.
+-- A sample more in the sums of all, and in those of its group.
 -- x are rows of `columns`, of which the first p entries are added; `&x[i * columns..i * columns + p]` is lent as `take .. (drop ..)`.
 use mathlib.Core.Path.{_≡_, sym, ap, ap₂, subst, _∙_}
 use mathlib.Core.Bool.{Bool, not}

@@ -4,13 +4,16 @@ use designs::Design;
 use observation::Observed;
 use sampled_hits::Draws;
 use sampled_hits::Seen;
+use statistics::Statistic;
 use summaries::Summary;
 ghost use mathlib.Core.Path.{_≡_};
 ghost use Prim.Native.Nat.{ℕ, _≤_};
 ghost use lib.ListN.{length};
 ghost use Rattle.lot.specs.Lot.{Lot};
 ghost use Rattle.designs.specs.Designs.{Sound};
+ghost use Rattle.sampled_hits.specs.Drawn.{drawn};
 ghost use Rattle.sampled_hits.specs.Room.{Drawing};
+ghost use Rattle.measurement.specs.Settled.{neither, both};
 ghost use Rattle.measurement.specs.Tested.{chancesOf, tested};
 ghost use Rattle.measurement.specs.Room as room;
 
@@ -34,26 +37,63 @@ pub struct Chances {
     pub dispersion: Chance,
 }
 
-// Both p of the lot that a design describes, over its terms t, weights w and the observed z.
-fn chances_of(d: Design, t: &[f64], w: &[f64], z: &[f64], o: Observed, draws: Draws) -> Chances
-    requires { ⌜ Drawing d (now t) (now w) (now z) × (draws .many ≤ 999999) ⌝ }
-    ensures { λ r. ⌜ ((lot : Lot) → room.Seen lot d (now (t .entry)) (now (w .entry)) (now (z .entry)) o → r ≡ chancesOf lot (draws .seed) (draws .many)) ⌝ }
+// Whether neither statistic can have a p, whatever the hits: the strata tell nothing, or both are unbounded.
+fn neither(none: bool, location: Statistic, dispersion: Statistic) -> bool
+    ensures { λ r. ⌜ r ≡ neither none location dispersion ⌝ }
 {
-    let first = statistics::statistic_of(o.f);
-    let second = statistics::statistic_of(o.disp_f);
-    let seen = Seen {
-        location: first,
-        dispersion: second,
-        total: o.total,
+    let Statistic::Finite(_f) = location else {
+        let Statistic::Finite(_g) = dispersion else {
+            return true;
+        };
+        return none;
     };
+    none
+}
+
+// Both p, from the hits of the shuffles of a design over its terms t, weights w and the observed z.
+fn chances_drawn(
+    d: Design,
+    t: &[f64],
+    w: &[f64],
+    z: &[f64],
+    none: bool,
+    seen: Seen,
+    draws: Draws,
+) -> Chances
+    requires { ⌜ Drawing d (now t) (now w) (now z) × (draws .many ≤ 999999) ⌝ }
+    ensures { λ r. ⌜ r ≡ both none seen (drawn d (now (t .entry)) (now (w .entry)) (now (z .entry)) seen draws) (draws .many) ⌝ }
+{
+    let first = seen.location;
+    let second = seen.dispersion;
     let h = sampled_hits::draw(d, t, w, z, seen, draws);
-    let none = chances::uninformed(d.stratified, d.informing);
     let location = chances::chance_of(none, first, h.location, draws.many);
     let dispersion = chances::chance_of(none, second, h.dispersion, draws.many);
     Chances {
         location,
         dispersion,
     }
+}
+
+// Both p of the lot that a design describes, over its terms t, weights w and the observed z. Where neither can have one, no shuffle is made.
+fn chances_of(d: Design, t: &[f64], w: &[f64], z: &[f64], o: Observed, draws: Draws) -> Chances
+    requires { ⌜ Drawing d (now t) (now w) (now z) × (draws .many ≤ 999999) ⌝ }
+    ensures { λ r. ⌜ ((lot : Lot) → room.Seen lot d (now (t .entry)) (now (w .entry)) (now (z .entry)) o → r ≡ chancesOf lot (draws .seed) (draws .many)) ⌝ }
+{
+    let location = statistics::statistic_of(o.f);
+    let dispersion = statistics::statistic_of(o.disp_f);
+    let none = chances::uninformed(d.stratified, d.informing);
+    if neither(none, location, dispersion) {
+        return Chances {
+            location: Chance::NoP,
+            dispersion: Chance::NoP,
+        };
+    }
+    let seen = Seen {
+        location,
+        dispersion,
+        total: o.total,
+    };
+    chances_drawn(d, t, w, z, none, seen, draws)
 }
 
 // The answer, from what was observed and both p. `counts` are the groups' sizes.

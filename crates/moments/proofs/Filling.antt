@@ -1,4 +1,4 @@
--- Means and scatter together, and the room that they take. Assumes nothing.
+-- Means and scatter together, and the room that they take.
 use mathlib.Core.Path.{_≡_, ap, ap₂, _∙_}
 use mathlib.Core.Bool.{Bool, not}
 use mathlib.Core.List.{List}

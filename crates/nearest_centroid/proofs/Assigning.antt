@@ -1,5 +1,4 @@
 -- A sample more that is assigned. The invariant `Assigning`: i samples are, and with what is left the count of the right ones and the search for a NaN are whole.
--- Assumes nothing.
 use mathlib.Core.Path.{_≡_, refl, sym, ap, ap₂, subst, _∙_}
 use mathlib.Core.Bool.{Bool, true, false, cond, _||_}
 use mathlib.Core.List.{List, _∷_}

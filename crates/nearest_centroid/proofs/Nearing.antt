@@ -1,4 +1,4 @@
--- A group more that may be nearer. The invariant `Nearing`: of the first j distances the least is known, and whether one is a NaN. Assumes nothing.
+-- A group more that may be nearer. The invariant `Nearing`: of the first j distances the least is known, and whether one is a NaN.
 use mathlib.Core.Path.{_≡_, refl, sym, ap, ap₂, subst, _∙_}
 use mathlib.Core.Bool.{Bool, true, false, cond, _||_}
 use mathlib.Core.List.{List, [], _∷_, map}

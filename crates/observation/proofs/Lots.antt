@@ -1,4 +1,4 @@
--- Weights, terms and pulls of a design's samples are those of the lot that it describes, and so is what is observed over them. Assumes nothing.
+-- Weights, terms and pulls of a design's samples are those of the lot that it describes, and so is what is observed over them.
 use mathlib.Core.Path.{_≡_, ap, _∙_}
 use mathlib.Core.Bool.{Bool}
 use mathlib.Core.List.{List, map}

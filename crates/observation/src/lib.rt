@@ -188,7 +188,7 @@ fn observe_kept(
 }
 
 // Both statistics of the lot that a design describes, over its pulls p, terms t and weights w. z goes to the front of `z`, and each group's count and mean z
-// to the fronts of the outputs.
+// to the fronts of the outputs. What `z` holds past the kept samples is left open.
 pub fn observe(
     d: Design,
     p: &[f64],

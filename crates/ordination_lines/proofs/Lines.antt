@@ -1,4 +1,4 @@
--- Slices that are short, the lines of the table, and what the lengths are where no line holds. Assumes nothing.
+-- Slices that are short, the lines of the table, and what the lengths are where no line holds.
 use mathlib.Core.Path.{_≡_, refl, sym, ap, ap₂, _∙_}
 use mathlib.Core.Bool.{Bool, true, false, _||_}
 use mathlib.Core.List.{List, _++_}
@@ -10,8 +10,7 @@ use lib.Dec.{eqb, ltb}
 use lib.ListN.{length}
 use lib.Ieee.{Float}
 use Rattle.lists.specs.Filters.{any}
-use Rattle.outcome.specs.declared.Check.{Check}
-use Rattle.outcome.specs.declared.Check.the-variants.{Passed}
+use Rattle.outcome.specs.Outcome.{Told, passed}
 use Rattle.outcome.specs.Refusals.{Line, first, unfit, short}
 use Rattle.lists.proofs.Truths.{or-neither}
 use Rattle.outcome.proofs.Table.{first-both}
@@ -114,7 +113,7 @@ module _ (components n : ℕ) (d : List Float) (out b w m v : ℕ) where
   sizesOf = sizeLines (misfit (min components n)) n (badComponents components)
 
   -- lines 1 and 2 by what the code has found, for k leading components
-  pub sizes-told : {k : ℕ} {x y : Bool} {c : Check} → k ≡ min components n → x ≡ misfit k → y ≡ badComponents components → c ≡ first (sizeLines x n y) → c ≡ first sizesOf
+  pub sizes-told : {k : ℕ} {x y : Bool} {t : Told} → k ≡ min components n → x ≡ misfit k → y ≡ badComponents components → t ≡ first (sizeLines x n y) → t ≡ first sizesOf
   sizes-told e f g h = h ∙ ap₂ (λ (x y : Bool). first (sizeLines x n y)) (f ∙ ap misfit e) g
 
 -- where no line holds
@@ -124,12 +123,13 @@ pub record Fits (k n d out b w m v : ℕ) : Type 0 where
   pub asks : Asked k n
   pub room : Room k n out b w m v
 
-pub passed-fits : (components n : ℕ) (d : List Float) (out b w m v : ℕ) {k : ℕ} → k ≡ min components n → Passed ≡ first (pcoaLines components n d out b w m v)
+pub passed-fits : (components n : ℕ) (d : List Float) (out b w m v : ℕ) {k : ℕ} → k ≡ min components n → passed ≡ first (pcoaLines components n d out b w m v)
     → Fits k n (length d) out b w m v
 unfolding pcoaLines
 passed-fits components n d out b w m v {k} e p =
     let k′ = min components n in
-    let sized = sizes-known (misfit components n d out b w m v k′) n (badComponents components) (first-both (sizesOf components n d out b w m v) (matrixLines d ++ fewLines n) (sym p) .0) in
+    let sizes = first-both (sizesOf components n d out b w m v) (matrixLines d ++ fewLines n) (sym p) .0 in
+    let sized = sizes-known (misfit components n d out b w m v k′) n (badComponents components) sizes in
     let one = or-neither (unfit d (n * n)) (tooShort k′ n out b w m v) (sized .fit) in
     record {
       distances = eqb-true _ _ (not-false _ (one .0));

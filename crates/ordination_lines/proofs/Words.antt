@@ -1,4 +1,4 @@
--- The lengths that `hash_pca` asks. Assumes nothing.
+-- The lengths that `hash_pca` asks.
 use mathlib.Core.Path.{_≡_, refl, sym}
 use mathlib.Core.Bool.{Bool, true, false}
 use Prim.Native.Nat.{ℕ, _*_, _/_, _<_, _≤_}

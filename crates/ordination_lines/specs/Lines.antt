@@ -4,7 +4,6 @@ use mathlib.Core.Bool.{Bool, _||_}
 use mathlib.Core.List.{List, [], _∷_, _++_}
 use lib.Dec.{eqb, ltb}
 use lib.Ieee.{Float}
-use Rattle.outcome.specs.declared.Refusal.the-variants.{Ordination}
 use Rattle.outcome.specs.Refusals.{Line, _when_, unfit}
 use Rattle.lot.specs.Lines.{sizeLines, matrixLines}
 use Rattle.ordination_lines.specs.Lengths.{tooShort}
@@ -15,7 +14,7 @@ badComponents components = eqb components 0 || ltb 16 components
 
 -- 6
 abbrev pub fewLines : ℕ → List Line
-fewLines n = (Ordination when ltb n 3) ∷ []
+fewLines n = (6 when ltb n 3) ∷ []
 
 -- sizes and the matrix as for the tests, then 6; components above n mean n
 unfoldable pub pcoaLines : ℕ → ℕ → List Float → ℕ → ℕ → ℕ → ℕ → ℕ → List Line

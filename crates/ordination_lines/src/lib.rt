@@ -5,6 +5,7 @@ ghost use mathlib.Core.Path.{_≡_};
 ghost use Prim.Native.Nat.{_*_, _≤_, min};
 ghost use mathlib.Core.Bool.{not, _||_};
 ghost use lib.Dec.{eqb};
+ghost use Rattle.outcome.specs.Numbers.{told};
 ghost use Rattle.outcome.specs.Refusals.{first};
 ghost use Rattle.ordination_lines.specs.Lengths.{tooShort, lacking};
 ghost use Rattle.ordination_lines.specs.Lines.{badComponents, pcoaLines};
@@ -97,7 +98,7 @@ pub fn check(
     v: usize,
 ) -> Check
     requires { ⌜ k ≡ min components n ⌝ }
-    ensures { λ r. ⌜ r ≡ first (pcoaLines components n (now (d .entry)) out b w m v) ⌝ }
+    ensures { λ r. ⌜ told r ≡ first (pcoaLines components n (now (d .entry)) out b w m v) ⌝ }
 {
     let misfit = misfits(d.len(), n, k, out, b, w, m, v);
     let sizes = lines::check_sizes(misfit, n, bad_components(components));

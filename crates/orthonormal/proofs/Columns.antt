@@ -1,5 +1,5 @@
 -- Gram-Schmidt column by column. A column is worked on in one block and goes to another: the first j columns of the one with the rest of the other
--- are the block that the definition has. Assumes nothing.
+-- are the block that the definition has.
 use mathlib.Core.Path.{_≡_, sym, ap, ap₂, _∙_}
 use mathlib.Core.List.{List, _++_, append-assoc, append-nil}
 use Prim.Native.Nat.{ℕ, zero, suc, _+_, _*_, _<_, _≤_}

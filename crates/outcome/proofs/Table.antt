@@ -1,4 +1,5 @@
--- The table goes line by line and group by group: a line that holds is returned, and what does not hold leaves it to the rest. Assumes nothing.
+-- The table goes line by line and group by group: a line that holds is returned, and what does not hold leaves it to the rest.
+use Prim.Native.Nat.{ℕ}
 use mathlib.Core.Path.{_≡_, refl, sym, ap, _∙_}
 use mathlib.Core.Bool.{Bool, true, false, _&&_, cond}
 use mathlib.Core.List.{List, [], _∷_, _++_}
@@ -6,72 +7,83 @@ use Rattle.lists.specs.Filters.{all}
 use Rattle.outcome.specs.declared.Refusal.{Refusal}
 use Rattle.outcome.specs.declared.Check.{Check}
 use Rattle.outcome.specs.declared.Check.the-variants.{Passed, Refused}
+use Rattle.outcome.specs.Outcome.{Told, answered, refused, passed}
+use Rattle.outcome.specs.Numbers.{number, told}
 use Rattle.outcome.specs.Refusals.{Line, _when_, first}
 use Rattle.outcome.specs.Slices.{untouched}
 
-module _ (r : Refusal) (lines : List Line) {b : Bool} where
-  pub first-holds : b ≡ true → first ((r when b) ∷ lines) ≡ Refused r
+module _ (k : ℕ) (lines : List Line) {b : Bool} where
+  pub first-holds : b ≡ true → first ((k when b) ∷ lines) ≡ refused k
   unfolding first
-  first-holds e = ap (λ (t : Bool). cond t (Refused r) (first lines)) e
+  first-holds e = ap (λ (t : Bool). cond t (refused k) (first lines)) e
 
-  pub first-passes : b ≡ false → first ((r when b) ∷ lines) ≡ first lines
+  pub first-passes : b ≡ false → first ((k when b) ∷ lines) ≡ first lines
   unfolding first
-  first-passes e = ap (λ (t : Bool). cond t (Refused r) (first lines)) e
+  first-passes e = ap (λ (t : Bool). cond t (refused k) (first lines)) e
 
 -- where no line holds, none of the conditions does
-pub first-passed : (r : Refusal) (lines : List Line) (b : Bool) → Passed ≡ first ((r when b) ∷ lines) → (b ≡ false) × (Passed ≡ first lines)
+pub first-passed : (k : ℕ) (lines : List Line) (b : Bool) → passed ≡ first ((k when b) ∷ lines) → (b ≡ false) × (passed ≡ first lines)
 unfolding first
-first-passed r lines true e = (cc, cc)
-first-passed r lines false e = (refl, e)
+first-passed k lines true e = (cc, cc)
+first-passed k lines false e = (refl, e)
 
 -- ---- groups of lines
 
 -- lines that pass leave it to those that follow
-pub first-after : (xs ys : List Line) → first xs ≡ Passed → first (xs ++ ys) ≡ first ys
+pub first-after : (xs ys : List Line) → first xs ≡ passed → first (xs ++ ys) ≡ first ys
 unfolding first
 first-after [] ys e = refl
 first-after (x ∷ xs) ys e = by (x .holds) e (λ e. first-after xs ys e)
   where
-    by : (b : Bool) → cond b (Refused (x .returned)) (first xs) ≡ Passed → (first xs ≡ Passed → first (xs ++ ys) ≡ first ys)
-        → cond b (Refused (x .returned)) (first (xs ++ ys)) ≡ first ys
+    by : (b : Bool) → cond b (refused (x .returned)) (first xs) ≡ passed → (first xs ≡ passed → first (xs ++ ys) ≡ first ys)
+        → cond b (refused (x .returned)) (first (xs ++ ys)) ≡ first ys
     by true e more = cc
     by false e more = more e
 
 -- a line that they return stays
-pub first-before : (xs ys : List Line) {r : Refusal} → first xs ≡ Refused r → first (xs ++ ys) ≡ Refused r
+pub first-before : (xs ys : List Line) {k : ℕ} → first xs ≡ refused k → first (xs ++ ys) ≡ refused k
 unfolding first
 first-before [] ys e = cc
-first-before (x ∷ xs) ys {r} e = by (x .holds) e (λ e. first-before xs ys e)
+first-before (x ∷ xs) ys {k} e = by (x .holds) e (λ e. first-before xs ys e)
   where
-    by : (b : Bool) → cond b (Refused (x .returned)) (first xs) ≡ Refused r → (first xs ≡ Refused r → first (xs ++ ys) ≡ Refused r)
-        → cond b (Refused (x .returned)) (first (xs ++ ys)) ≡ Refused r
+    by : (b : Bool) → cond b (refused (x .returned)) (first xs) ≡ refused k → (first xs ≡ refused k → first (xs ++ ys) ≡ refused k)
+        → cond b (refused (x .returned)) (first (xs ++ ys)) ≡ refused k
     by true e more = e
     by false e more = more e
 
 -- where no line of two groups holds, none of either does
-pub first-both : (xs ys : List Line) → first (xs ++ ys) ≡ Passed → (first xs ≡ Passed) × (first ys ≡ Passed)
+pub first-both : (xs ys : List Line) → first (xs ++ ys) ≡ passed → (first xs ≡ passed) × (first ys ≡ passed)
 first-both xs ys e = by (first xs) refl
   where
-    by : (c : Check) → first xs ≡ c → (first xs ≡ Passed) × (first ys ≡ Passed)
-    by Passed h = (h, sym (first-after xs ys h) ∙ e)
-    by (Refused r) h = let z : Refused r ≡ Passed = sym (first-before xs ys h) ∙ e in (cc, cc)
-
--- one check after another: the first that refuses wins
-module _ (xs ys : List Line) {c : Check} (e : c ≡ first xs) where
-  pub told-refused : {r : Refusal} → c ≡ Refused r → c ≡ first (xs ++ ys)
-  told-refused h = h ∙ sym (first-before xs ys (sym e ∙ h))
-
-  pub told-next : {d : Check} → c ≡ Passed → d ≡ first ys → d ≡ first (xs ++ ys)
-  told-next h f = f ∙ sym (first-after xs ys (sym e ∙ h))
+    by : (c : Told) → first xs ≡ c → (first xs ≡ passed) × (first ys ≡ passed)
+    by (answered _) h = (h, sym (first-after xs ys h) ∙ e)
+    by (refused k) h = let z : refused k ≡ passed = sym (first-before xs ys h) ∙ e in (cc, cc)
 
 -- where every line leaves what is lent alone, so does the one that is returned
-pub first-untouched : (lines : List Line) {r : Refusal} → all (λ l. untouched (l .returned)) lines ≡ true → Refused r ≡ first lines → untouched r ≡ true
+pub first-untouched : (lines : List Line) {k : ℕ} → all (λ l. untouched (l .returned)) lines ≡ true → refused k ≡ first lines → untouched k ≡ true
 unfolding first all
 first-untouched [] h e = cc
-first-untouched (l ∷ lines) {r} h e = by (l .holds) (untouched (l .returned)) refl h e (λ h e. first-untouched lines h e)
+first-untouched (l ∷ lines) {k} h e = by (l .holds) (untouched (l .returned)) refl h e (λ h e. first-untouched lines h e)
   where
-    by : (b t : Bool) → untouched (l .returned) ≡ t → t && all (λ l. untouched (l .returned)) lines ≡ true → Refused r ≡ cond b (Refused (l .returned)) (first lines)
-        → (all (λ l. untouched (l .returned)) lines ≡ true → Refused r ≡ first lines → untouched r ≡ true) → untouched r ≡ true
-    by true true u h e more = let same : r ≡ l .returned = cc in ap untouched same ∙ u
+    by : (b t : Bool) → untouched (l .returned) ≡ t → t && all (λ l. untouched (l .returned)) lines ≡ true → refused k ≡ cond b (refused (l .returned)) (first lines)
+        → (all (λ l. untouched (l .returned)) lines ≡ true → refused k ≡ first lines → untouched k ≡ true) → untouched k ≡ true
+    by true true u h e more = let same : k ≡ l .returned = cc in ap untouched same ∙ u
     by false true u h e more = more h e
     by b false u h e more = cc
+
+-- ---- what a check that the code returns says
+
+module _ {c : Check} {t : Told} (e : told c ≡ t) where
+  pub told-passed : c ≡ Passed → passed ≡ t
+  told-passed h = ap told (sym h) ∙ e
+
+  pub told-refused : {r : Refusal} → c ≡ Refused r → refused (number r) ≡ t
+  told-refused h = ap told (sym h) ∙ e
+
+-- one check after another: the first that refuses wins
+module _ (xs ys : List Line) {c : Check} (e : told c ≡ first xs) where
+  pub check-refused : {r : Refusal} → c ≡ Refused r → told c ≡ first (xs ++ ys)
+  check-refused h = e ∙ sym (told-refused e h) ∙ sym (first-before xs ys (sym (told-refused e h)))
+
+  pub check-next : {t : Told} → c ≡ Passed → t ≡ first ys → t ≡ first (xs ++ ys)
+  check-next h f = f ∙ sym (first-after xs ys (sym (told-passed e h)))

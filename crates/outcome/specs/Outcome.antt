@@ -1,30 +1,33 @@
--- What an operation answers: a value, or a refusal. Definitions only.
+-- What an operation answers: a value, or the number of the line that turns the call away. Definitions only.
 use Prim.Native.Nat.{ℕ}
-use Rattle.outcome.specs.declared.Refusal.{Refusal}
-use Rattle.outcome.specs.declared.Check.{Check}
-use Rattle.outcome.specs.declared.Check.the-variants.{Passed, Refused}
-use Rattle.outcome.specs.Refusals.{number}
 
 pub data Outcome (A : Type 0) : Type 0 where
   answered : A → Outcome A
-  refused : Refusal → Outcome A
+  refused : ℕ → Outcome A
+
+-- what the table alone says of a call: no line holds, or the number of the first that does
+abbrev pub Told : Type 0
+Told = Outcome Unit
+
+abbrev pub passed : Told
+passed = answered tt
 
 -- an operation answers where no line of the table holds
-abbrev pub judged : {A : Type 0} → Check → Outcome A → Outcome A
-judged Passed out = out
-judged (Refused r) out = refused r
+abbrev pub judged : {A : Type 0} → Told → Outcome A → Outcome A
+judged (answered _) out = out
+judged (refused k) out = refused k
 
 -- f of an answer; a refusal stays
 unfoldable pub andThen : {A B : Type 0} → Outcome A → (A → Outcome B) → Outcome B
 andThen (answered a) f = f a
-andThen (refused r) f = refused r
+andThen (refused k) f = refused k
 
--- what is returned, of what is found
-abbrev pub checkOf : {A : Type 0} → Outcome A → Check
-checkOf (answered a) = Passed
-checkOf (refused r) = Refused r
+-- an outcome without its answer
+abbrev pub toldOf : {A : Type 0} → Outcome A → Told
+toldOf (answered _) = passed
+toldOf (refused k) = refused k
 
 -- 0, or the number of the line
-unfoldable pub code : {A : Type 0} → Outcome A → ℕ
-code (answered a) = 0
-code (refused r) = number r
+abbrev pub code : {A : Type 0} → Outcome A → ℕ
+code (answered _) = 0
+code (refused k) = k

@@ -1,27 +1,15 @@
 -- What lent slices hold afterwards (document 01, the table's last column and below it). Definitions only.
 use Prim.Native.Nat.{ℕ}
-use mathlib.Core.Bool.{Bool, true, false, cond}
+use mathlib.Core.Bool.{Bool, not, _||_, cond}
 use mathlib.Core.List.{List}
+use lib.Dec.{eqb}
 use lib.ListN.{replicate}
 use Rattle.lists.specs.Writes.{over, cleared}
-use Rattle.outcome.specs.declared.Refusal.{Refusal}
-use Rattle.outcome.specs.declared.Refusal.the-variants.{Length, Limit, Value, Weight, Labels, Ordination, Hashes, Ways, Columns, Pivot, Unordered, Frame}
 use Rattle.outcome.specs.Outcome.{Outcome, answered, refused}
 
--- 1 to 9 leave every slice untouched, and 12 is the program's alone; 10 and 11 zero an output's first part and all work
-abbrev pub untouched : Refusal → Bool
-untouched Length = true
-untouched Limit = true
-untouched Value = true
-untouched Weight = true
-untouched Labels = true
-untouched Ordination = true
-untouched Hashes = true
-untouched Ways = true
-untouched Columns = true
-untouched Pivot = false
-untouched Unordered = false
-untouched Frame = true
+-- 10 and 11 zero an output's first part and all work, every other refusal leaves every slice untouched
+abbrev pub untouched : ℕ → Bool
+untouched k = not (eqb k 10 || eqb k 11)
 
 -- An output: its first part, of k entries, is the part that the answer gives, or zeros, or as it was. The rest stays.
 unfoldable pub output : {A B : Type 0} → B → (A → List B) → ℕ → Outcome A → List B → List B

@@ -1,6 +1,6 @@
 // What a turned-away lot returns: the lines of document 01's table.
 ghost use mathlib.Core.Path.{_≡_};
-ghost use Rattle.outcome.specs.Refusals.{number};
+ghost use Rattle.outcome.specs.Numbers.{number};
 
 // One name for each line of the table.
 pub enum Refusal {

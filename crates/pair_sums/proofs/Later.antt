@@ -1,4 +1,4 @@
--- A member with each later one: the members from a place on as a part of the list, and the terms of the first members before those of the rest. Assumes nothing.
+-- A member with each later one: the members from a place on as a part of the list, and the terms of the first members before those of the rest.
 use mathlib.Core.Path.{_≡_, refl, sym, ap, subst, _∙_}
 use mathlib.Core.List.{List, map}
 use Prim.Native.Nat.{ℕ, zero, suc, _+_, _-_, _≤_}

@@ -1,4 +1,4 @@
--- Lists of places. Assumes nothing.
+-- Lists of places.
 use Prim.Native.Nat.{ℕ, _+_, _<_}
 use mathlib.Core.Path.{subst}
 use mathlib.Core.List.{List}

@@ -1,35 +1,81 @@
--- The exact case: with weights 1 and whole distances up to 1,000 the pair sums before division are the whole-number sums (`whole-sums`). Assumes nothing.
-use mathlib.Core.Path.{_≡_, refl, sym, ap, ap₂, _∙_, subst}
+-- Sums of whole numbers as floats are exact: sums and pair sums of terms that are whole numbers are the whole-number sums, up to 2 ^ 53.
+use mathlib.Core.Path.{_≡_, refl, sym, ap, _∙_, subst}
 use mathlib.Core.Logic.{inl, inr}
-use mathlib.Core.Bool.{Bool, true, false, _&&_, cond, false≢true}
-use mathlib.Core.List.{List, [], _∷_, _++_, map, List·Memᴰ as Member, List·Memᴰ·head, List·Memᴰ·tail, List·Memᴰ·not-nil}
-use Prim.Native.Nat.{ℕ, zero, suc, _+_, _-_, _*_, _^_, _<_, _≤_}
-use native.Mathlib.Nat.{add-zero, add-assoc, zero-add, one-mul, mul-le-mul, not-suc-le-zero, le-of-suc-le-suc, le-refl}
+use mathlib.Core.Bool.{Bool, true, false, false≢true}
+use mathlib.Core.List.{List, [], _∷_, _++_, map, List·Memᴰ as Member, List·Memᴰ·head, List·Memᴰ·tail}
+use Prim.Native.Nat.{ℕ, _+_, _-_, _*_, _^_, _<_, _≤_}
+use native.Mathlib.Nat.{add-zero, add-assoc, zero-add, mul-one, mul-right-comm, eq-of-mul-eq-mul-right, mul-le-mul, le-refl, zero-lt-suc}
 use native.Mathlib.Omega.{arith}
 use lib.IntN.{pos}
-use lib.Dec.{T, leb, lit≤}
-use lib.ListN.{length, getD, replicate, length-map, getD-replicate, List·getD-map}
-use lib.Ieee.{Float, nan, binary64, ofBits, ofInt, neg}
-use lib.Ieee.Fits.{ofInt-fits}
-use borrow.Author.Tests.{leb-true}
-use Rattle.float.specs.Floats.{_⊕_, _⊗_, num, zero⁺, zero⁻, 1·0}
+use lib.Dec.{T, eqb, eqb→eq}
+use lib.ListN.{length}
+use lib.Ieee.{Float, inf, fin, binary64, up, down, unlike, round, eq, ofBits, ofInt, neg}
+use lib.Ieee.Exact.{HasValue}
+use lib.Ieee.Fits.{ofInt-fits, down-pos, and-l}
+use Rattle.float.specs.Floats.{_⊕_, _⊗_, num, zero⁺, zero⁻}
+use Rattle.float.specs.Value.{SignedLe}
 use Rattle.float.specs.Whole.{Whole as WholeFloat}
-use Rattle.float.proofs.Value.{zeroOf}
+use Rattle.float.proofs.Order.{eq-value}
+use Rattle.float.proofs.Product.{mul-values}
 use Rattle.float.proofs.Sum.{add-neg-zero, neg-zero-add}
-use Rattle.float.proofs.Whole.{add-ofNat, mul-ofNat, ofNat-zero}
-use Rattle.lists.specs.Ranges.{range, grid}
-use Rattle.lists.specs.Filters.{all, pairs, keep}
-use Rattle.lists.specs.Numbers.{addUp, members, inGroup}
+use Rattle.float.proofs.Whole.{ofNat-value, add-ofNat, ofNat-zero}
+use Rattle.lists.specs.Ranges.{range}
+use Rattle.lists.specs.Filters.{pairs}
+use Rattle.lists.specs.Numbers.{addUp}
 use Rattle.lists.specs.Sums.{sumFrom}
 use Rattle.lists.specs.Rows.{entry}
-use Rattle.lists.proofs.Ranges.{range-more, range-none, length-range, range-upFrom, getD-upFrom}
-use Rattle.lists.proofs.Filters.{length-keep, countIf-below}
+use Rattle.lists.proofs.Ranges.{range-more, length-range}
+use Rattle.lists.proofs.Members.{member-upFrom}
 use Rattle.lists.proofs.Sums.{sum-append}
 use Rattle.lists.proofs.Numbers.{addUp-append, addUp-le, pairs-le, rows-pairs}
-use Rattle.lists.proofs.Rows.{entry-grid, cell-below}
-use Rattle.squares.specs.Squares.{squareAt, termAt, terms}
 use Rattle.pair_sums.specs.PairSums.{rowSum, rowsSum, pairSum}
-use Rattle.pair_sums.specs.Whole.{wholeTerms, wholeSquare, WholeSums, Whole}
+
+-- ---- a float that equals a whole number
+
+equal-value : (x y : Float) (n : ℕ) → HasValue y false n 1 → T (eq x y) → (s : Bool) × HasValue x s n 1
+unfolding eq
+equal-value (inf s) (fin t k d) n v h = absurd h
+equal-value (fin s m e) (fin t k d) n v h =
+    let same : m * up e * down d ≡ k * up d * down e = eqb→eq _ _ (and-l (eqb (m * up e * down d) (k * up d * down e)) _ h) in
+    let whole : k * up d ≡ n * down d = sym (mul-one (k * up d)) ∙ v .1 in
+    let both : m * up e * down d ≡ n * down e * down d = same ∙ ap (λ (z : ℕ). z * down e) whole ∙ mul-right-comm n (down d) (down e) in
+    (s, (refl, mul-one (m * up e) ∙ eq-of-mul-eq-mul-right (down d) (down-pos d) (m * up e) (n * down e) both))
+
+-- its value, and its sign, which is minus only for 0
+pub record Valued (x : Float) (n : ℕ) : Type 0 where
+  pub minus : Bool
+  pub value : HasValue x minus n 1
+  pub signed : minus ≡ true → n ≡ 0
+
+pub valued : (x : Float) (n : ℕ) → n ≤ 2 ^ 53 → T (eq x (num n)) → Valued x n
+valued x n h e =
+    let v = ofNat-value binary64 n h in
+    let r = equal-value x (num n) n v e in
+    record { minus = r .0; value = r .1; signed = plus (r .0) (eq-value x (num n) (r .0) n 1 false n 1 (zero-lt-suc 0) (zero-lt-suc 0) (r .1) v .0 e .1) }
+  where
+    plus : (s : Bool) → SignedLe false (n * 1) s (n * 1) → s ≡ true → n ≡ 0
+    plus true l s = omega arith
+    plus false l s = absurd (false≢true s)
+
+pub square-whole : (x : Float) (n : ℕ) → Valued x n → x ⊗ x ≡ num (n * n)
+unfolding ofInt
+square-whole x n e =
+    mul-values binary64 x x (e .minus) n 1 (e .minus) n 1 (zero-lt-suc 0) (zero-lt-suc 0) (e .value) (e .value)
+    ∙ ap (λ (s : Bool). round binary64 s (n * n) 1) (alike (e .minus))
+  where
+    alike : (s : Bool) → unlike s s ≡ false
+    alike true = refl
+    alike false = refl
+
+pub ones-whole : (x y : Float) → Valued x 1 → Valued y 1 → x ⊗ y ≡ num 1
+unfolding ofInt
+ones-whole x y e d =
+    mul-values binary64 x y (e .minus) 1 1 (d .minus) 1 1 (zero-lt-suc 0) (zero-lt-suc 0) (e .value) (d .value)
+    ∙ (λ i. round binary64 (unlike (plus (e .minus) (e .signed) i) (plus (d .minus) (d .signed) i)) 1 1)
+  where
+    plus : (s : Bool) → (s ≡ true → _≡_ {A = ℕ} 1 0) → s ≡ false
+    plus true h = absurd (omega (arith, h refl))
+    plus false h = refl
 
 -- ---- sums of whole floats, from a whole number, stay exact
 
@@ -81,147 +127,61 @@ whole-row : {A : Type 0} (g : A → Float) (h : A → ℕ) (xs : List A) → ((x
 whole-row g h [] each most = unfold addUp sumFrom ofBits neg in inr (refl, refl)
 whole-row g h (x ∷ xs) each most = inl (exact-first g h x xs (each x (List·Memᴰ·head refl)) (λ y m. inl (each y (List·Memᴰ·tail m))) most)
 
--- ---- members of ranges and groups
+-- ---- sums over pairs of whole numbers up to a bound
 
-range-member : (m k i x : ℕ) → i + k ≡ m → Member x (range i m) → (i ≤ x) × (x < m)
-range-member m zero i x e mem = absurd (List·Memᴰ·not-nil (subst (Member x) (range-none i m (omega arith)) mem))
-range-member m (suc k) i x e mem = go (subst (Member x) (range-more i m (omega arith)) mem) (λ t. range-member m k (i + 1) x (omega arith) t)
-  where
-    go : Member x (i ∷ range (i + 1) m) → (Member x (range (i + 1) m) → (i + 1 ≤ x) × (x < m)) → (i ≤ x) × (x < m)
-    go (List·Memᴰ·head p) rest = (omega arith, omega arith)
-    go (List·Memᴰ·tail t) rest = let r = rest t in (omega arith, r .1)
+pub pairs-few : (h : ℕ → ℕ → ℕ) (bound : ℕ) → ((a b : ℕ) → h a b ≤ bound) → (xs : List ℕ) → length xs ≤ 256 → addUp (pairs h xs) ≤ 256 * 256 * bound
+pairs-few h bound low xs few =
+    let n : length xs * length xs ≤ 256 * 256 = mul-le-mul few few in
+    let k : length xs * length xs * bound ≤ 256 * 256 * bound = mul-le-mul n (le-refl bound) in
+    omega (arith, pairs-le bound h xs low)
 
-keep-member : {A : Type 0} (p : A → Bool) (xs : List A) (x : A) → Member x (keep p xs) → Member x xs
-unfolding keep
-keep-member p [] x mem = mem
-keep-member p (y ∷ ys) x mem = go (p y) mem (λ t. keep-member p ys x t)
-  where
-    go : (b : Bool) → Member x (cond b (y ∷ keep p ys) (keep p ys)) → (Member x (keep p ys) → Member x ys) → Member x (y ∷ ys)
-    go true (List·Memᴰ·head e) rest = List·Memᴰ·head e
-    go true (List·Memᴰ·tail t) rest = List·Memᴰ·tail (rest t)
-    go false t rest = List·Memᴰ·tail (rest t)
+-- t are the terms of m samples
+module _ (t : List Float) (m : ℕ) (h : ℕ → ℕ → ℕ) (bound : ℕ) (small : m ≤ 256) (fits : 256 * 256 * bound ≤ 2 ^ 53) (low : (a b : ℕ) → h a b ≤ bound)
+    (each : (a b : ℕ) → a < m → b < m → entry m t a b ≡ num (h a b)) where
+  pub pairs-whole : (xs : List ℕ) → length xs ≤ 256 → ((x : ℕ) → Member x xs → x < m) → pairSum t m xs ≡ num (addUp (pairs h xs))
+  unfolding pairSum
+  pairs-whole xs few below =
+      ap (λ (s : Float). sumFrom s (pairs (entry m t) xs)) zero-num
+      ∙ exact-pairs (entry m t) h xs 0 (λ x y p q. each x y (below x p) (below y q)) (omega (arith, pairs-few h bound low xs few))
+      ∙ ap num (zero-add (addUp (pairs h xs)))
 
--- ---- the terms
+  -- a row's whole sum
+  rowWhole : ℕ → ℕ
+  rowWhole a = addUp (map (h a) (range (a + 1) m))
 
-all-below : (d : List ℕ) (i : ℕ) → all (λ x. leb x 1000) d ≡ true → getD d i 0 ≤ 1000
-unfolding all
-all-below [] i e = omega arith
-all-below (x ∷ d) zero e = leb-true x 1000 (first (leb x 1000) (all (λ x. leb x 1000) d) e)
-  where
-    first : (a b : Bool) → (a && b) ≡ true → a ≡ true
-    first true b e = refl
-    first false b e = e
-all-below (x ∷ d) (suc i) e = all-below d i (second (leb x 1000) (all (λ x. leb x 1000) d) e)
-  where
-    second : (a b : Bool) → (a && b) ≡ true → b ≡ true
-    second true b e = e
-    second false b e = absurd (false≢true e)
+  row-few : (a : ℕ) → rowWhole a ≤ 2 ^ 53
+  unfolding rowWhole
+  row-few a =
+      let n : length (range (a + 1) m) ≤ 256 * 256 = omega (arith, length-range (a + 1) m) in
+      let k : length (range (a + 1) m) * bound ≤ 256 * 256 * bound = mul-le-mul n (le-refl bound) in
+      omega (arith, addUp-le bound (h a) (range (a + 1) m) (low a))
 
-module _ (m : ℕ) (d : List ℕ) (small : m ≤ 256) (whole : all (λ x. leb x 1000) d ≡ true) where
-  square-below : (a b : ℕ) → wholeSquare d m a b ≤ 1000000
-  unfolding wholeSquare
-  square-below a b = let h = all-below d (a * m + b) whole in mul-le-mul h h
+  later : (i x : ℕ) → i ≤ m → Member x (range i m) → x < m
+  unfolding range
+  later i x le mem = omega (arith, member-upFrom i (m - i) x mem .1)
 
-  one-num : 1·0 ≡ num 1
-  unfolding ofBits ofInt
-  one-num = refl
+  row-whole : (a : ℕ) → a < m → WholeFloat binary64 (rowSum t m a) (rowWhole a)
+  unfolding rowSum rowWhole
+  row-whole a l = whole-row (entry m t a) (h a) (range (a + 1) m) (λ x mem. each a x l (later (a + 1) x (omega arith) mem)) (row-few a)
 
-  place : (a : ℕ) → a < m → getD (range 0 m) a 0 ≡ a
-  place a h = ap (λ (l : List ℕ). getD l a 0) (range-upFrom m) ∙ getD-upFrom 0 m a 0 h ∙ zero-add a
-
-  distance : (i : ℕ) → i < length d → getD (map num d) i nan ≡ num (getD d i 0)
-  distance i h = default (map num d) i nan (num 0) (rw length-map h) ∙ List·getD-map num d i 0
-    where
-      default : (l : List Float) (i : ℕ) (x y : Float) → i < length l → getD l i x ≡ getD l i y
-      default [] i x y h = absurd (not-suc-le-zero h)
-      default (z ∷ l) zero x y h = refl
-      default (z ∷ l) (suc i) x y h = default l i x y (le-of-suc-le-suc h)
-
-  weight : (a : ℕ) → a < m → getD (replicate m 1·0) a nan ≡ num 1
-  weight a h = getD-replicate m a 1·0 nan h ∙ one-num
-
-  module _ (long : length d ≡ m * m) where
-    at-pair : (a b : ℕ) → a < m → b < m → termAt (map num d) m (range 0 m) (replicate m 1·0) a b ≡ num (wholeSquare d m a b)
-    unfolding termAt squareAt entry wholeSquare
-    at-pair a b h g =
-        let x = getD d (a * m + b) 0 in
-        let low : x ≤ 1000 = all-below d (a * m + b) whole in
-        let few : x * x ≤ 1000000 = mul-le-mul low low in
-        let inside : a * m + b < length d = subst (λ (n : ℕ). a * m + b < n) (sym long) (cell-below m m a b h g) in
-        let e : getD (map num d) (getD (range 0 m) a 0 * m + getD (range 0 m) b 0) nan ≡ num x = rw (place a h, place b g) (distance (a * m + b) inside) in
-        rw (weight a h, weight b g, e, mul-ofNat binary64 1 1 (lit≤ tt) (lit≤ tt), mul-ofNat binary64 x x (omega arith) (omega arith))
-        (mul-ofNat binary64 1 (x * x) (lit≤ tt) (omega arith) ∙ ap num (one-mul (x * x)))
-
-    term-whole : (a b : ℕ) → a < m → b < m → entry m (wholeTerms d m) a b ≡ num (wholeSquare d m a b)
-    unfolding wholeTerms terms
-    term-whole a b h g = entry-grid m m (termAt (map num d) m (range 0 m) (replicate m 1·0)) a b h g ∙ at-pair a b h g
-
-    -- ---- the sums
-
-    most : (xs : List ℕ) → length xs ≤ 256 → addUp (pairs (wholeSquare d m) xs) ≤ 2 ^ 53
-    most xs h =
-        let n : length xs * length xs ≤ 256 * 256 = mul-le-mul h h in
-        let k : length xs * length xs * 1000000 ≤ 256 * 256 * 1000000 = mul-le-mul n (le-refl 1000000) in
-        omega (arith, pairs-le 1000000 (wholeSquare d m) xs square-below)
-
-    members-few : (lab : List ℕ) (j : ℕ) → length (members lab m j) ≤ 256
-    unfolding members
-    members-few lab j =
-        omega (arith, length-keep (inGroup lab j) (range 0 m), countIf-below (inGroup lab j) (range 0 m), length-range 0 m)
-
-    member-below : (lab : List ℕ) (j x : ℕ) → Member x (members lab m j) → x < m
-    unfolding members
-    member-below lab j x mem = range-member m m 0 x (zero-add m) (keep-member (inGroup lab j) (range 0 m) x mem) .1
-
-    group-whole : (lab : List ℕ) (j : ℕ) → pairSum (wholeTerms d m) m (members lab m j) ≡ num (addUp (pairs (wholeSquare d m) (members lab m j)))
-    unfolding pairSum
-    group-whole lab j =
-        let mem = members lab m j in
-        ap (λ (s : Float). sumFrom s (pairs (entry m (wholeTerms d m)) mem)) zero-num
-        ∙ exact-pairs (entry m (wholeTerms d m)) (wholeSquare d m) mem 0 (λ x y p q. term-whole x y (member-below lab j x p) (member-below lab j y q))
-        (omega (arith, most mem (members-few lab j)))
-        ∙ ap num (zero-add (addUp (pairs (wholeSquare d m) mem)))
-
-    -- a row's whole sum
-    rowWhole : ℕ → ℕ
-    rowWhole a = addUp (map (wholeSquare d m a) (range (a + 1) m))
-
-    row-few : (a : ℕ) → rowWhole a ≤ 2 ^ 53
-    unfolding rowWhole
-    row-few a =
-        let n : length (range (a + 1) m) ≤ 256 = omega (arith, length-range (a + 1) m) in
-        let k : length (range (a + 1) m) * 1000000 ≤ 256 * 1000000 = mul-le-mul n (le-refl 1000000) in
-        omega (arith, addUp-le 1000000 (wholeSquare d m a) (range (a + 1) m) (square-below a))
-
-    row-terms : (a : ℕ) → a < m → (x : ℕ) → Member x (range (a + 1) m) → entry m (wholeTerms d m) a x ≡ num (wholeSquare d m a x)
-    row-terms a h x mem = term-whole a x h (range-member m (m - (a + 1)) (a + 1) x (omega arith) mem .1)
-
-    row-whole : (a : ℕ) → a < m → WholeFloat binary64 (rowSum (wholeTerms d m) m a) (rowWhole a)
+  module _ (two : 2 ≤ m) where
+    -- the first row has a term, so it is no -0.0
+    first-row : rowSum t m 0 ≡ num (rowWhole 0)
     unfolding rowSum rowWhole
-    row-whole a h = whole-row (entry m (wholeTerms d m) a) (wholeSquare d m a) (range (a + 1) m) (row-terms a h) (row-few a)
+    first-row =
+        let more : range (0 + 1) m ≡ 1 ∷ range 2 m = range-more 1 m (omega arith) in
+        ap (λ (l : List ℕ). sumFrom zero⁻ (map (entry m t 0) l)) more
+        ∙ exact-first (entry m t 0) (h 0) 1 (range 2 m) (each 0 1 (omega arith) (omega arith)) (λ y k. inl (each 0 y (omega arith) (later 2 y two k)))
+        (subst (λ (l : List ℕ). addUp (map (h 0) l) ≤ 2 ^ 53) more (row-few 0))
+        ∙ ap (λ (l : List ℕ). num (addUp (map (h 0) l))) (sym more)
 
-    module _ (two : 2 ≤ m) where
-      -- the first row has a term, so it is no -0.0
-      first-row : rowSum (wholeTerms d m) m 0 ≡ num (rowWhole 0)
-      unfolding rowSum rowWhole
-      first-row =
-          let more : range (0 + 1) m ≡ 1 ∷ range 2 m = range-more 1 m (omega arith) in
-          subst (λ (l : List ℕ). ((x : ℕ) → Member x l → entry m (wholeTerms d m) 0 x ≡ num (wholeSquare d m 0 x)) → addUp (map (wholeSquare d m 0) l) ≤ 2 ^ 53
-          → sumFrom zero⁻ (map (entry m (wholeTerms d m) 0) l) ≡ num (addUp (map (wholeSquare d m 0) l))) (sym more)
-          (λ each few. exact-first (entry m (wholeTerms d m) 0) (wholeSquare d m 0) 1 (range 2 m) (each 1 (List·Memᴰ·head refl)) (λ y k. inl (each y (List·Memᴰ·tail k))) few)
-          (row-terms 0 (omega arith)) (row-few 0)
-
-      rows-whole : rowsSum (wholeTerms d m) m ≡ num (addUp (pairs (wholeSquare d m) (range 0 m)))
-      unfolding rowsSum rowWhole
-      rows-whole =
-          let more : range 0 m ≡ 0 ∷ range 1 m = range-more 0 m (omega arith) in
-          let same : addUp (map rowWhole (range 0 m)) ≡ addUp (pairs (wholeSquare d m) (range 0 m)) = rows-pairs (wholeSquare d m) m m 0 (zero-add m) in
-          let few : addUp (map rowWhole (range 0 m)) ≤ 2 ^ 53 = omega (arith, most (range 0 m) (omega (arith, length-range 0 m))) in
-          ap (λ (l : List ℕ). sumFrom zero⁻ (map (rowSum (wholeTerms d m) m) l)) more
-          ∙ exact-first (rowSum (wholeTerms d m) m) rowWhole 0 (range 1 m) first-row
-          (λ a k. row-whole a (range-member m (m - 1) 1 a (omega arith) k .1)) (subst (λ (l : List ℕ). addUp (map rowWhole l) ≤ 2 ^ 53) more few)
-          ∙ ap (λ (l : List ℕ). num (addUp (map rowWhole l))) (sym more)
-          ∙ ap num same
-
-pub whole-sums : Whole
-whole-sums m d two small long whole = record { rows = rows-whole m d small whole long two; group = group-whole m d small whole long }
+    pub rows-whole : rowsSum t m ≡ num (addUp (pairs h (range 0 m)))
+    unfolding rowsSum rowWhole
+    rows-whole =
+        let more : range 0 m ≡ 0 ∷ range 1 m = range-more 0 m (omega arith) in
+        let same : addUp (map rowWhole (range 0 m)) ≡ addUp (pairs h (range 0 m)) = rows-pairs h m m 0 (zero-add m) in
+        let few : addUp (map rowWhole (range 0 m)) ≤ 2 ^ 53 = omega (arith, pairs-few h bound low (range 0 m) (omega (arith, length-range 0 m))) in
+        ap (λ (l : List ℕ). sumFrom zero⁻ (map (rowSum t m) l)) more
+        ∙ exact-first (rowSum t m) rowWhole 0 (range 1 m) first-row (λ a k. row-whole a (later 1 a (omega arith) k)) (subst (λ (l : List ℕ). addUp (map rowWhole l) ≤ 2 ^ 53) more few)
+        ∙ ap (λ (l : List ℕ). num (addUp (map rowWhole l))) (sym more)
+        ∙ ap num same

@@ -1,3 +1,2 @@
--- Section 2 of document 01: sums over pairs, and their exact case.
+-- Section 2 of document 01: sums over pairs.
 pub mod PairSums
-pub mod Whole

@@ -1,4 +1,4 @@
--- A pair is put, or not. Assumes nothing.
+-- A pair is put, or not.
 use Prim.Native.Nat.{ℕ, _+_, _*_, _<_, _≤_}
 use mathlib.Core.Path.{_≡_, refl, sym, ap}
 use mathlib.Core.Bool.{true, false}

@@ -1,4 +1,4 @@
--- That each pattern of a NaN is the one NaN. Assumes nothing.
+-- That each pattern of a NaN is the one NaN.
 use mathlib.Core.Path.{_≡_, refl, sym, _∙_}
 use Prim.Native.Nat.{ℕ, _*_, _%_, _<_}
 use borrow.Author.Tests.{lt-ltb}

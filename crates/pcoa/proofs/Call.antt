@@ -1,4 +1,4 @@
--- What a call leaves in everything lent. Assumes nothing.
+-- What a call leaves in everything lent.
 use mathlib.Core.Path.{_≡_, refl, sym, ap, _∙_}
 use mathlib.Core.Bool.{true}
 use mathlib.Core.List.{List, _++_}
@@ -10,11 +10,11 @@ use lib.Ieee.{Float}
 use Rattle.float.specs.Floats.{zero⁺}
 use Rattle.lists.specs.Filters.{all}
 use Rattle.lists.specs.Writes.{cleared}
-use Rattle.outcome.specs.declared.Refusal.{Refusal}
 use Rattle.outcome.specs.declared.Check.{Check}
 use Rattle.outcome.specs.declared.Check.the-variants.{Passed, Refused}
 use Rattle.outcome.specs.Refusals.{first}
-use Rattle.outcome.specs.Outcome.{Outcome, answered, refused, judged, andThen, checkOf}
+use Rattle.outcome.specs.Outcome.{Outcome, Told, answered, refused, passed, judged, andThen, toldOf}
+use Rattle.outcome.specs.Numbers.{told}
 use Rattle.outcome.specs.Slices.{untouched, output, work}
 use Rattle.outcome.proofs.Table.{first-untouched}
 use Rattle.jacobi.proofs.Front.{output-front}
@@ -29,7 +29,7 @@ use Rattle.ordination_lines.specs.Lines.{pcoaLines}
 use Rattle.pcoa.specs.Call.{Called, called, leaves, pcoaCall}
 use Rattle.pcoa.proofs.Late.{Late, late-then, late-top, late-work}
 
-check-read : (k : ℕ) (r : Check) (out : List Float) → r ≡ checkOf (coordinatesOf k r out)
+check-read : (k : ℕ) (r : Check) (out : List Float) → told r ≡ toldOf (coordinatesOf k r out)
 check-read k Passed out = refl
 check-read k (Refused r) out = refl
 
@@ -41,7 +41,7 @@ module _ (k n : ℕ) (o : Outcome Coordinates) (late : Late o) (out b w m v : Li
       → called r (new ++ drop (k + k + n * k) out) b′ w′ m′ v′ ≡ leaves k n o out b w m v
   unfolding gives leaves written
   given-leaves r {new} {b′} {w′} {m′} {v′} e many hb hw hm hv =
-      let answer : r ≡ checkOf o = check-read k r new ∙ ap (λ (g : Given). checkOf (g .found)) e in
+      let answer : told r ≡ toldOf o = check-read k r new ∙ ap (λ (g : Given). toldOf (g .found)) e in
       let first : new ++ drop (k + k + n * k) out ≡ written k n o out = output-front laid (k + k + n * k) o out many (ap (λ (g : Given). g .out) e) in
       let b-is = hb ∙ late-work zero⁺ o b late in
       let w-is = hw ∙ late-work zero⁺ o w late in
@@ -58,7 +58,7 @@ pub leaves-same : (k n : ℕ) (o : Outcome Coordinates) (late : Late o) (out b�
     → c ≡ leaves k n o out b′ w m v → c ≡ leaves k n o out b w m v
 unfolding leaves
 leaves-same k n o late out b′ b w m v e h =
-    h ∙ ap (λ (l : List Float). record { answer = checkOf o; out = written k n o out; b = l; w = work zero⁺ o w; m = work zero⁺ o m; v = work zero⁺ o v }) (work-same o late b′ b e)
+    h ∙ ap (λ (l : List Float). record { answer = toldOf o; out = written k n o out; b = l; w = work zero⁺ o w; m = work zero⁺ o m; v = work zero⁺ o v }) (work-same o late b′ b e)
 
 pub late-ordinate : (k n : ℕ) (b : List Float) → Late (ordinate k n b)
 unfolding ordinate
@@ -90,22 +90,22 @@ pcoa-min components n d = ordinate-min components n (centred n d)
 -- ---- a refused call leaves all as it was, and one that passes is what `pcoa` leaves
 
 module _ (components n : ℕ) (d out b w m v : List Float) where
-  abbrev told : Check
-  told = first (pcoaLines components n d (length out) (length b) (length w) (length m) (length v))
+  abbrev says : Told
+  says = first (pcoaLines components n d (length out) (length b) (length w) (length m) (length v))
 
-  untouched-line : {r : Refusal} → Refused r ≡ told → untouched r ≡ true
+  untouched-line : {j : ℕ} → refused j ≡ says → untouched j ≡ true
   unfolding pcoaLines all
   untouched-line h = first-untouched (pcoaLines components n d (length out) (length b) (length w) (length m) (length v)) refl h
 
-  pub call-refused : {r : Refusal} → Refused r ≡ told → called (Refused r) out b w m v ≡ pcoaCall components n d out b w m v
+  pub call-refused : {j : ℕ} → refused j ≡ says → record { answer = refused j; out = out; b = b; w = w; m = m; v = v } ≡ pcoaCall components n d out b w m v
   unfolding pcoaCall leaves written output work
-  call-refused {r} h =
-      let kept : called (Refused r) out b w m v ≡ leaves (min components n) n (refused r) out b w m v = rw (untouched-line h) in
-      kept ∙ ap (λ (c : Check). leaves (min components n) n (judged c (pcoa components n d)) out b w m v) h
+  call-refused {j} h =
+      let kept : record { answer = refused j; out = out; b = b; w = w; m = m; v = v } ≡ leaves (min components n) n (refused j) out b w m v = rw (untouched-line h) in
+      kept ∙ ap (λ (t : Told). leaves (min components n) n (judged t (pcoa components n d)) out b w m v) h
 
-  pub call-passed : {k : ℕ} {c : Called} → k ≡ min components n → Passed ≡ told → c ≡ leaves k n (pcoa k n d) out b w m v → c ≡ pcoaCall components n d out b w m v
+  pub call-passed : {k : ℕ} {c : Called} → k ≡ min components n → passed ≡ says → c ≡ leaves k n (pcoa k n d) out b w m v → c ≡ pcoaCall components n d out b w m v
   unfolding pcoaCall
   call-passed {k} e h f =
       f ∙ ap (λ (j : ℕ). leaves j n (pcoa j n d) out b w m v) e
       ∙ ap (λ (o : Outcome Coordinates). leaves (min components n) n o out b w m v) (pcoa-min components n d)
-      ∙ ap (λ (c : Check). leaves (min components n) n (judged c (pcoa components n d)) out b w m v) h
+      ∙ ap (λ (t : Told). leaves (min components n) n (judged t (pcoa components n d)) out b w m v) h

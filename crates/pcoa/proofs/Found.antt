@@ -1,4 +1,4 @@
--- From eigenpairs to coordinates: what is found, and an output of just the length. Assumes nothing.
+-- From eigenpairs to coordinates: what is found, and an output of just the length.
 use mathlib.Core.Path.{_≡_, sym, ap, ap₂, _∙_}
 use mathlib.Core.List.{List, _++_}
 use Prim.Native.Nat.{ℕ, _+_, _*_}
@@ -14,6 +14,7 @@ use Rattle.outcome.specs.declared.Refusal.{Refusal}
 use Rattle.outcome.specs.declared.Check.{Check}
 use Rattle.outcome.specs.declared.Check.the-variants.{Passed, Refused}
 use Rattle.outcome.specs.Outcome.{Outcome, answered, refused, andThen}
+use Rattle.outcome.specs.Numbers.{number}
 use Rattle.outcome.specs.Slices.{output}
 use Rattle.ritz.specs.Ritz.{Pairs}
 use Rattle.ritz.specs.Given as pairs
@@ -69,8 +70,8 @@ module _ (n k : ℕ) (b out : List Float) (size : length out ≡ k + k + n * k) 
       → given k (Refused r) new ≡ gives k n (ordinate k n b) out
   unfolding pairs.gives gives written ordinate andThen
   ordinate-refused {new} old r e h =
-      let none : refused r ≡ topEigs k n b = ap (λ (g : pairs.Given). g .found) e in
-      let is : refused r ≡ ordinate k n b = ap (λ (o : Outcome Pairs). andThen o (λ p. answered (finish n (trace n b) (p .values) (p .vectors)))) none in
+      let none : refused (number r) ≡ topEigs k n b = ap (λ (g : pairs.Given). g .found) e in
+      let is : refused (number r) ≡ ordinate k n b = ap (λ (o : Outcome Pairs). andThen o (λ p. answered (finish n (trace n b) (p .values) (p .vectors)))) none in
       let late : Late (ordinate k n b) = late-then (topEigs k n b) (λ p. finish n (trace n b) (p .values) (p .vectors)) (late-top k n b) in
       ap₂ (λ (o : Outcome Coordinates) (l : List Float). record { found = o; out = l }) is (late-output laid (k + k + n * k) (ordinate k n b) out (sym is) late size h)
 

@@ -1,4 +1,4 @@
--- Past the table an operation is refused by 10 or 11 alone: outputs and work are zero then, and the work is zero either way. Assumes nothing.
+-- Past the table an operation is refused by 10 or 11 alone: outputs and work are zero then, and the work is zero either way.
 use mathlib.Core.Path.{_≡_, refl, sym, ap, _∙_}
 use mathlib.Core.Bool.{Bool, true, false, cond}
 use mathlib.Core.List.{List}
@@ -11,7 +11,6 @@ use Rattle.float.specs.Floats.{zero⁺}
 use Rattle.lists.specs.Filters.{any}
 use Rattle.lists.specs.Writes.{over, cleared}
 use Rattle.lists.proofs.Writes.{over-all}
-use Rattle.outcome.specs.declared.Refusal.{Refusal}
 use Rattle.outcome.specs.Outcome.{Outcome, answered, refused, andThen}
 use Rattle.outcome.specs.Slices.{untouched, output, work}
 use Rattle.diagonal.specs.Sweeps.{Swept, sweepsFrom}
@@ -60,7 +59,7 @@ pub zeroed : (k : ℕ) (out : List Float) {new : List Float} → length out ≡ 
 unfolding cleared
 zeroed k out e h = let many = length-replicate k zero⁺ in h ∙ ap (λ (j : ℕ). replicate j zero⁺) e ∙ sym (over-all (replicate k zero⁺) out (omega arith))
 
-pub late-output : {A : Type 0} (part : A → List Float) (k : ℕ) (o : Outcome A) (out : List Float) {r : Refusal} {new : List Float} → o ≡ refused r → Late o → length out ≡ k
+pub late-output : {A : Type 0} (part : A → List Float) (k : ℕ) (o : Outcome A) (out : List Float) {r : ℕ} {new : List Float} → o ≡ refused r → Late o → length out ≡ k
     → new ≡ cleared zero⁺ out → new ≡ output zero⁺ part k o out
 unfolding output
 late-output part k (answered a) out e h many f = cc

@@ -6,6 +6,7 @@ use lib.Ieee.{Float}
 use Rattle.float.specs.Floats.{zero⁺}
 use Rattle.outcome.specs.declared.Check.{Check}
 use Rattle.outcome.specs.declared.Check.the-variants.{Passed, Refused}
+use Rattle.outcome.specs.Numbers.{number}
 use Rattle.outcome.specs.Outcome.{Outcome, answered, refused}
 use Rattle.outcome.specs.Slices.{output}
 use Rattle.coordinates.specs.Finish.{Coordinates, laid}
@@ -17,7 +18,7 @@ written k n o out = output zero⁺ laid (k + k + n * k) o out
 -- what is found, read off the return and the output
 abbrev pub coordinatesOf : ℕ → Check → List Float → Outcome Coordinates
 coordinatesOf k Passed out = answered (record { values = take k out; shares = take k (drop k out); coords = drop (k + k) out })
-coordinatesOf k (Refused r) out = refused r
+coordinatesOf k (Refused r) out = refused (number r)
 
 -- what is found, and the output; the work is left as it falls
 pub record Given : Type 0 where

@@ -1,4 +1,4 @@
--- At most 30 power steps, that may end early: whether the loop ends, goes on, or has no turn left. Assumes nothing.
+-- At most 30 power steps, that may end early: whether the loop ends, goes on, or has no turn left.
 use mathlib.Core.Path.{_≡_, sym, ap, ap₂, _∙_}
 use mathlib.Core.Bool.{true, false}
 use mathlib.Core.List.{List}

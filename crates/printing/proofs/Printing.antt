@@ -1,9 +1,10 @@
--- What is printed of an answer. Assumes nothing.
+-- What is printed of an answer.
 use Prim.Native.Nat.{ℕ, _≤_}
 use mathlib.Core.Path.{_≡_, sym, ap, _∙_}
 use mathlib.Core.List.{List}
 use lib.ListN.{length}
 use Rattle.outcome.specs.declared.Refusal.{Refusal}
+use Rattle.outcome.specs.Numbers.{number}
 use Rattle.judgement.specs.declared.Judgement.{Judgement}
 use Rattle.every_way.specs.declared.Answer.{Answer}
 use Rattle.every_way.specs.declared.Answer.the-variants.{Judged, Refused}
@@ -18,7 +19,7 @@ pub printed-judged : (old : List ℕ) {new : List ℕ} {next : ℕ} {a : Answer}
 unfolding printed
 printed-judged old e h w = wrote-onto h w ∙ ap (λ (a : Answer). onto (printed (answerOf a)) old) (sym e)
 
-pub printed-refused : (old : List ℕ) {new : List ℕ} {next : ℕ} {a : Answer} {r : Refusal} → a ≡ Refused r → 5 ≤ length old → Wrote old 0 5 (refusalLine r) new next →
+pub printed-refused : (old : List ℕ) {new : List ℕ} {next : ℕ} {a : Answer} {r : Refusal} → a ≡ Refused r → 5 ≤ length old → Wrote old 0 5 (refusalLine (number r)) new next →
     page next new ≡ onto (printed (answerOf a)) old
 unfolding printed
 printed-refused old e h w = wrote-onto h w ∙ ap (λ (a : Answer). onto (printed (answerOf a)) old) (sym e)

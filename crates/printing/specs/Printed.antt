@@ -1,35 +1,23 @@
 -- Section 7: what `lotjudge` prints. Definitions only.
 use Prim.Native.Nat.{ℕ}
+use mathlib.Core.Bool.{cond}
 use mathlib.Core.List.{List, _++_}
 use Rattle.float.specs.Floats.{bits}
-use Rattle.outcome.specs.declared.Refusal.{Refusal}
-use Rattle.outcome.specs.Refusals.{number}
 use Rattle.outcome.specs.Outcome.{Outcome, answered, refused}
 use Rattle.statistics.specs.declared.Statistic.{Statistic}
-use Rattle.statistics.specs.declared.Statistic.the-variants.{Finite, Unbounded}
+use Rattle.statistics.specs.Hits.{stateOf, valueOf}
 use Rattle.way_hits.specs.declared.Assignment.{Assignment}
-use Rattle.way_hits.specs.declared.Assignment.the-variants.{Right, Withheld}
-use Rattle.way_hits.specs.WayHits.{rightOf}
+use Rattle.way_hits.specs.WayHits.{isGiven, rightOf}
 use Rattle.judgement.specs.declared.Judgement.{Judgement}
 use Rattle.hexadecimal.specs.Hex.{hex, feed}
 
--- 01 finite, 00 unbounded; F's bits, 0 if unbounded
-abbrev pub stateOf : Statistic → ℕ
-stateOf (Finite f) = 1
-stateOf Unbounded = 0
-
-abbrev pub patternOf : Statistic → ℕ
-patternOf (Finite f) = bits f
-patternOf Unbounded = 0
-
 -- 01 given, 02 none
 abbrev pub givenOf : Assignment → ℕ
-givenOf (Right r) = 1
-givenOf Withheld = 2
+givenOf a = cond (isGiven a) 1 2
 
--- a line of a statistic: state, F bits, hits
+-- a line of a statistic: state (01 finite, 00 unbounded), F bits (0 if unbounded), hits
 unfoldable pub testedLine : ℕ → Statistic → ℕ → List ℕ
-testedLine kind s hits = hex 2 kind ++ hex 2 (stateOf s) ++ hex 16 (patternOf s) ++ hex 8 hits ++ feed
+testedLine kind s hits = hex 2 kind ++ hex 2 (stateOf s) ++ hex 16 (bits (valueOf s)) ++ hex 8 hits ++ feed
 
 -- the line of the assignment: state, right, hits
 unfoldable pub assignedLine : Assignment → ℕ → List ℕ
@@ -45,8 +33,8 @@ verdictLines v =
     ++ assignedLine (v .assigned .assignment) (v .assigned .hits)
 
 -- A refusal prints only its number.
-unfoldable pub refusalLine : Refusal → List ℕ
-refusalLine r = hex 2 0xbf ++ hex 2 (number r) ++ feed
+unfoldable pub refusalLine : ℕ → List ℕ
+refusalLine r = hex 2 0xbf ++ hex 2 r ++ feed
 
 unfoldable pub printed : Outcome Judgement → List ℕ
 printed (answered v) = verdictLines v

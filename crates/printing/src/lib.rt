@@ -3,18 +3,18 @@ ghost use mathlib.Core.Path.{_≡_};
 ghost use mathlib.Core.List.{_++_};
 ghost use Prim.Native.Nat.{_+_, _≤_};
 ghost use lib.ListN.{length};
+ghost use Rattle.float.specs.Floats.{bits};
 ghost use Rattle.every_way.specs.Call.{answerOf};
 ghost use Rattle.hexadecimal.specs.Hex.{hex, feed};
 ghost use Rattle.hexadecimal.specs.Wrote.{Wrote};
 ghost use Rattle.hexadecimal.specs.Page.{page, onto};
-ghost use Rattle.way_hits.specs.WayHits.{rightOf};
-ghost use Rattle.printing.specs.Printed.{stateOf, patternOf, givenOf, testedLine, assignedLine, verdictLines, refusalLine, printed};
+ghost use Rattle.outcome.specs.Numbers.{number};
+ghost use Rattle.printing.specs.Printed.{givenOf, testedLine, assignedLine, verdictLines, refusalLine, printed};
 use every_way::Answer;
 use judgement::Assigned;
 use judgement::Judgement;
 use judgement::Tested;
 use outcome::Refusal;
-use statistics::Statistic;
 use way_hits::Assignment;
 
 // ---- lines
@@ -43,45 +43,24 @@ fn put_line(out: &mut [u8], at: usize, kind: u64, x: u64, count: usize, y: u64, 
 
 // ---- the values of each case
 
-fn state_of(s: Statistic) -> u64
-    ensures { λ r. ⌜ r ≡ stateOf s ⌝ }
+// The bits of an f64.
+fn pattern_of(f: f64) -> u64
+    ensures { λ r. ⌜ r ≡ bits f ⌝ }
 {
-    match s {
-        Statistic::Finite(_) => 1,
-        Statistic::Unbounded => 0,
+    if f != f {
+        return 0x7ff8_0000_0000_0000;
     }
+    f64::to_bits(f)
 }
 
-fn pattern_of(s: Statistic) -> u64
-    ensures { λ r. ⌜ r ≡ patternOf s ⌝ }
-{
-    match s {
-        Statistic::Finite(f) => {
-            if f != f {
-                return 0x7ff8_0000_0000_0000;
-            }
-            f64::to_bits(f)
-        }
-        Statistic::Unbounded => 0,
-    }
-}
-
+// 01 where there is an assignment, 02 where there is none.
 fn given_of(a: Assignment) -> u64
     ensures { λ r. ⌜ r ≡ givenOf a ⌝ }
 {
-    match a {
-        Assignment::Right(_) => 1,
-        Assignment::Withheld => 2,
+    if way_hits::is_given(a) {
+        return 1;
     }
-}
-
-fn right_of(a: Assignment) -> u64
-    ensures { λ r. ⌜ r ≡ rightOf a ⌝ }
-{
-    match a {
-        Assignment::Right(n) => n as u64,
-        Assignment::Withheld => 0,
-    }
+    2
 }
 
 // ---- the lines of a verdict
@@ -91,7 +70,9 @@ fn put_tested(out: &mut [u8], at: usize, kind: u64, t: Tested) -> usize
     ensures { λ r. ⌜ Wrote (now (out .entry)) at 29 (testedLine kind (t .statistic) (t .hits)) (now (out .exit)) r ⌝ }
 {
     let s = t.statistic;
-    put_line(out, at, kind, state_of(s), 16, pattern_of(s), t.hits as u64)
+    let state = statistics::state_of(s);
+    let f = statistics::value_of(s);
+    put_line(out, at, kind, state, 16, pattern_of(f), t.hits as u64)
 }
 
 fn put_assigned(out: &mut [u8], at: usize, t: Assigned) -> usize
@@ -99,7 +80,8 @@ fn put_assigned(out: &mut [u8], at: usize, t: Assigned) -> usize
     ensures { λ r. ⌜ Wrote (now (out .entry)) at 15 (assignedLine (t .assignment) (t .hits)) (now (out .exit)) r ⌝ }
 {
     let a = t.assignment;
-    put_line(out, at, 0xb5, given_of(a), 2, right_of(a), t.hits as u64)
+    let right = way_hits::right_of(a);
+    put_line(out, at, 0xb5, given_of(a), 2, right, t.hits as u64)
 }
 
 fn print_verdict(v: Judgement, out: &mut [u8]) -> usize
@@ -127,7 +109,7 @@ fn print_verdict(v: Judgement, out: &mut [u8]) -> usize
 
 fn print_refusal(r: Refusal, out: &mut [u8]) -> usize
     requires { ⌜ 5 ≤ length (now out) ⌝ }
-    ensures { λ n. ⌜ Wrote (now (out .entry)) 0 5 (refusalLine r) (now (out .exit)) n ⌝ }
+    ensures { λ n. ⌜ Wrote (now (out .entry)) 0 5 (refusalLine (number r)) (now (out .exit)) n ⌝ }
 {
     put_short(out, 0, 0xbf, outcome::number_of(r) as u64)
 }

@@ -1,4 +1,4 @@
--- A product written entry after entry, four entries at a time. Assumes nothing.
+-- A product written entry after entry, four entries at a time.
 use mathlib.Core.Path.{_≡_, refl, sym, ap, _∙_, subst}
 use mathlib.Core.List.{List}
 use Prim.Native.Nat.{ℕ, zero, suc, _+_, _-_, _≤_}

@@ -1,12 +1,15 @@
--- Laws of a line's frame: its kind, and field by field. Assumes nothing.
-use Prim.Native.Nat.{ℕ, _+_, _-_}
-use mathlib.Core.Path.{_≡_, ap, _∙_}
+-- Laws of a line's frame: its kind, and field by field.
+use Prim.Native.Nat.{ℕ, _+_, _-_, _≤_}
+use mathlib.Core.Path.{_≡_, sym, ap, _∙_}
 use mathlib.Core.List.{List}
 use lib.ListN.{length}
 use borrow.Author.Tests.{eq-eqb, ne-eqb}
-use Rattle.reader.specs.Hex.{fieldAt}
+use native.Mathlib.Omega.{arith}
+use Rattle.reader.specs.Hex.{fieldAt, past}
+use Rattle.reader.specs.Reading.{fieldsAt}
 use Rattle.reader.specs.Frame.{noFrame, with, withFields, frameOf, ofKind, frame}
 use Rattle.reader.specs.declared.Field.{Field}
+use Rattle.reader.specs.declared.Fields.{Fields}
 use Rattle.reader.specs.declared.Field.the-variants.{Number, Malformed}
 
 pub other-length : (kind a b c d : ℕ) (line : List ℕ) → (length line ≡ 2 + a + b + c + d → ⊥) → frameOf kind a b c d line ≡ noFrame
@@ -18,6 +21,22 @@ pub by-fields : (kind a b c d : ℕ) (line : List ℕ) {x y z w : Field} → len
     frameOf kind a b c d line ≡ withFields kind x y z w
 unfolding frameOf
 by-fields kind a b c d line h e f g i = rw (eq-eqb (length line) (2 + a + b + c + d) h) (cc)
+
+-- the reader's places, where all its digits are there
+past-in : (line : List ℕ) (at k : ℕ) → at + k ≤ length line → past line at k ≡ at + k
+past-in line at k h = omega arith
+
+pub by-reader : (kind a b c d : ℕ) (line : List ℕ) {f : Fields} {x y z w : Field} → length line ≡ 2 + a + b + c + d → f ≡ fieldsAt line 2 a b c d →
+    f .first ≡ x → f .second ≡ y → f .third ≡ z → f .fourth ≡ w → frameOf kind a b c d line ≡ withFields kind x y z w
+by-reader kind a b c d line h r e f g i =
+    let p : past line 2 a ≡ 2 + a = past-in line 2 a (omega arith) in
+    let q : past line (2 + a) b ≡ 2 + a + b = past-in line (2 + a) b (omega arith) in
+    let s : past line (2 + a + b) c ≡ 2 + a + b + c = past-in line (2 + a + b) c (omega arith) in
+    by-fields kind a b c d line h
+    (sym (ap (λ (x : Fields). x .first) r) ∙ e)
+    (sym (ap (λ (x : Fields). x .second) r ∙ ap (λ (k : ℕ). fieldAt line k b) p) ∙ f)
+    (sym (ap (λ (x : Fields). x .third) r ∙ rw (p, q)) ∙ g)
+    (sym (ap (λ (x : Fields). x .fourth) r ∙ rw (p, q, s)) ∙ i)
 
 -- which kind a line is
 pub no-kind : (line : List ℕ) → fieldAt line 0 2 ≡ Malformed → frame line ≡ noFrame

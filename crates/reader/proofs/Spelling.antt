@@ -1,4 +1,4 @@
--- Laws of hexadecimal fields: one digit more, and how large a field's number is. Assumes nothing.
+-- Laws of hexadecimal fields: one digit more, and how large a field's number is.
 use Prim.Native.Nat.{ℕ, min, suc, _+_, _-_, _*_, _^_, _<_, _≤_}
 use mathlib.Core.Path.{_≡_, refl, sym, ap, _∙_}
 use mathlib.Core.Bool.{Bool, true, false, _&&_, cond}

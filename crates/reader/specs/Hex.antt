@@ -1,5 +1,5 @@
 -- Section 7: hexadecimal digits. Definitions only.
-use Prim.Native.Nat.{ℕ, _+_, _-_, _*_}
+use Prim.Native.Nat.{ℕ, _+_, _-_, _*_, min}
 use mathlib.Core.Bool.{_&&_, cond}
 use mathlib.Core.List.{List, [], _∷_}
 use lib.Dec.{leb, ltb}
@@ -22,3 +22,7 @@ spelled v (c ∷ cs) = let rest = spelled (v * 16 + nibble c) cs in cond (ltb (n
 -- the number in the k digits from place at on: at most 16 of them, all within the line
 unfoldable pub fieldAt : List ℕ → ℕ → ℕ → Field
 fieldAt line at k = cond (leb k 16 && leb (at + k) (length line)) (spelled 0 (take k (drop at line))) Malformed
+
+-- the place k further on, or the line's end where that comes first
+abbrev pub past : List ℕ → ℕ → ℕ → ℕ
+past line at k = min (at + k) (length line)

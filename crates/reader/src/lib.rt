@@ -1,7 +1,8 @@
 // A line of the input of `lotjudge` (document 01, section 7): hexadecimal digits, the frame reader, and the line's frame.
 ghost use mathlib.Core.Path.{_≡_};
 ghost use Prim.Native.Nat.{_≤_};
-ghost use Rattle.reader.specs.Hex.{nibble, fieldAt};
+ghost use Rattle.reader.specs.Hex.{nibble, fieldAt, past as Hex·past};
+ghost use Rattle.reader.specs.Reading.{readFrom, readNext, fieldsAt};
 ghost use Rattle.reader.specs.Frame.{noFrame, frameOf, frame};
 
 // The number in a field of digits.
@@ -60,31 +61,80 @@ pub fn digits_at(line: &[u8], at: usize, count: usize) -> Field
     Field::Number(v)
 }
 
-// ---- the frame reader: it holds the line and its position, and leaves the work to `digits_at`
+// The place count further on, or the line's end where that comes first.
+fn past(line: &[u8], at: usize, count: usize) -> usize
+    ensures { λ r. ⌜ r ≡ Hex·past (now (line .entry)) at count ⌝ }
+{
+    if line.len() < count {
+        return line.len();
+    }
+    if line.len() - count < at {
+        return line.len();
+    }
+    at + count
+}
+
+// ---- the frame reader: it holds the line, its position and the field before it, and leaves the work to `digits_at` and `past`
 
 pub struct FrameReader<'a> {
     pub line: &'a [u8],
     pub at: usize,
+    pub field: Field,
 }
 
+// At a place, with no field before it.
 pub fn new<'a>(line: &'a [u8], at: usize) -> FrameReader<'a>
-    ensures { λ r. ⌜ (r .line ≡ line .entry) × (r .at ≡ at) ⌝ }
+    ensures { λ r. ⌜ r ≡ readFrom (line .entry) at ⌝ }
 {
-    FrameReader { line, at }
+    FrameReader {
+        line,
+        at,
+        field: Field::Malformed,
+    }
 }
 
-// The next count digits.
-pub fn next<'a>(r: FrameReader<'a>, count: usize) -> Field
-    ensures { λ f. ⌜ f ≡ fieldAt (now (r .entry .line)) (r .entry .at) count ⌝ }
+// The next count digits: the reader past them, and their field.
+pub fn next<'a>(r: FrameReader<'a>, count: usize) -> FrameReader<'a>
+    ensures { λ q. ⌜ q ≡ readNext (r .entry) count ⌝ }
 {
-    digits_at(r.line, r.at, count)
+    let field = digits_at(r.line, r.at, count);
+    let at = past(r.line, r.at, count);
+    FrameReader {
+        line: r.line,
+        at,
+        field,
+    }
 }
 
-// The same from a plain slice: who calls this needs no walk by hand.
+// One field from a plain slice: who calls this or `fields_at` needs no walk by hand.
 pub fn field_at(line: &[u8], at: usize, count: usize) -> Field
     ensures { λ r. ⌜ r ≡ fieldAt (now (line .entry)) at count ⌝ }
 {
-    next(new(line, at), count)
+    next(new(line, at), count).field
+}
+
+// Four fields.
+pub struct Fields {
+    pub first: Field,
+    pub second: Field,
+    pub third: Field,
+    pub fourth: Field,
+}
+
+// Fields of a, b, c and d digits, one behind the other, from place at on.
+pub fn fields_at(line: &[u8], at: usize, a: usize, b: usize, c: usize, d: usize) -> Fields
+    ensures { λ r. ⌜ r ≡ fieldsAt (now (line .entry)) at a b c d ⌝ }
+{
+    let x = next(new(line, at), a);
+    let y = next(x, b);
+    let z = next(y, c);
+    let w = next(z, d);
+    Fields {
+        first: x.field,
+        second: y.field,
+        third: z.field,
+        fourth: w.field,
+    }
 }
 
 // ---- one line
@@ -119,16 +169,21 @@ fn frame_of(line: &[u8], kind: u8, a: usize, b: usize, c: usize, d: usize) -> Fr
     if line.len() != 2 + a + b + c + d {
         return no_frame();
     }
-    let Field::Number(x) = field_at(line, 2, a) else {
+    let f = fields_at(line, 2, a, b, c, d);
+    let first = f.first;
+    let second = f.second;
+    let third = f.third;
+    let fourth = f.fourth;
+    let Field::Number(x) = first else {
         return no_frame();
     };
-    let Field::Number(y) = field_at(line, 2 + a, b) else {
+    let Field::Number(y) = second else {
         return no_frame();
     };
-    let Field::Number(z) = field_at(line, 2 + a + b, c) else {
+    let Field::Number(z) = third else {
         return no_frame();
     };
-    let Field::Number(w) = field_at(line, 2 + a + b + c, d) else {
+    let Field::Number(w) = fourth else {
         return no_frame();
     };
     Frame {

@@ -1,4 +1,4 @@
--- The ridge, worked out and added. Assumes nothing.
+-- The ridge, worked out and added.
 use mathlib.Core.Path.{_≡_, ap, _∙_}
 use mathlib.Core.Bool.{cond}
 use mathlib.Core.List.{List}

@@ -1,4 +1,4 @@
--- Which pairs are found, by what Jacobi answers. Assumes nothing.
+-- Which pairs are found, by what Jacobi answers.
 use mathlib.Core.Path.{_≡_, sym, ap, _∙_}
 use mathlib.Core.List.{List, _++_}
 use Prim.Native.Nat.{ℕ, _+_, _*_, _≤_}
@@ -14,6 +14,7 @@ use Rattle.outcome.specs.declared.Refusal.{Refusal}
 use Rattle.outcome.specs.declared.Refusal.the-variants.{Unordered}
 use Rattle.outcome.specs.declared.Check.the-variants.{Passed, Refused}
 use Rattle.outcome.specs.Outcome.{Outcome, answered, refused, andThen}
+use Rattle.outcome.specs.Numbers.{number}
 use Rattle.outcome.specs.Slices.{output}
 use Rattle.jacobi.specs.declared.Answer.{Answer}
 use Rattle.jacobi.specs.declared.Answer.the-variants as jacobi-answers
@@ -29,13 +30,13 @@ small-square h = mul-le-mul h h
 
 -- An output of just the length, by what is found: zeros on 11, else the values and the vectors.
 module _ (k n : ℕ) (out : List Float) (len : length out ≡ k + k * n) {out′ : List Float} where
-  gives-unordered : out′ ≡ cleared zero⁺ out → given k (Refused Unordered) out′ ≡ gives k n (refused Unordered) out
+  gives-unordered : out′ ≡ cleared zero⁺ out → given k (Refused Unordered) out′ ≡ gives k n (refused 11) out
   unfolding gives written output cleared
   gives-unordered h =
       let many = length-replicate (k + k * n) zero⁺ in
       let all : out′ ≡ over (replicate (k + k * n) zero⁺) out =
       h ∙ ap (λ (j : ℕ). replicate j zero⁺) len ∙ sym (over-all (replicate (k + k * n) zero⁺) out (omega arith)) in
-      ap (λ (l : List Float). record { found = refused Unordered; out = l }) all
+      ap (λ (l : List Float). record { found = refused 11; out = l }) all
 
   gives-pairs : (values vectors : List Float) → length values ≡ k → length vectors ≡ k * n → out′ ≡ values ++ vectors
       → given k Passed out′ ≡ gives k n (answered (record { values = values; vectors = vectors })) out
@@ -53,8 +54,8 @@ module _ (k n : ℕ) (out : List Float) (len : length out ≡ k + k * n) {out′
         → given k (Refused Unordered) out′ ≡ gives k n (andThen (jacobi b t) (λ p. answered (found p))) out
     unfolding andThen
     found-refused {why} is h =
-        let here : refused why ≡ jacobi b t = ap (λ (s : Answer). eigenOf b s pairs) (sym is) ∙ e in
-        let only : refused Unordered ≡ jacobi b t = ap (λ (s : Refusal). refused s) (sym (only-unordered b t why here)) ∙ here in
+        let here : refused (number why) ≡ jacobi b t = ap (λ (s : Answer). eigenOf b s pairs) (sym is) ∙ e in
+        let only : refused 11 ≡ jacobi b t = ap (λ (j : ℕ). refused j) (sym (only-unordered b t (number why) here)) ∙ here in
         gives-unordered h ∙ ap (λ (o : Outcome Eigen). gives k n (andThen o (λ p. answered (found p))) out) only
 
     pub found-answered : {s : ℕ} (values vectors : List Float) → r ≡ jacobi-answers.Sweeps s → length values ≡ k → length vectors ≡ k * n → out′ ≡ values ++ vectors

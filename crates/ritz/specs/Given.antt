@@ -6,6 +6,7 @@ use lib.Ieee.{Float}
 use Rattle.float.specs.Floats.{zero⁺}
 use Rattle.outcome.specs.declared.Check.{Check}
 use Rattle.outcome.specs.declared.Check.the-variants.{Passed, Refused}
+use Rattle.outcome.specs.Numbers.{number}
 use Rattle.outcome.specs.Outcome.{Outcome, answered, refused}
 use Rattle.outcome.specs.Slices.{output}
 use Rattle.ritz.specs.Ritz.{Pairs}
@@ -17,7 +18,7 @@ written k n o out = output zero⁺ (λ p. p .values ++ p .vectors) (k + k * n) o
 -- what is found, read off the return and the output
 abbrev pub pairsOf : ℕ → Check → List Float → Outcome Pairs
 pairsOf k Passed out = answered (record { values = take k out; vectors = drop k out })
-pairsOf k (Refused r) out = refused r
+pairsOf k (Refused r) out = refused (number r)
 
 -- what is found, and the output; the work is left as it falls
 pub record Given : Type 0 where

@@ -1,4 +1,4 @@
--- A row held apart from its matrix: what is read from or put into another row does not touch it. Assumes nothing.
+-- A row held apart from its matrix: what is read from or put into another row does not touch it.
 use mathlib.Core.Path.{_≡_, refl, sym, ap, ap₂, _∙_, subst}
 use mathlib.Core.Logic.{_⊎_, inl, inr, ⊎-elim}
 use mathlib.Core.List.{List, _++_}

@@ -1,4 +1,4 @@
--- The calls of a rotation leave what its definitions say, with the rows p held apart. Assumes nothing.
+-- The calls of a rotation leave what its definitions say, with the rows p held apart.
 use mathlib.Core.Path.{_≡_, sym, ap, ap₂, _∙_}
 use mathlib.Core.Bool.{Bool, true, false}
 use mathlib.Core.List.{List, zipWith}

@@ -1,4 +1,4 @@
--- Judged samples of the trade: cases (c) to (f), as far as they speak of the sampled test. Assumes nothing.
+-- Judged samples of the trade: cases (c) to (f), as far as they speak of the sampled test.
 use mathlib.Core.Path.{_≡_, refl}
 use mathlib.Core.List.{[], _∷_}
 use Prim.Native.Nat.{ℕ, _≤_}
@@ -13,7 +13,7 @@ use Rattle.lists.specs.Filters.{keep, countIf, any, firstAt, pairs, orderedPair
 use Rattle.lists.specs.Numbers.{howMany, position, insertUp, upward, members}
 use Rattle.lists.specs.Sums.{sumFrom}
 use Rattle.lists.specs.Rows.{entry}
-use Rattle.outcome.specs.declared.Check.the-variants.{Passed}
+use Rattle.outcome.specs.Outcome.{passed}
 use Rattle.outcome.specs.Refusals.{first, short}
 use Rattle.lot.specs.Cases.{example, zeros}
 use Rattle.lot.specs.Kept.{twice, kept, gathered, keptLabels, names, groups, keptCount, groupCount}
@@ -58,7 +58,7 @@ case-e = refl
 
 -- such a call passes, with slices of 4 entries and of 16 or more
 pub example-passes : (n : ℕ) (s : Slices) → n ≤ 999999 → 4 ≤ length (s .labels) → 4 ≤ length (s .counts) → 4 ≤ length (s .means) → 16 ≤ length (s .terms) → 16 ≤ length (s .pulls)
-    → testCheck (example (0 ∷ 0 ∷ 1 ∷ 1 ∷ [])) n s ≡ Passed
+    → testCheck (example (0 ∷ 0 ∷ 1 ∷ 1 ∷ [])) n s ≡ passed
 unfolding testCheck tooShort short any first testLines misfits le ofBits ofInt odd size groupCount names keptLabels gathered kept twice howMany countIf keep range upFrom upward insertUp
 example-passes n s h a b c d e =
     rw (le-ltb _ _ a, le-ltb _ _ b, le-ltb _ _ c, le-ltb _ _ d, le-ltb _ _ e, le-ltb _ _ h)

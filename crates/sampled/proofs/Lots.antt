@@ -1,4 +1,4 @@
--- What is known of a lot that no line turns away, and of its design. Assumes nothing.
+-- What is known of a lot that no line turns away, and of its design.
 use mathlib.Core.Path.{_≡_, sym, ap, _∙_, subst}
 use mathlib.Core.Bool.{true, false}
 use mathlib.Core.List.{[]}
@@ -10,7 +10,7 @@ use lib.Dec.{ltb}
 use lib.ListN.{length}
 use Rattle.lists.specs.Filters.{any}
 use Rattle.lists.specs.Numbers.{Below}
-use Rattle.outcome.specs.declared.Check.the-variants.{Passed}
+use Rattle.outcome.specs.Outcome as outcome
 use Rattle.outcome.specs.Refusals.{short}
 use Rattle.lot.specs.Lot.{Lot}
 use Rattle.lot.specs.Kept.{kept, keptCount}
@@ -68,7 +68,7 @@ pub record Accepted (lot : Lot) (k : ℕ) (before : Slices) : Type 0 where
   pub termsRoom : lot .n * lot .n ≤ length (before .terms)
   pub pullsRoom : lot .n * lot .n ≤ length (before .pulls)
 
-pub accepted-call : (lot : Lot) (k : ℕ) (before : Slices) → testCheck lot k before ≡ Passed → Accepted lot k before
+pub accepted-call : (lot : Lot) (k : ℕ) (before : Slices) → testCheck lot k before ≡ outcome.passed → Accepted lot k before
 unfolding testCheck
 accepted-call lot k before e =
     let p = passes lot _ _ e in
@@ -85,12 +85,12 @@ accepted-call lot k before e =
 
 -- ---- its design
 
-pub designable : (lot : Lot) (k : ℕ) (before : Slices) → testCheck lot k before ≡ Passed → Designable (samplesOf (lot .labels) (lot .stratified) (lot .strata))
+pub designable : (lot : Lot) (k : ℕ) (before : Slices) → testCheck lot k before ≡ outcome.passed → Designable (samplesOf (lot .labels) (lot .stratified) (lot .strata))
 designable lot k before e =
     let p = accepted-call lot k before e .passed in
     record { few = omega (arith, p .few, p .fits .labelsFit); strataFit = λ g. p .fits .strataFit g ∙ sym (p .fits .labelsFit) }
 
-module _ (lot : Lot) (seed k : ℕ) (before : Slices) (passed : testCheck lot k before ≡ Passed) {d : Design} (e : Describes lot d) where
+module _ (lot : Lot) (seed k : ℕ) (before : Slices) (passed : testCheck lot k before ≡ outcome.passed) {d : Design} (e : Describes lot d) where
   pub design-sound : Sound d
   design-sound = let p = accepted-call lot k before passed .passed in sound lot (omega (arith, p .few, p .fits .labelsFit)) (omega (arith, p .groups)) e
 

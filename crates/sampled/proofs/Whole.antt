@@ -1,4 +1,4 @@
--- A whole call. Assumes nothing.
+-- A whole call.
 use mathlib.Core.Path.{_≡_, refl, sym, ap, ap₂, _∙_, subst}
 use mathlib.Core.Bool.{Bool, true}
 use mathlib.Core.List.{List, []}
@@ -10,8 +10,9 @@ use Rattle.lists.specs.Writes.{over}
 use Rattle.outcome.specs.declared.Refusal.{Refusal}
 use Rattle.outcome.specs.declared.Check.{Check}
 use Rattle.outcome.specs.declared.Check.the-variants as check
+use Rattle.outcome.specs.Numbers.{number, told}
 use Rattle.outcome.specs.Refusals.{first}
-use Rattle.outcome.specs.Outcome.{answered, judged}
+use Rattle.outcome.specs.Outcome.{Told, passed, answered, refused, judged}
 use Rattle.outcome.specs.Slices.{untouched, output, work}
 use Rattle.lot.specs.Lot.{Lot, lotOf}
 use Rattle.lot.specs.Lines.{testLines}
@@ -22,14 +23,15 @@ use Rattle.measurement.specs.Tested.{tested}
 use Rattle.sampled.specs.declared.Answer.the-variants.{Tested, Refused}
 use Rattle.sampled.specs.Runs.{Ran}
 use Rattle.sampled.specs.Call.{Slices, Called, slicesOf, tooShort, testCheck, leaves, accepted, testCall, called}
+use Rattle.outcome.proofs.Table.{told-refused}
 use Rattle.lot.proofs.Checks.{lines-untouched}
 
 -- ---- what is left for the lot that a design describes is what an accepted call leaves
 
 module _ (lot : Lot) (seed k : ℕ) {d : Design} (e : Describes lot d) (many : d .n ≡ lot .n) where
   -- the lot with n samples
-  abbrev told : ℕ → Lot
-  told n = lotOf n (lot .distances) (lot .labels) (lot .stratified) (lot .strata) (lot .weighted) (lot .weights)
+  abbrev sized : ℕ → Lot
+  sized n = lotOf n (lot .distances) (lot .labels) (lot .stratified) (lot .strata) (lot .weighted) (lot .weights)
 
   -- what a run is lent of the slices: all but the names
   abbrev unnamed : Slices → Slices
@@ -37,13 +39,13 @@ module _ (lot : Lot) (seed k : ℕ) {d : Design} (e : Describes lot d) (many : d
 
   -- what a run leaves for it
   abbrev Left : ℕ → Slices → Slices → TestResult → Type 0
-  Left n before after r = Ran (told n) (record { seed = seed; many = k }) (unnamed before) (unnamed after) r
+  Left n before after r = Ran (sized n) (record { seed = seed; many = k }) (unnamed before) (unnamed after) r
 
-  pub call-answered : (before after : Slices) {r : TestResult} → after .labels ≡ over (namesOf d) (before .labels) → (Describes (told (d .n)) d → Left (d .n) before after r)
+  pub call-answered : (before after : Slices) {r : TestResult} → after .labels ≡ over (namesOf d) (before .labels) → (Describes (sized (d .n)) d → Left (d .n) before after r)
       → called (Tested r) after ≡ accepted lot seed k before
   unfolding accepted leaves output work
   call-answered before after {r} named run =
-      let ran : Left (lot .n) before after r = subst (λ (n : ℕ). Left n before after r) many (run (subst (λ (n : ℕ). Describes (told n) d) (sym many) e)) in
+      let ran : Left (lot .n) before after r = subst (λ (n : ℕ). Left n before after r) many (run (subst (λ (n : ℕ). Describes (sized n) d) (sym many) e)) in
       λ i. record {
         answer = answered (ran .answers .result i);
         after = record {
@@ -59,23 +61,24 @@ module _ (lot : Lot) (seed k : ℕ) {d : Design} (e : Describes lot d) (many : d
 
 module _ (lot : Lot) (seed k : ℕ) (before : Slices) where
   -- the check as the code makes it
-  pub checked : {short beyond : Bool} {c : Check}
+  pub checked : {short beyond : Bool} {c : Told}
       → short ≡ tooShort (lot .n) (length (before .labels)) (length (before .counts)) (length (before .means)) (length (before .terms)) (length (before .pulls))
       → beyond ≡ ltb 999999 k → c ≡ first (testLines lot short beyond) → c ≡ testCheck lot k before
   unfolding testCheck
   checked s b e = e ∙ ap₂ (λ (x y : Bool). first (testLines lot x y)) s b
 
   -- a refusal leaves all as it was
-  pub call-refused : {r : Refusal} → check.Refused r ≡ testCheck lot k before → called (Refused r) before ≡ testCall lot seed k before
+  pub call-refused : {c : Check} {r : Refusal} → told c ≡ testCheck lot k before → c ≡ check.Refused r → called (Refused r) before ≡ testCall lot seed k before
   unfolding testCall leaves output work
-  call-refused {r} e =
-      let stays : untouched r ≡ true = lines e in
-      let whole : called (Refused r) before ≡ leaves lot (judged (check.Refused r) (answered (tested lot seed k))) before = rw stays in
-      whole ∙ ap (λ (c : Check). leaves lot (judged c (answered (tested lot seed k))) before) e
+  call-refused {c} {r} h i =
+      let e = told-refused h i in
+      let stays : untouched (number r) ≡ true = lines e in
+      let whole : called (Refused r) before ≡ leaves lot (judged (refused (number r)) (answered (tested lot seed k))) before = rw stays in
+      whole ∙ ap (λ (c : Told). leaves lot (judged c (answered (tested lot seed k))) before) e
     where
-      lines : check.Refused r ≡ testCheck lot k before → untouched r ≡ true
+      lines : refused (number r) ≡ testCheck lot k before → untouched (number r) ≡ true
       lines e = unfold testCheck in lines-untouched lot _ _ e
 
-  pub call-passed : {r : Called} → check.Passed ≡ testCheck lot k before → r ≡ accepted lot seed k before → r ≡ testCall lot seed k before
+  pub call-passed : {r : Called} → passed ≡ testCheck lot k before → r ≡ accepted lot seed k before → r ≡ testCall lot seed k before
   unfolding testCall accepted
-  call-passed e h = h ∙ ap (λ (c : Check). leaves lot (judged c (answered (tested lot seed k))) before) e
+  call-passed e h = h ∙ ap (λ (c : Told). leaves lot (judged c (answered (tested lot seed k))) before) e

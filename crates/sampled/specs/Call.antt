@@ -6,9 +6,9 @@ use lib.Dec.{ltb}
 use lib.ListN.{length}
 use lib.Ieee.{Float}
 use Rattle.float.specs.Floats.{zero⁺}
-use Rattle.outcome.specs.declared.Check.{Check}
+use Rattle.outcome.specs.Numbers.{number}
 use Rattle.outcome.specs.Refusals.{first, short, _of_}
-use Rattle.outcome.specs.Outcome.{Outcome, answered, refused, judged}
+use Rattle.outcome.specs.Outcome.{Outcome, answered, refused, judged, Told}
 use Rattle.outcome.specs.Slices.{output, work}
 use Rattle.lot.specs.Lot.{Lot}
 use Rattle.lot.specs.Kept.{names, groups, keptCount, groupCount}
@@ -37,7 +37,7 @@ unfoldable pub tooShort : ℕ → ℕ → ℕ → ℕ → ℕ → ℕ → Bool
 tooShort n labels counts means terms pulls = short ((labels of n) ∷ (counts of n) ∷ (means of n) ∷ (terms of n * n) ∷ (pulls of n * n) ∷ [])
 
 -- what the table says of a call
-unfoldable pub testCheck : Lot → ℕ → Slices → Check
+unfoldable pub testCheck : Lot → ℕ → Slices → Told
 testCheck lot n before =
     first
     (testLines lot
@@ -78,7 +78,7 @@ testCall lot seed n before = leaves lot (judged (testCheck lot n before) (answer
 
 abbrev pub answerOf : Answer → Outcome TestResult
 answerOf (Tested r) = answered r
-answerOf (Refused r) = refused r
+answerOf (Refused r) = refused (number r)
 
 abbrev pub called : Answer → Slices → Called
 called r after = record { answer = answerOf r; after = after }

@@ -1,4 +1,4 @@
--- Hits that are counted one after the other, and hits of shuffles over parts as hits of shuffles within strata. Assumes nothing.
+-- Hits that are counted one after the other, and hits of shuffles over parts as hits of shuffles within strata.
 use mathlib.Core.Path.{_≡_, refl, sym, ap, subst, _∙_}
 use mathlib.Core.Bool.{Bool, cond}
 use mathlib.Core.List.{List}

@@ -1,4 +1,4 @@
--- A sample more in the scatter within groups, a group more in that between them. Assumes nothing.
+-- A sample more in the scatter within groups, a group more in that between them.
 -- `d` has how far the sample, or the group, is from the mean; `&x[i * columns..i * columns + p]` is lent as `take .. (drop ..)`.
 use mathlib.Core.Path.{_≡_, refl, sym, ap, ap₂, subst, _∙_}
 use mathlib.Core.Bool.{Bool, true}

@@ -1,4 +1,4 @@
--- A row of scores more, and a sample more in its group's centroid. Assumes nothing.
+-- A row of scores more, and a sample more in its group's centroid.
 -- `&x[i * columns..i * columns + p]` is lent as `take .. (drop ..)`.
 use mathlib.Core.Path.{_≡_, sym, ap, ap₂, subst, _∙_}
 use mathlib.Core.List.{List, map}

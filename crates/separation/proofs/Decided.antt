@@ -1,16 +1,16 @@
--- By the pivots, by the eigenpairs, and from the coordinates; the room of a matrix. Assumes nothing.
-use mathlib.Core.Path.{_≡_, refl, sym, ap, ap₂, _∙_}
+-- By the pivots, by the eigenpairs, and from the coordinates; the room of a matrix.
+use mathlib.Core.Path.{_≡_, sym, ap, ap₂, _∙_}
 use mathlib.Core.Bool.{Bool, true, false}
 use mathlib.Core.List.{List}
 use Prim.Native.Nat.{ℕ, _+_, _*_, _≤_}
 use native.Mathlib.Nat.{mul-le-mul}
 use native.Mathlib.Omega.{arith}
-use lib.ListN.{length, take, drop, replicate}
+use lib.ListN.{take, drop, replicate}
 use lib.Ieee.{Float}
 use Rattle.float.specs.Floats.{zero⁺}
 use Rattle.lists.specs.Writes.{over}
 use Rattle.outcome.specs.declared.Refusal.{Refusal}
-use Rattle.outcome.specs.declared.Refusal.the-variants.{Pivot, Unordered}
+use Rattle.outcome.specs.Numbers.{number}
 use Rattle.outcome.specs.Outcome.{Outcome, answered, refused, andThen}
 use Rattle.outcome.specs.Slices.{output}
 use Rattle.means.specs.Means.{meanOf}
@@ -42,17 +42,17 @@ module _ (n : ℕ) (d : Dimensions) (x : List Float) (groups : List ℕ) (mean a
   rest f = andThen (solution f) (λ e. placed f (e .values) (e .vectors))
 
   abbrev by-pivot : List Float → Bool → Outcome Scores
-  by-pivot f b = elim b as (λ b. Outcome Scores) [ true ↦ refused Pivot | false ↦ rest f ]
+  by-pivot f b = elim b as (λ b. Outcome Scores) [ true ↦ refused 10 | false ↦ rest f ]
 
   abbrev all : Outcome Scores
   all = separated n (d .columns) (d .lead) (d .groups) x groups mean a sb
 
   -- outputs whose first part is cleared
-  abbrev cleared : Refusal → Called
+  abbrev cleared : ℕ → Called
   cleared k = refusal k (over (replicate (d .axes + n * d .axes) zero⁺) out) (over (replicate n 0) assigned)
 
   -- the two cases of the pivots
-  pub pivot-fails : {r : Called} → fails ≡ true → r ≡ cleared Pivot → r ≡ left all
+  pub pivot-fails : {r : Called} → fails ≡ true → r ≡ cleared 10 → r ≡ left all
   unfolding separated leaves output andThen
   pivot-fails t e = e ∙ ap (λ (b : Bool). left (by-pivot (factor (d .lead) a) b)) (sym (sym told ∙ t))
 
@@ -62,11 +62,11 @@ module _ (n : ℕ) (d : Dimensions) (x : List Float) (groups : List ℕ) (mean a
 
   -- the two cases of the eigenpairs
   module _ (t : fails ≡ false) (ev : List Float) {answer : jacobi-answer.Answer} (solved : eigenOf (d .lead) answer ev ≡ solution l) where
-    pub eigen-refuses : {r : Called} {k : Refusal} → answer ≡ jacobi-answers.Refused k → r ≡ cleared Unordered → r ≡ left all
+    pub eigen-refuses : {r : Called} {k : Refusal} → answer ≡ jacobi-answers.Refused k → r ≡ cleared 11 → r ≡ left all
     unfolding leaves output andThen
     eigen-refuses {r} {k} is e =
-        let found : refused k ≡ solution l = ap (λ (b : jacobi-answer.Answer). eigenOf (d .lead) b ev) (sym is) ∙ solved in
-        let only : refused Unordered ≡ solution l = ap (λ (q : Refusal). refused q) (sym (only-unordered (d .lead) (whitened (d .lead) l sb) k found)) ∙ found in
+        let found : refused (number k) ≡ solution l = ap (λ (b : jacobi-answer.Answer). eigenOf (d .lead) b ev) (sym is) ∙ solved in
+        let only : refused 11 ≡ solution l = ap (λ (j : ℕ). refused j) (sym (only-unordered (d .lead) (whitened (d .lead) l sb) (number k) found)) ∙ found in
         e ∙ ap (λ (o : Outcome Eigen). left (andThen o (λ e. placed l (e .values) (e .vectors)))) only ∙ ap left (sym (passes t))
 
     -- the eigenpairs stand at the front of their room

@@ -1,5 +1,5 @@
--- The lines of the table: what holds of sets that no line turns away. Assumes nothing.
-use mathlib.Core.Path.{_≡_, subst}
+-- The lines of the table: what holds of sets that no line turns away.
+use mathlib.Core.Path.{_≡_, sym, subst}
 use mathlib.Core.Bool.{Bool, false, not, _||_}
 use mathlib.Core.List.{List}
 use Prim.Native.Nat.{ℕ, zero, suc, _+_, _-_, _*_, _<_, _≤_}
@@ -9,16 +9,15 @@ use borrow.Author.Tests.{eqb-true, eqb-false, ltb-false, not-false}
 use lib.Dec.{eqb, ltb}
 use lib.ListN.{length, getD}
 use Rattle.lists.specs.Filters.{any}
-use Rattle.outcome.specs.declared.Refusal.the-variants.{Length, Limit, Ordination, Hashes}
-use Rattle.outcome.specs.declared.Check.the-variants.{Passed}
-use Rattle.outcome.specs.Refusals.{_when_, first, short}
-use Rattle.outcome.specs.Outcome.{answered, judged}
+use Rattle.outcome.specs.Refusals.{first, short}
+use Rattle.outcome.specs.Outcome.{answered, passed, judged}
+use Rattle.outcome.proofs.Table.{first-passed}
 use Rattle.hashes.specs.Selected.{selected}
 use Rattle.sets.specs.Sets.{Offsets}
 use Rattle.sets.specs.Lines.{falls, badOffsets, tooShort, gramLines, earlyLines, lateLines}
 use Rattle.lists.proofs.Truths.{or-neither}
 use Rattle.lists.proofs.Searches.{any-no}
-use Rattle.sets.proofs.Tables.{lines-pass, judged-passes}
+use Rattle.sets.proofs.Tables.{judged-passes}
 
 -- ---- offsets that are not bad
 
@@ -62,15 +61,15 @@ pub record Accepted (n : ℕ) (hashes offsets : List ℕ) (short beyond : Bool) 
   pub some : length (selected n hashes) ≡ 0 → ⊥
   pub most : length (selected n hashes) ≤ 4096
 
-pub accepted : (n : ℕ) (hashes offsets : List ℕ) (short beyond : Bool) → first (gramLines n hashes offsets short beyond) ≡ Passed → Accepted n hashes offsets short beyond
+pub accepted : (n : ℕ) (hashes offsets : List ℕ) (short beyond : Bool) → first (gramLines n hashes offsets short beyond) ≡ passed → Accepted n hashes offsets short beyond
 unfolding gramLines earlyLines lateLines
 accepted n hashes offsets short beyond e =
     let m = length (selected n hashes) in
-    let l₁ = lines-pass (Length when badOffsets n (length hashes) offsets || short) _ e in
-    let l₂ = lines-pass (Limit when ltb 256 n || ltb 65536 (length hashes) || beyond) _ (l₁ .1) in
-    let l₃ = lines-pass (Ordination when ltb n 3) _ (l₂ .1) in
-    let l₆ = lines-pass (Ordination when eqb m 0) _ (l₃ .1) in
-    let l₇ = lines-pass (Hashes when ltb 4096 m) _ (l₆ .1) in
+    let l₁ = first-passed _ _ (badOffsets n (length hashes) offsets || short) (sym e) in
+    let l₂ = first-passed _ _ (ltb 256 n || ltb 65536 (length hashes) || beyond) (l₁ .1) in
+    let l₃ = first-passed _ _ (ltb n 3) (l₂ .1) in
+    let l₆ = first-passed _ _ (eqb m 0) (l₃ .1) in
+    let l₇ = first-passed _ _ (ltb 4096 m) (l₆ .1) in
     let a = or-neither (badOffsets n (length hashes) offsets) short (l₁ .0) in
     let b = or-neither (ltb 256 n || ltb 65536 (length hashes)) beyond (l₂ .0) in
     let c = or-neither (ltb 256 n) (ltb 65536 (length hashes)) (b .0) in
@@ -86,11 +85,11 @@ accepted n hashes offsets short beyond e =
     }
 
 -- sets that the lines pass which do not look at the hashes
-pub early-passed : (n : ℕ) (hashes offsets : List ℕ) (short beyond : Bool) → first (earlyLines n (length hashes) offsets short beyond) ≡ Passed → (n ≤ 256) × (length hashes ≤ 65536)
+pub early-passed : (n : ℕ) (hashes offsets : List ℕ) (short beyond : Bool) → first (earlyLines n (length hashes) offsets short beyond) ≡ passed → (n ≤ 256) × (length hashes ≤ 65536)
 unfolding earlyLines
 early-passed n hashes offsets short beyond e =
-    let l₁ = lines-pass (Length when badOffsets n (length hashes) offsets || short) _ e in
-    let l₂ = lines-pass (Limit when ltb 256 n || ltb 65536 (length hashes) || beyond) _ (l₁ .1) in
+    let l₁ = first-passed _ _ (badOffsets n (length hashes) offsets || short) (sym e) in
+    let l₂ = first-passed _ _ (ltb 256 n || ltb 65536 (length hashes) || beyond) (l₁ .1) in
     let b = or-neither (ltb 256 n || ltb 65536 (length hashes)) beyond (l₂ .0) in
     let c = or-neither (ltb 256 n) (ltb 65536 (length hashes)) (b .0) in
     (ltb-false _ _ (c .0), ltb-false _ _ (c .1))
@@ -100,8 +99,8 @@ pub late-passes : (m k : ℕ) → answered m ≡ judged (first (lateLines k)) (a
 unfolding lateLines
 late-passes m k e =
     let p = judged-passes (first (lateLines k)) m k e in
-    let l₆ = lines-pass (Ordination when eqb k 0) _ (p .0) in
-    let l₇ = lines-pass (Hashes when ltb 4096 k) _ (l₆ .1) in
+    let l₆ = first-passed _ _ (eqb k 0) (sym (p .0)) in
+    let l₇ = first-passed _ _ (ltb 4096 k) (l₆ .1) in
     (p .1, ltb-false _ _ (l₇ .0))
 
 -- slices that are not short

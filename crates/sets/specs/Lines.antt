@@ -6,7 +6,6 @@ use lib.Dec.{eqb, ltb}
 use lib.ListN.{length, getD}
 use Rattle.lists.specs.Ranges.{range}
 use Rattle.lists.specs.Filters.{any}
-use Rattle.outcome.specs.declared.Refusal.the-variants.{Length, Limit, Ordination, Hashes}
 use Rattle.outcome.specs.Refusals.{Line, _when_, unfit, _of_, short}
 use Rattle.hashes.specs.Selected.{selected}
 
@@ -27,14 +26,14 @@ tooShort n out words = short ((out of n * n) ∷ (words of n * 64) ∷ [])
 -- argument is beyond its limit.
 unfoldable pub earlyLines : ℕ → ℕ → List ℕ → Bool → Bool → List Line
 earlyLines n hashes offsets short beyond =
-    (Length when badOffsets n hashes offsets || short)
-    ∷ (Limit when ltb 256 n || ltb 65536 hashes || beyond)
-    ∷ (Ordination when ltb n 3)
+    (1 when badOffsets n hashes offsets || short)
+    ∷ (2 when ltb 256 n || ltb 65536 hashes || beyond)
+    ∷ (6 when ltb n 3)
     ∷ []
 
 -- and those that do, by the number of hashes with frequency 2 to n - 1
 unfoldable pub lateLines : ℕ → List Line
-lateLines m = (Ordination when eqb m 0) ∷ (Hashes when ltb 4096 m) ∷ []
+lateLines m = (6 when eqb m 0) ∷ (7 when ltb 4096 m) ∷ []
 
 unfoldable pub gramLines : ℕ → List ℕ → List ℕ → Bool → Bool → List Line
 gramLines n hashes offsets short beyond = earlyLines n (length hashes) offsets short beyond ++ lateLines (length (selected n hashes))

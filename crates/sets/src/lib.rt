@@ -4,6 +4,7 @@ use outcome::Refusal;
 ghost use mathlib.Core.Path.{_≡_};
 ghost use Prim.Native.Nat.{_+_};
 ghost use lib.ListN.{length};
+ghost use Rattle.outcome.specs.Numbers.{told};
 ghost use Rattle.outcome.specs.Refusals.{first};
 ghost use Rattle.sets.specs.Lines.{falls, badOffsets, tooShort, earlyLines, lateLines};
 
@@ -56,7 +57,7 @@ pub fn too_short(n: usize, out: usize, words: usize) -> bool
 
 // The lines that do not look at the hashes. `short` says that a slice of the operation is short, `beyond` that another of its arguments is beyond its limit.
 pub fn early(offsets: &[usize], n: usize, hashes: usize, short: bool, beyond: bool) -> Check
-    ensures { λ r. ⌜ r ≡ first (earlyLines n hashes (now (offsets .entry)) short beyond) ⌝ }
+    ensures { λ r. ⌜ told r ≡ first (earlyLines n hashes (now (offsets .entry)) short beyond) ⌝ }
 {
     if bad_offsets(offsets, n, hashes) {
         return Check::Refused(Refusal::Length);
@@ -81,7 +82,7 @@ pub fn early(offsets: &[usize], n: usize, hashes: usize, short: bool, beyond: bo
 
 // The lines that look at the hashes, by the number of selected ones.
 pub fn late(m: usize) -> Check
-    ensures { λ r. ⌜ r ≡ first (lateLines m) ⌝ }
+    ensures { λ r. ⌜ told r ≡ first (lateLines m) ⌝ }
 {
     if m == 0 {
         return Check::Refused(Refusal::Ordination);

@@ -1,4 +1,4 @@
--- A place drawn is below its bound; one swap by what its parts gave, a stratum's swaps from its last position down, and the parts in turn. Assumes nothing.
+-- A place drawn is below its bound; one swap by what its parts gave, a stratum's swaps from its last position down, and the parts in turn.
 use mathlib.Core.Path.{_≡_, refl, sym, ap, subst, _∙_}
 use mathlib.Core.List.{List}
 use Prim.Native.Nat.{ℕ, zero, suc, _+_, _-_, _<_, _≤_}

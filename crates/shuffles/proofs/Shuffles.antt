@@ -1,4 +1,4 @@
--- A shuffle keeps the number of labels, and their groups are of the same g. Over parts it is the shuffle within strata. Assumes nothing.
+-- A shuffle keeps the number of labels, and their groups are of the same g. Over parts it is the shuffle within strata.
 use mathlib.Core.Path.{_≡_, refl, sym, ap, _∙_, subst}
 use mathlib.Core.Bool.{Bool, true, false}
 use mathlib.Core.List.{List, [], _∷_, _++_, foldl}

@@ -1,4 +1,4 @@
--- A branch by a test, as a definition by cases has it. Assumes nothing.
+-- A branch by a test, as a definition by cases has it.
 use mathlib.Core.Path.{_≡_, sym, ap, _∙_}
 use mathlib.Core.Bool.{Bool, true, false, cond}
 

@@ -1,5 +1,4 @@
 -- The mean of a matrix t and its transpose, pair by pair, row by row. The invariant `Evening`: of the pairs r < c those with r * p + c below b are done.
--- Assumes nothing.
 use mathlib.Core.Path.{_≡_, refl, sym, ap, ap₂, subst, _∙_}
 use mathlib.Core.Bool.{Bool, cond}
 use mathlib.Core.List.{List}

@@ -1,4 +1,4 @@
--- Statistics and hits by cases, as the code takes them apart. Assumes nothing.
+-- Statistics and hits by cases, as the code takes them apart.
 use mathlib.Core.Path.{_≡_, refl, sym, ap, _∙_}
 use mathlib.Core.Bool.{Bool, true, false, cond}
 use Prim.Native.Nat.{ℕ, _≤_}

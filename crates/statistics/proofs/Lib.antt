@@ -1,2 +1,4 @@
--- The laws that the proofs of `statistics` share.
+-- The laws that the proofs of `statistics` share, and the exact case.
 pub mod Cases
+pub mod Exact
+pub mod Five

@@ -54,6 +54,28 @@ pub fn hit(observed: Statistic, found: Statistic) -> bool
     float::as_large(x, f)
 }
 
+// ---- the values of each case
+
+// 1 for a finite F, 0 for an unbounded one.
+pub fn state_of(s: Statistic) -> u64
+    ensures { λ r. ⌜ r ≡ hits.stateOf s ⌝ }
+{
+    match s {
+        Statistic::Finite(_) => 1,
+        Statistic::Unbounded => 0,
+    }
+}
+
+// F, 0 where it is unbounded.
+pub fn value_of(s: Statistic) -> f64
+    ensures { λ r. ⌜ r ≡ hits.valueOf s ⌝ }
+{
+    match s {
+        Statistic::Finite(f) => f,
+        Statistic::Unbounded => 0.0,
+    }
+}
+
 // ---- location
 
 // The total over the terms, divided by the sum of weights.

@@ -1,4 +1,4 @@
--- The block iteration put together: the shift, the rounds, Rayleigh-Ritz on the last block. Assumes nothing.
+-- The block iteration put together: the shift, the rounds, Rayleigh-Ritz on the last block.
 use mathlib.Core.Path.{_≡_, sym, ap, _∙_}
 use mathlib.Core.List.{List}
 use Prim.Native.Nat.{ℕ, _*_}

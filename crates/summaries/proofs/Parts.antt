@@ -1,4 +1,4 @@
--- The summary from its parts, and that its warnings fit a byte. Assumes nothing.
+-- The summary from its parts, and that its warnings fit a byte.
 use mathlib.Core.Path.{_≡_}
 use mathlib.Core.Bool.{Bool, not, _&&_}
 use mathlib.Core.List.{List, [], _∷_}

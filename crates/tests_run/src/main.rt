@@ -1,4 +1,4 @@
-// Calls of `test` at the edges of each refusal: for each its answer, then the outputs and what both work slices hold. Every slice holds 7 at first.
+// Calls of `test` at the edges of each refusal, and with each warning: for each its answer, then the outputs and what both work slices hold. Every slice holds 7 at first.
 use chances::Chance;
 use libc::STDOUT_FILENO;
 use measurement::TestResult;
@@ -12,6 +12,14 @@ fn show_count(n: u64) {
     io::print_decimal(STDOUT_FILENO, n);
 }
 
+// The bits of x; one pattern for all NaNs.
+fn pattern(x: f64) -> u64 {
+    if x != x {
+        return 0x7ff8_0000_0000_0000;
+    }
+    f64::to_bits(x)
+}
+
 // The bits of x, or `nan`.
 fn show_number(x: f64) {
     io::write_all(STDOUT_FILENO, b" ");
@@ -19,7 +27,7 @@ fn show_number(x: f64) {
         io::write_all(STDOUT_FILENO, b"nan");
         return;
     }
-    io::print_hex(STDOUT_FILENO, f64::to_bits(x), 16);
+    io::print_hex(STDOUT_FILENO, pattern(x), 16);
 }
 
 fn show_chance(p: Chance) {
@@ -77,21 +85,22 @@ fn show_numbers(s: &[f64]) {
     io::write_all(STDOUT_FILENO, b" |");
 }
 
-fn all_are(s: &[f64], v: f64) -> bool {
+// Whether every number has these bits. So -0.0 is not 0.0; a NaN has none of those asked.
+fn all_are(s: &[f64], bits: u64) -> bool {
     for i in 0..s.len() {
-        if s[i] != v {
+        if pattern(s[i]) != bits {
             return false;
         }
     }
     true
 }
 
-// Whether a work slice is zero, or as it was.
+// Whether a work slice is 0.0 throughout, or 7.0 as it was.
 fn show_work(s: &[f64]) {
-    if all_are(s, 0.0) {
+    if all_are(s, 0) {
         io::write_all(STDOUT_FILENO, b" zero");
     } else {
-        if all_are(s, 7.0) {
+        if all_are(s, 0x401c_0000_0000_0000) {
             io::write_all(STDOUT_FILENO, b" untouched");
         } else {
             io::write_all(STDOUT_FILENO, b" mixed");
@@ -365,6 +374,171 @@ fn order() {
     call_four(4, &d, &[0, 0, 1, 2], false, &[], true, &[0.0; 4], 9);
 }
 
+// ---- the warnings
+
+fn apart(x: f64, y: f64) -> f64 {
+    if x < y { y - x } else { x - y }
+}
+
+// The distances of 16 samples on a line.
+fn on_a_line(places: &[f64; 16]) -> [f64; 256] {
+    let mut d = [0.0; 256];
+    for k in 0..256 {
+        d[k] = apart(places[k / 16], places[k % 16]);
+    }
+    d
+}
+
+// With outputs and work slices for 16 samples, and 99 shuffles.
+fn call_sixteen(n: usize, distances: &[f64], labels: &[u16], stratified: bool, strata: &[u16]) {
+    let mut names = [7u16; 16];
+    let mut counts = [7u16; 16];
+    let mut means = [7.0; 16];
+    let mut terms = [7.0; 256];
+    let mut pulls = [7.0; 256];
+    let asked = Asked {
+        n,
+        stratified,
+        weighted: false,
+        n_perm: 99,
+    };
+    call(
+        asked,
+        distances,
+        labels,
+        strata,
+        &[],
+        &mut names,
+        &mut counts,
+        &mut means,
+        &mut terms,
+        &mut pulls,
+    );
+}
+
+fn with_places(places: &[f64; 16], labels: &[u16], stratified: bool, strata: &[u16]) {
+    let d = on_a_line(places);
+    call_sixteen(16, &d, labels, stratified, strata);
+}
+
+const NEAR: [f64; 16] = [
+    0.0,
+    1.0,
+    2.0,
+    4.0,
+    4.0,
+    5.0,
+    6.0,
+    7.0,
+    3.0,
+    4.0,
+    5.0,
+    6.0,
+    7.0,
+    8.0,
+    9.0,
+    13.0,
+];
+
+const FAR: [f64; 16] = [
+    0.0,
+    1.0,
+    2.0,
+    4.0,
+    4.0,
+    5.0,
+    6.0,
+    7.0,
+    40.0,
+    50.0,
+    60.0,
+    70.0,
+    80.0,
+    90.0,
+    100.0,
+    130.0,
+];
+
+const UNEVEN: [f64; 16] = [
+    0.0,
+    1.0,
+    2.0,
+    4.0,
+    4.0,
+    5.0,
+    6.0,
+    7.0,
+    8.0,
+    9.0,
+    10.0,
+    11.0,
+    40.0,
+    44.0,
+    49.0,
+    56.0,
+];
+
+const HALVES: [u16; 16] = [0, 0, 0, 0, 0, 0, 0, 0, 1, 1, 1, 1, 1, 1, 1, 1];
+
+const ALONE: [u16; 16] = [0, 0, 0, 0, 0, 0, 0, 5, 1, 1, 1, 1, 1, 1, 1, 65535];
+
+const QUARTER: [u16; 16] = [0, 0, 0, 0, 0, 0, 0, 0, 0, 0, 0, 0, 1, 1, 1, 1];
+
+const PAIR: [u16; 16] = [1, 1, 1, 1, 1, 1, 1, 3, 2, 2, 2, 2, 2, 2, 2, 3];
+
+// In both groups the first sample is 1 from the two others, which are 10 apart: its value is below 0.
+const STAR: [f64; 36] = [
+    0.0,
+    1.0,
+    1.0,
+    5.0,
+    5.0,
+    5.0,
+    1.0,
+    0.0,
+    10.0,
+    5.0,
+    5.0,
+    5.0,
+    1.0,
+    10.0,
+    0.0,
+    5.0,
+    5.0,
+    5.0,
+    5.0,
+    5.0,
+    5.0,
+    0.0,
+    1.0,
+    1.0,
+    5.0,
+    5.0,
+    5.0,
+    1.0,
+    0.0,
+    10.0,
+    5.0,
+    5.0,
+    5.0,
+    1.0,
+    10.0,
+    0.0,
+];
+
+// No warning; 0: a label held once; 2: one stratum of two informs; 5: both p are below 0.05; 6, with 3: groups of 12 and 4; 4, with 3. 1 is among the
+// strata above.
+fn warnings() {
+    with_places(&NEAR, &HALVES, false, &[]);
+    with_places(&NEAR, &ALONE, false, &[]);
+    with_places(&NEAR, &HALVES, true, &PAIR);
+    with_places(&FAR, &HALVES, false, &[]);
+    with_places(&UNEVEN, &QUARTER, false, &[]);
+    call_sixteen(6, &STAR, &[0, 0, 0, 1, 1, 1], false, &[]);
+}
+
+// ---- more samples than are allowed
+
 // 257 samples, with slices that fit them: the answer, and whether anything was touched.
 fn call_many(
     d: &[f64],
@@ -427,5 +601,6 @@ fn main() {
     shuffles();
     sizes();
     order();
+    warnings();
     many();
 }

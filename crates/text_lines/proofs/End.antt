@@ -1,4 +1,4 @@
--- Whether the frames from a place on are the end. Assumes nothing.
+-- Whether the frames from a place on are the end.
 use Prim.Native.Nat.{ℕ, suc, _+_}
 use mathlib.Core.Path.{_≡_, refl, sym, ap, _∙_}
 use mathlib.Core.Bool.{Bool, true, false, _&&_, cond}

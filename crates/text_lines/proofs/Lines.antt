@@ -1,4 +1,4 @@
--- Laws of lines: the first line and the rest, and the frame at a place. Assumes nothing.
+-- Laws of lines: the first line and the rest, and the frame at a place.
 use Prim.Native.Nat.{ℕ, suc, _+_, _-_, _<_, _≤_}
 use mathlib.Core.Path.{_≡_, refl, sym, ap, ap₂, _∙_}
 use mathlib.Core.Bool.{Bool, true, false, cond}

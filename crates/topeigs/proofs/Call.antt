@@ -1,4 +1,4 @@
--- What a call leaves in everything lent, and what the lines of the table tell. Assumes nothing.
+-- What a call leaves in everything lent, and what the lines of the table tell.
 use mathlib.Core.Path.{_≡_, refl, sym, ap, _∙_}
 use mathlib.Core.Bool.{true}
 use mathlib.Core.List.{List, _++_}
@@ -8,11 +8,11 @@ use lib.Ieee.{Float}
 use Rattle.float.specs.Floats.{zero⁺}
 use Rattle.lists.specs.Filters.{all}
 use Rattle.lists.specs.Writes.{cleared}
-use Rattle.outcome.specs.declared.Refusal.{Refusal}
 use Rattle.outcome.specs.declared.Check.{Check}
 use Rattle.outcome.specs.declared.Check.the-variants.{Passed, Refused}
 use Rattle.outcome.specs.Refusals.{first}
-use Rattle.outcome.specs.Outcome.{Outcome, answered, refused, judged, checkOf}
+use Rattle.outcome.specs.Outcome.{Outcome, Told, answered, refused, passed, judged, toldOf}
+use Rattle.outcome.specs.Numbers.{told}
 use Rattle.outcome.specs.Slices.{output, work, untouched}
 use Rattle.outcome.proofs.Table.{first-untouched}
 use Rattle.jacobi.proofs.Front.{output-front}
@@ -25,7 +25,7 @@ use Rattle.topeigs.proofs.Whole.{top-min, top-work}
 
 -- ---- on slices that may be longer, with the work cleared
 
-check-read : (k : ℕ) (r : Check) (out : List Float) → r ≡ checkOf (pairsOf k r out)
+check-read : (k : ℕ) (r : Check) (out : List Float) → told r ≡ toldOf (pairsOf k r out)
 check-read k Passed out = refl
 check-read k (Refused r) out = refl
 
@@ -34,33 +34,33 @@ pub given-leaves : (k n : ℕ) (a out w m v : List Float) (r : Check) {part w′
 unfolding leaves gives written
 given-leaves k n a out w m v r {part} {w′} {m′} {v′} e many hw hm hv =
     let o = topEigs k n a in
-    let answer : r ≡ checkOf o = check-read k r part ∙ ap (λ (g : Given). checkOf (g .found)) e in
+    let answer : told r ≡ toldOf o = check-read k r part ∙ ap (λ (g : Given). toldOf (g .found)) e in
     let first : part ++ drop (k + k * n) out ≡ written k n o out = output-front (λ e. e .values ++ e .vectors) (k + k * n) o out many (ap (λ (g : Given). g .out) e) in
     let w-is : w′ ≡ work zero⁺ o w = hw ∙ top-work k n a w in
     let m-is : m′ ≡ work zero⁺ o m = hm ∙ top-work k n a m in
     let v-is : v′ ≡ work zero⁺ o v = hv ∙ top-work k n a v in
-    λ i. called (answer i) (first i) (w-is i) (m-is i) (v-is i)
+    λ i. record { answer = answer i; out = first i; w = w-is i; m = m-is i; v = v-is i }
 
 -- ---- a refused call leaves all as it was, and one that passes is what the pairs leave
 
 module _ (components n : ℕ) (a out w m v : List Float) where
-  abbrev told : Check
-  told = first (topLines components n a (length out) (length w) (length m) (length v))
+  abbrev says : Told
+  says = first (topLines components n a (length out) (length w) (length m) (length v))
 
-  untouched-line : {e : Refusal} → Refused e ≡ told → untouched e ≡ true
+  untouched-line : {k : ℕ} → refused k ≡ says → untouched k ≡ true
   unfolding topLines all
   untouched-line h = first-untouched (topLines components n a (length out) (length w) (length m) (length v)) refl h
 
-  abbrev left : Check → Called
-  left c = leaves (min components n) n (judged c (topEigs components n a)) out w m v
+  abbrev left : Told → Called
+  left t = leaves (min components n) n (judged t (topEigs components n a)) out w m v
 
-  pub call-refused : {e : Refusal} → Refused e ≡ told → called (Refused e) out w m v ≡ topCall components n a out w m v
+  pub call-refused : {k : ℕ} → refused k ≡ says → record { answer = refused k; out = out; w = w; m = m; v = v } ≡ topCall components n a out w m v
   unfolding topCall leaves written output work
-  call-refused {e} h =
-      let kept : called (Refused e) out w m v ≡ left (Refused e) = rw (untouched-line h) in
+  call-refused {k} h =
+      let kept : record { answer = refused k; out = out; w = w; m = m; v = v } ≡ left (refused k) = rw (untouched-line h) in
       kept ∙ ap left h
 
-  pub call-passed : {c : Called} {k : ℕ} → Passed ≡ told → k ≡ min components n → c ≡ leaves k n (topEigs k n a) out w m v → c ≡ topCall components n a out w m v
+  pub call-passed : {c : Called} {k : ℕ} → passed ≡ says → k ≡ min components n → c ≡ leaves k n (topEigs k n a) out w m v → c ≡ topCall components n a out w m v
   unfolding topCall
   call-passed h is e =
       e

@@ -1,4 +1,4 @@
--- Calls of `top_eigs` on small matrices. Assumes nothing.
+-- Calls of `top_eigs` on small matrices.
 use mathlib.Core.Path.{_≡_, refl}
 use mathlib.Core.List.{[], _∷_}
 use lib.ListN.{replicate}

@@ -1,4 +1,4 @@
--- The pairs up to n = 64 and above, put together. Assumes nothing.
+-- The pairs up to n = 64 and above, put together.
 use mathlib.Core.Path.{_≡_, refl, sym, ap, ap₂, _∙_}
 use mathlib.Core.Bool.{Bool, true, false}
 use mathlib.Core.List.{List}

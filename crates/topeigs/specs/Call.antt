@@ -5,8 +5,9 @@ use lib.ListN.{length}
 use lib.Ieee.{Float}
 use Rattle.float.specs.Floats.{zero⁺}
 use Rattle.outcome.specs.declared.Check.{Check}
+use Rattle.outcome.specs.Numbers.{told}
 use Rattle.outcome.specs.Refusals.{first}
-use Rattle.outcome.specs.Outcome.{Outcome, judged, checkOf}
+use Rattle.outcome.specs.Outcome.{Outcome, Told, judged, toldOf}
 use Rattle.outcome.specs.Slices.{work}
 use Rattle.topeigs_lines.specs.TopLines.{topLines}
 use Rattle.ritz.specs.Ritz.{Pairs}
@@ -15,18 +16,18 @@ use Rattle.topeigs.specs.TopEigs.{topEigs}
 
 -- the answer, and the slices afterwards
 pub record Called : Type 0 where
-  pub answer : Check
+  pub answer : Told
   pub out : List Float
   pub w : List Float
   pub m : List Float
   pub v : List Float
 
 abbrev pub called : Check → List Float → List Float → List Float → List Float → Called
-called r out w m v = record { answer = r; out = out; w = w; m = m; v = v }
+called r out w m v = record { answer = told r; out = out; w = w; m = m; v = v }
 
 -- what a call leaves, by what is found
 unfoldable pub leaves : ℕ → ℕ → Outcome Pairs → List Float → List Float → List Float → List Float → Called
-leaves k n o out w m v = record { answer = checkOf o; out = written k n o out; w = work zero⁺ o w; m = work zero⁺ o m; v = work zero⁺ o v }
+leaves k n o out w m v = record { answer = toldOf o; out = written k n o out; w = work zero⁺ o w; m = work zero⁺ o m; v = work zero⁺ o v }
 
 -- the meaning of a call of `top_eigs`
 unfoldable pub topCall : ℕ → ℕ → List Float → List Float → List Float → List Float → List Float → Called

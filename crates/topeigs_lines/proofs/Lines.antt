@@ -1,4 +1,4 @@
--- The lines of the table, one by one, and what the arguments are where no line holds. Assumes nothing.
+-- The lines of the table, one by one, and what the arguments are where no line holds.
 use mathlib.Core.Path.{_≡_, sym, ap, _∙_}
 use mathlib.Core.Bool.{Bool, true, false, not, _||_}
 use mathlib.Core.List.{List}
@@ -11,8 +11,7 @@ use lib.ListN.{length}
 use lib.Ieee.{Float}
 use Rattle.lists.specs.Filters.{any}
 use Rattle.lists.proofs.Truths.{or-neither}
-use Rattle.outcome.specs.declared.Refusal.the-variants.{Length, Limit, Value}
-use Rattle.outcome.specs.declared.Check.the-variants.{Passed, Refused}
+use Rattle.outcome.specs.Outcome.{refused, passed}
 use Rattle.outcome.specs.Refusals.{first, short}
 use Rattle.outcome.proofs.Table.{first-holds, first-passes, first-passed}
 use Rattle.matrix.specs.Finite.{notFinite}
@@ -22,21 +21,21 @@ module _ (components n : ℕ) (a : List Float) (out w m v : ℕ) {k : ℕ} (is :
   told-misfits : {b : Bool} → misfits k n (length a) out w m v ≡ b → misfits (min components n) n (length a) out w m v ≡ b
   told-misfits h = ap (λ (j : ℕ). misfits j n (length a) out w m v) (sym is) ∙ h
 
-  pub line-length : misfits k n (length a) out w m v ≡ true → Refused Length ≡ first (topLines components n a out w m v)
+  pub line-length : misfits k n (length a) out w m v ≡ true → refused 1 ≡ first (topLines components n a out w m v)
   unfolding topLines
-  line-length h = sym (first-holds Length _ (told-misfits h))
+  line-length h = sym (first-holds 1 _ (told-misfits h))
 
   module _ (h : misfits k n (length a) out w m v ≡ false) where
-    pub line-limit : beyond n components ≡ true → Refused Limit ≡ first (topLines components n a out w m v)
+    pub line-limit : beyond n components ≡ true → refused 2 ≡ first (topLines components n a out w m v)
     unfolding topLines
-    line-limit g = sym (first-passes Length _ (told-misfits h) ∙ first-holds Limit _ g)
+    line-limit g = sym (first-passes 1 _ (told-misfits h) ∙ first-holds 2 _ g)
 
     module _ (g : beyond n components ≡ false) where
-      pub line-value : any notFinite a ≡ true → Refused Value ≡ first (topLines components n a out w m v)
+      pub line-value : any notFinite a ≡ true → refused 3 ≡ first (topLines components n a out w m v)
       unfolding topLines
-      line-value f = sym (first-passes Length _ (told-misfits h) ∙ first-passes Limit _ g ∙ first-holds Value _ f)
+      line-value f = sym (first-passes 1 _ (told-misfits h) ∙ first-passes 2 _ g ∙ first-holds 3 _ f)
 
-      pub line-none : any notFinite a ≡ false → Passed ≡ first (topLines components n a out w m v)
+      pub line-none : any notFinite a ≡ false → passed ≡ first (topLines components n a out w m v)
       unfolding topLines first
       line-none f = rw (told-misfits h, g, f)
 
@@ -51,12 +50,12 @@ pub record Fits (k n : ℕ) (a out w m v : ℕ) : Type 0 where
   pub n-fits : n ≤ 256
   pub k-fits : k ≤ 16
 
-pub passed-fits : (components n : ℕ) (a : List Float) (out w m v : ℕ) → Passed ≡ first (topLines components n a out w m v) → Fits (min components n) n (length a) out w m v
+pub passed-fits : (components n : ℕ) (a : List Float) (out w m v : ℕ) → passed ≡ first (topLines components n a out w m v) → Fits (min components n) n (length a) out w m v
 unfolding topLines misfits beyond short any
 passed-fits components n a out w m v e =
     let k = min components n in
-    let one = first-passed Length _ (misfits k n (length a) out w m v) e in
-    let two = first-passed Limit _ (beyond n components) (one .1) in
+    let one = first-passed 1 _ (misfits k n (length a) out w m v) e in
+    let two = first-passed 2 _ (beyond n components) (one .1) in
     let lengths = or-neither (not (eqb (length a) (n * n))) _ (one .0) in
     let o = or-neither (ltb out (k + k * n)) _ (lengths .1) in
     let x = or-neither (ltb w (n + n * n)) _ (o .1) in

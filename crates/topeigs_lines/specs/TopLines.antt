@@ -6,7 +6,6 @@ use lib.Dec.{eqb, ltb}
 use lib.ListN.{length}
 use lib.Ieee.{Float}
 use Rattle.lists.specs.Filters.{any}
-use Rattle.outcome.specs.declared.Refusal.the-variants.{Length, Limit, Value}
 use Rattle.outcome.specs.Refusals.{Line, _when_, _of_, short}
 use Rattle.matrix.specs.Finite.{notFinite}
 
@@ -21,7 +20,7 @@ beyond n components = ltb 256 n || eqb components 0 || ltb 16 components
 -- lines 1 to 3 of the table
 unfoldable pub topLines : ℕ → ℕ → List Float → ℕ → ℕ → ℕ → ℕ → List Line
 topLines components n a out w m v =
-    (Length when misfits (min components n) n (length a) out w m v)
-    ∷ (Limit when beyond n components)
-    ∷ (Value when any notFinite a)
+    (1 when misfits (min components n) n (length a) out w m v)
+    ∷ (2 when beyond n components)
+    ∷ (3 when any notFinite a)
     ∷ []

@@ -3,6 +3,7 @@ use outcome::Check;
 use outcome::Refusal;
 ghost use mathlib.Core.Path.{_≡_};
 ghost use Prim.Native.Nat.{_≤_, min};
+ghost use Rattle.outcome.specs.Numbers.{told};
 ghost use Rattle.outcome.specs.Refusals.{first};
 ghost use Rattle.topeigs_lines.specs.TopLines.{topLines};
 ghost use Rattle.topeigs_lines.specs.TopLines as Table;
@@ -66,7 +67,7 @@ pub fn check(
     v: usize,
 ) -> Check
     requires { ⌜ k ≡ min components n ⌝ }
-    ensures { λ r. ⌜ r ≡ first (topLines components n (now (a .entry)) out w m v) ⌝ }
+    ensures { λ r. ⌜ told r ≡ first (topLines components n (now (a .entry)) out w m v) ⌝ }
 {
     if misfits(k, n, a.len(), out, w, m, v) {
         return Check::Refused(Refusal::Length);

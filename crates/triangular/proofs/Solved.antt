@@ -1,4 +1,4 @@
--- What is solved has as many entries as it had. Assumes nothing.
+-- What is solved has as many entries as it had.
 use mathlib.Core.Path.{_≡_, _∙_}
 use mathlib.Core.List.{List}
 use Prim.Native.Nat.{ℕ, _+_, _-_}

@@ -1,4 +1,4 @@
--- Loops over the entries of vectors: an inner product, and a vector that is written over entry by entry. Assumes nothing.
+-- Loops over the entries of vectors: an inner product, and a vector that is written over entry by entry.
 use mathlib.Core.Path.{_≡_, refl, sym, ap, _∙_}
 use mathlib.Core.List.{List, map, zipWith}
 use Prim.Native.Nat.{ℕ, _+_, _<_, _≤_}

@@ -1,4 +1,4 @@
--- What is seen and counted on a lot's own terms is the lot's, and so is the answer. Assumes nothing.
+-- What is seen and counted on a lot's own terms is the lot's, and so is the answer.
 use mathlib.Core.Path.{_≡_, refl, sym, ap, ap₂, _∙_}
 use mathlib.Core.Bool.{Bool}
 use mathlib.Core.List.{List, List·Memᴰ}

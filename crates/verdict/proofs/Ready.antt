@@ -1,4 +1,4 @@
--- What is known of a design of a lot that is judged on given coordinates. Assumes nothing.
+-- What is known of a design of a lot that is judged on given coordinates.
 use mathlib.Core.Path.{_≡_, refl, sym, ap, subst, _∙_}
 use mathlib.Core.Bool.{Bool, true, false, cond}
 use mathlib.Core.List.{List}

@@ -1,93 +1,143 @@
--- The three counts of the walk, and what it is asked: at the leaf, and turn by turn of the loop. Assumes nothing.
-use mathlib.Core.Path.{_≡_, sym, ap, subst, _∙_}
-use mathlib.Core.List.{List}
+-- The three counts of the walk, way by way, and what it is asked.
+use mathlib.Core.Path.{_≡_, refl, sym, ap, subst, _∙_}
+use mathlib.Core.Bool.{Bool, true, false, cond}
+use mathlib.Core.List.{List, [], _∷_, _++_, append-nil, List·Memᴰ as Member, List·Memᴰ·head as here, Memᴰ·append-right}
 use Prim.Native.Nat.{ℕ, _+_, _≤_, _<_, _^_}
 use native.Mathlib.Omega.{arith}
-use lib.ListN.{length, getD, set}
+use lib.ListN.{length, length-append}
+use lib.Seq.{append-snoc}
+use Rattle.lists.specs.Filters.{countIf}
+use Rattle.lists.proofs.Filters.{countIf-append, countIf-below}
+use Rattle.lists.proofs.Counts.{count-one}
 use lib.Ieee.{Float}
 use Rattle.ways.specs.Onward.{onward}
-use Rattle.ways.proofs.Turns.{place, taken, Turn, so-far, so-far-none, turns-counted, empty-counted, placed-counted, placed-fits, reached-leaf}
-use Rattle.ways.proofs.Turns.{placed-rows, placed-sized, placed-few, placed-ahead, ahead-leaf}
+use Rattle.ways.specs.Order.{front, through, after, First, Node, NextWay}
+use Rattle.ways.proofs.Order.{through-start}
 use Rattle.way_hits.specs.declared.Seen.{Seen}
 use Rattle.way_hits.specs.declared.Hits.{Hits}
-use Rattle.way_hits.specs.WayHits.{locationHit, dispersionHit, assignmentHit, hitsOf}
+use Rattle.way_hits.specs.WayHits.{locationHit, dispersionHit, assignmentHit, hitsOf, hitsAmong}
 use Rattle.judging.specs.declared.Frame.{Frame}
 use Rattle.judging.specs.Judging.{Prepared, Judged}
-use Rattle.walk.specs.Walked.{Walked, Walking}
+use Rattle.walk.specs.Walked.{Walking}
 
--- what the labels below j have brought
-pub record Counted (observed : Seen) (found : List ℕ → Seen) (g : ℕ) (ss counts way : List ℕ) (k j l d s : ℕ) : Type 0 where
-  pub location : l ≡ so-far (λ way. locationHit observed (found way)) g ss counts way k j
-  pub dispersion : d ≡ so-far (λ way. dispersionHit observed (found way)) g ss counts way k j
-  pub assignment : s ≡ so-far (λ way. assignmentHit observed (found way)) g ss counts way k j
+-- how many ways are still to be judged, where there is one or where there is none
+unfoldable pub remaining : Bool → ℕ → List ℕ → List ℕ → List ℕ → ℕ
+remaining true g ss counts way = 1 + length (after g ss counts way (length ss))
+remaining false g ss counts way = 0
 
-module _ {observed : Seen} {found : List ℕ → Seen} where
-  pub counted-none : (g : ℕ) (ss counts way : List ℕ) (k : ℕ) → Counted observed found g ss counts way k 0 0 0 0
-  counted-none g ss counts way k = record {
-    location = so-far-none _ g ss counts way k;
-    dispersion = so-far-none _ g ss counts way k;
-    assignment = so-far-none _ g ss counts way k;
-  }
+-- of all ways some are done, and counted; the next of the rest is `way`, if there is one
+pub record Walked (observed : Seen) (found : List ℕ → Seen) (all : List (List ℕ)) (g : ℕ) (ss counts way : List ℕ) (more : Bool) (l d s : ℕ) : Type 0 where
+  pub done : List (List ℕ)
+  pub rest : List (List ℕ)
+  pub split : all ≡ done ++ rest
+  pub next : NextWay more g ss counts way rest
+  pub location : l ≡ countIf (λ way. locationHit observed (found way)) done
+  pub dispersion : d ≡ countIf (λ way. dispersionHit observed (found way)) done
+  pub assignment : s ≡ countIf (λ way. assignmentHit observed (found way)) done
 
-  -- every sample has its label
-  pub leaf-counted : (g : ℕ) (ss counts way : List ℕ) (k : ℕ) {r : Hits} → r ≡ hitsOf observed (found way) → k ≡ length ss → length way ≡ length ss
-      → Walked observed found g ss counts way k r
-  unfolding hitsOf
-  leaf-counted g ss counts way k e full sized = record {
-    location = ap (λ (h : Hits). h .location) e ∙ sym (reached-leaf _ g ss counts way k full sized);
-    dispersion = ap (λ (h : Hits). h .dispersion) e ∙ sym (reached-leaf _ g ss counts way k full sized);
-    assignment = ap (λ (h : Hits). h .assignment) e ∙ sym (reached-leaf _ g ss counts way k full sized);
-  }
+pub walked-first : (observed : Seen) (found : List ℕ → Seen) {all : List (List ℕ)} {g : ℕ} {ss counts way : List ℕ} → First g ss counts way all
+    → {more : Bool} {l d s : ℕ} → more ≡ true → l ≡ 0 → d ≡ 0 → s ≡ 0 → Walked observed found (way ∷ after g ss counts way (length ss)) g ss counts way more l d s
+unfolding NextWay countIf
+walked-first observed found {all} {g} {ss} {counts} {way} f em el ed es = record {
+  done = [];
+  rest = way ∷ after g ss counts way (length ss);
+  split = refl;
+  next = subst (λ (b : Bool). NextWay b g ss counts way (way ∷ after g ss counts way (length ss))) (sym em) (record { node = f .node; all = refl });
+  location = el;
+  dispersion = ed;
+  assignment = es;
+}
 
-  module _ {g : ℕ} {ss : List ℕ} {k : ℕ} {counts₀ way₀ counts way : List ℕ} {j l d s : ℕ}
-      (t : Turn g ss k counts₀ way₀ counts way j) (e : Counted observed found g ss counts₀ way₀ k j l d s) where
-    pub counted-all : g ≤ j → Walked observed found g ss counts₀ way₀ k (record { location = l; dispersion = d; assignment = s })
-    counted-all done = record {
-      location = turns-counted t _ done (e .location);
-      dispersion = turns-counted t _ done (e .dispersion);
-      assignment = turns-counted t _ done (e .assignment);
-    }
+module _ {observed : Seen} {found : List ℕ → Seen} {all : List (List ℕ)} {g : ℕ} {ss counts way : List ℕ} where
+  module _ {more : Bool} {l d s : ℕ} (w : Walked observed found all g ss counts way more l d s) where
+    -- none is left
+    pub walked-all : more ≡ false → record { location = l; dispersion = d; assignment = s } ≡ hitsAmong observed found all
+    unfolding hitsAmong
+    walked-all e =
+        let whole : w .done ≡ all = sym (w .split ∙ ap (λ (r : List (List ℕ)). w .done ++ r) none ∙ append-nil (w .done)) in
+        λ i. record {
+          location = (w .location ∙ ap (countIf (λ way. locationHit observed (found way))) whole) i;
+          dispersion = (w .dispersion ∙ ap (countIf (λ way. dispersionHit observed (found way))) whole) i;
+          assignment = (w .assignment ∙ ap (countIf (λ way. assignmentHit observed (found way))) whole) i;
+        }
+      where
+        none : w .rest ≡ []
+        none = unfold NextWay in subst (λ (b : Bool). NextWay b g ss counts way (w .rest)) e (w .next)
 
-    module _ (less : j < g) where
-      pub counted-empty : getD counts (place g ss k j) 0 ≤ 0 → {l″ d″ s″ : ℕ} → l″ ≡ l → d″ ≡ d → s″ ≡ s → Counted observed found g ss counts₀ way₀ k (j + 1) l″ d″ s″
-      counted-empty none el ed es = record {
-        location = empty-counted t less none _ (e .location) el;
-        dispersion = empty-counted t less none _ (e .dispersion) ed;
-        assignment = empty-counted t less none _ (e .assignment) es;
-      }
+    module _ (e : more ≡ true) where
+      first : First g ss counts way (w .rest)
+      unfolding NextWay
+      first = subst (λ (b : Bool). NextWay b g ss counts way (w .rest)) e (w .next)
 
-      module _ (some : 0 < getD counts (place g ss k j) 0) {r : Hits} (h : Walked observed found g ss (taken counts (place g ss k j)) (set way k j) (k + 1) r) where
-        pub counted-placed : {l″ d″ s″ : ℕ} → l″ ≡ l + r .location → d″ ≡ d + r .dispersion → s″ ≡ s + r .assignment
-            → Counted observed found g ss counts₀ way₀ k (j + 1) l″ d″ s″
-        counted-placed el ed es = record {
-          location = el ∙ placed-counted t less some _ (e .location) (h .location);
-          dispersion = ed ∙ placed-counted t less some _ (e .dispersion) (h .dispersion);
-          assignment = es ∙ placed-counted t less some _ (e .assignment) (h .assignment);
+      pub walked-node : Node g ss counts way (length ss)
+      walked-node = first .node
+
+      parts : all ≡ (w .done ++ (way ∷ [])) ++ after g ss counts way (length ss)
+      parts = w .split ∙ ap (λ (r : List (List ℕ)). w .done ++ r) (first .all) ∙ sym (append-snoc (w .done) way (after g ss counts way (length ss)))
+
+      -- the way is one of all
+      pub walked-member : Member way all
+      walked-member = subst (Member way) (sym (w .split ∙ ap (λ (r : List (List ℕ)). w .done ++ r) (first .all))) (Memᴰ·append-right (w .done) (here refl))
+
+      one-more : (p : List ℕ → Bool) {n r : ℕ} → n ≡ countIf p (w .done) → r ≡ cond (p way) 1 0 → n + r ≡ countIf p (w .done ++ (way ∷ []))
+      one-more p en er = omega (arith, en, er, countIf-append p (w .done) (way ∷ []), count-one p way)
+
+      module _ {r : Hits} (er : r ≡ hitsOf observed (found way)) where
+        at-location : r .location ≡ cond (locationHit observed (found way)) 1 0
+        unfolding hitsOf
+        at-location = ap (λ (h : Hits). h .location) er
+
+        at-dispersion : r .dispersion ≡ cond (dispersionHit observed (found way)) 1 0
+        unfolding hitsOf
+        at-dispersion = ap (λ (h : Hits). h .dispersion) er
+
+        at-assignment : r .assignment ≡ cond (assignmentHit observed (found way)) 1 0
+        unfolding hitsOf
+        at-assignment = ap (λ (h : Hits). h .assignment) er
+
+        -- the way is judged
+        pub walked-more : {more′ : Bool} {counts′ way′ : List ℕ} {l′ d′ s′ : ℕ} → NextWay more′ g ss counts′ way′ (after g ss counts way (length ss))
+            → l′ ≡ l + r .location → d′ ≡ d + r .dispersion → s′ ≡ s + r .assignment → Walked observed found all g ss counts′ way′ more′ l′ d′ s′
+        walked-more n el ed es = record {
+          done = w .done ++ (way ∷ []);
+          rest = after g ss counts way (length ss);
+          split = parts;
+          next = n;
+          location = el ∙ one-more (λ way. locationHit observed (found way)) (w .location) at-location;
+          dispersion = ed ∙ one-more (λ way. dispersionHit observed (found way)) (w .dispersion) at-dispersion;
+          assignment = es ∙ one-more (λ way. assignmentHit observed (found way)) (w .assignment) at-assignment;
         }
 
         -- no sum is past the number of ways
-        pub counts-fit : (most : ℕ) → length (onward g ss counts₀ k) < most → (l + r .location < most) × (d + r .dispersion < most) × (s + r .assignment < most)
-        counts-fit most few = (
-          placed-fits t less some _ most few (e .location) (h .location),
-          placed-fits t less some _ most few (e .dispersion) (h .dispersion),
-          placed-fits t less some _ most few (e .assignment) (h .assignment),
+        below : (p : List ℕ → Bool) (most : ℕ) → length all < most → {n : ℕ} → n ≡ countIf p (w .done ++ (way ∷ [])) → n < most
+        below p most few en = omega (arith, en, countIf-below p (w .done ++ (way ∷ [])), ap length parts, length-append (w .done ++ (way ∷ [])) (after g ss counts way (length ss)))
+
+        pub walked-fits : (most : ℕ) → length all < most → (l + r .location < most) × (d + r .dispersion < most) × (s + r .assignment < most)
+        walked-fits most few = (
+          below (λ way. locationHit observed (found way)) most few (one-more (λ way. locationHit observed (found way)) (w .location) at-location),
+          below (λ way. dispersionHit observed (found way)) most few (one-more (λ way. dispersionHit observed (found way)) (w .dispersion) at-dispersion),
+          below (λ way. assignmentHit observed (found way)) most few (one-more (λ way. assignmentHit observed (found way)) (w .assignment) at-assignment),
         )
+
+-- with each way one fewer remains
+pub fewer : (more′ : Bool) {more : Bool} (g : ℕ) (ss counts way counts′ way′ : List ℕ) → more ≡ true → NextWay more′ g ss counts′ way′ (after g ss counts way (length ss))
+    → remaining more′ g ss counts′ way′ < remaining more g ss counts way
+unfolding remaining NextWay
+fewer true g ss counts way counts′ way′ e n = subst (λ (b : Bool). remaining true g ss counts′ way′ < remaining b g ss counts way) (sym e) (omega (arith, ap length (n .all)))
+fewer false g ss counts way counts′ way′ e n = subst (λ (b : Bool). 0 < remaining b g ss counts way) (sym e) (omega arith)
 
 -- ---- what is asked
 
-module _ {f : Frame} {ss counts₀ way₀ : List ℕ} {k : ℕ} {t p w x : List Float} {ks : List ℕ} {scores₀ : ℕ} (a : Walking f ss counts₀ way₀ k t p w x ks scores₀) where
-  -- a way whose labels are all placed can be judged
-  pub leaf-judged : k ≡ length ss → Prepared f (length ss) t p w x ks scores₀ × Judged (f .n) (length ss) (f .groups) ks way₀
-  leaf-judged full = (a .prepared, ahead-leaf _ _ _ _ _ _ full (a .sized) (a .ahead))
+-- from the first sample, the first of all ways
+pub first-ways : (g : ℕ) (ss counts way : List ℕ) {counts′ way′ : List ℕ} → First g ss counts′ way′ (through g ss counts (front way 0) 0 ++ after g ss counts way 0)
+    → First g ss counts′ way′ (onward g ss counts 0)
+first-ways g ss counts way {counts′} {way′} f = subst (First g ss counts′ way′) (through-start g ss counts way) f
 
-  -- with the label j placed, the walk can go on
-  pub walking-on : {counts way : List ℕ} {j scores : ℕ} → Turn (f .groups) ss k counts₀ way₀ counts way j → j < f .groups → 0 < getD counts (place (f .groups) ss k j) 0 → scores ≡ scores₀
-      → Walking f ss (taken counts (place (f .groups) ss k j)) (set way k j) (k + 1) t p w x ks scores
-  walking-on turn less some e = record {
-    prepared = subst (Prepared f (length ss) t p w x ks) (sym e) (a .prepared);
-    within = omega (arith, turn .more);
-    sized = placed-sized turn less some;
-    rows = placed-rows turn less some;
-    few = placed-few turn less some (2 ^ 64) (a .few);
-    ahead = placed-ahead turn less some (Judged (f .n) (length ss) (f .groups) ks) (a .ahead);
-  }
+module _ {f : Frame} {ss counts₀ way₀ : List ℕ} {t p w x : List Float} {ks : List ℕ} {scores₀ : ℕ} (a : Walking f ss counts₀ way₀ t p w x ks scores₀) {all : List (List ℕ)}
+    (e : onward (f .groups) ss counts₀ 0 ≡ all) where
+  -- they are few, and each of them can be judged
+  pub few-ways : length all < 2 ^ 64
+  few-ways = subst (λ (ways : List (List ℕ)). length ways < 2 ^ 64) e (a .few)
+
+  pub judgeable : {scores : ℕ} → scores ≡ scores₀ → {way : List ℕ} → Member way all → Prepared f (length ss) t p w x ks scores × Judged (f .n) (length ss) (f .groups) ks way
+  judgeable es {way} m = (subst (Prepared f (length ss) t p w x ks) (sym es) (a .prepared), a .judged way (subst (Member way) (sym e) m))

@@ -1,4 +1,4 @@
--- Hits by cases, as the code takes them apart. Assumes nothing.
+-- Hits by cases, as the code takes them apart.
 use mathlib.Core.Path.{_≡_}
 use mathlib.Core.Bool.{Bool, false, cond}
 use Prim.Native.Nat.{ℕ}

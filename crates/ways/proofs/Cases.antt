@@ -1,4 +1,4 @@
--- Judged samples of the trade: cases g and i, and the example of section 7, each by its M. Assumes nothing.
+-- Judged samples of the trade: cases g and i, and the example of section 7, each by its M.
 use mathlib.Core.Path.{_≡_, refl}
 use mathlib.Core.Bool.{true, false}
 use mathlib.Core.List.{List, [], _∷_, _++_}

@@ -1,4 +1,4 @@
--- The counts left, in one list: a row of g numbers for each stratum. Assumes nothing.
+-- The counts left, in one list: a row of g numbers for each stratum.
 use mathlib.Core.Path.{_≡_, refl, sym, ap, ap₂, _∙_, subst}
 use mathlib.Core.Logic.{⊎-elim}
 use mathlib.Core.List.{List, [], _∷_, List·Memᴰ as Member, List·Memᴰ·head as here, List·Memᴰ·tail as there, List·Memᴰ·cases-cons as cases-cons, List·Memᴰ·not-nil as not-nil}
@@ -117,7 +117,7 @@ row-of g (x ∷ ss) counts s rows m = ⊎-elim
     (cases-cons m)
 
 -- the rows at the start hold the counts
-left-tallies : (g : ℕ) (ss labels counts : List ℕ) → HasRows g ss counts → (s j : ℕ) → j < g → leftIn g (tallies g ss labels (length counts)) s j ≡ tally ss labels s j
+pub left-tallies : (g : ℕ) (ss labels counts : List ℕ) → HasRows g ss counts → (s j : ℕ) → j < g → leftIn g (tallies g ss labels (length counts)) s j ≡ tally ss labels s j
 unfolding leftIn
 left-tallies g ss labels counts rows s j h = elim (decLt (s * g + j) (length counts)) [
   | yes b ↦

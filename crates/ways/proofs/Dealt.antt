@@ -1,4 +1,4 @@
--- What `deal` lists, over plain lists of strata and labels: the ways, each once, and how many there are. Assumes nothing.
+-- What `deal` lists, over plain lists of strata and labels: the ways, each once, and how many there are.
 use mathlib.Core.Path.{_≡_, refl, sym, ap, ap₂, _∙_}
 use mathlib.Core.Bool.{Bool, true, false, cond}
 use mathlib.Core.Logic.{⊎-elim}
@@ -17,6 +17,7 @@ use Rattle.lists.proofs.Ranges.{rows-ext}
 use Rattle.lot.specs.Way.{δ, mark, tally}
 use Rattle.ways.specs.Ways.{spend, deal}
 use Rattle.ways.specs.Every.{Distinct}
+use Rattle.ways.specs.Order.{Balanced}
 use Rattle.lists.proofs.Members.{map-cong, member-upFrom, upFrom-member, member-rows, rows-member}
 use Rattle.lists.proofs.Tallies.{addUp-add, addUp-mul, addUp-zeros, addUp-term, multiply-ones, multiply-pos, factorial-pos, factorial-less, length-rows-sum}
 use Rattle.ways.proofs.Distinct.{distinct-rows, distinct-map, distinct-upFrom, addUp-δ, multiply-scale}
@@ -91,18 +92,25 @@ deal-distinct g (s ∷ ss) c = distinct-rows g (branch g s ss c)
     (λ j. if-distinct (ltb 0 (c s j)) _ (distinct-map (λ way. j ∷ way) (λ x y e. tail-eq-of-cons-eq e) (deal g ss (spend c s j)) (deal-distinct g ss (spend c s j))))
     (λ i j way p q. head-eq-of-cons-eq (branch-out g s ss c i way p .1 .2 ∙ sym (branch-out g s ss c j way q .1 .2)))
 
--- ---- the counts are what the strata hold: for each stratum as many labels are left as it has samples
+-- ---- the counts are what the strata hold
 
-unfoldable pub Balanced : ℕ → List ℕ → (ℕ → ℕ → ℕ) → Type 0
-Balanced g ss c = (s : ℕ) → addUp (table g (c s)) ≡ howMany s ss
-
-balanced-spend : (g s₀ j₀ : ℕ) (ss : List ℕ) (c : ℕ → ℕ → ℕ) → j₀ < g → 0 < c s₀ j₀ → Balanced g (s₀ ∷ ss) c → Balanced g ss (spend c s₀ j₀)
-unfolding Balanced spend table
-balanced-spend g s₀ j₀ ss c hj hc b s =
+-- a label placed takes one of both
+spend-both : (g s₀ j₀ : ℕ) (ss : List ℕ) (c : ℕ → ℕ → ℕ) → j₀ < g → 0 < c s₀ j₀ → (s : ℕ) → addUp (table g (c s)) ≡ addUp (table g (spend c s₀ j₀ s)) + δ s s₀
+unfolding spend table
+spend-both g s₀ j₀ ss c hj hc s =
     let less : ℕ → ℕ = λ j. c s j - mark s₀ j₀ s j in
     let whole : addUp (map (λ j. less j + mark s₀ j₀ s j) (upFrom 0 g)) ≡ addUp (map (c s) (upFrom 0 g))
     = ap addUp (map-cong _ (c s) (upFrom 0 g) (λ j _. omega (arith, mark-le c s₀ j₀ s j hc))) in
-    omega (arith, whole, addUp-add less (mark s₀ j₀ s) (upFrom 0 g), addUp-mark g s₀ j₀ s hj, b s, howMany-cons s s₀ ss)
+    omega (arith, whole, addUp-add less (mark s₀ j₀ s) (upFrom 0 g), addUp-mark g s₀ j₀ s hj)
+
+module _ (g s₀ j₀ : ℕ) (ss : List ℕ) (c : ℕ → ℕ → ℕ) (hj : j₀ < g) (hc : 0 < c s₀ j₀) where
+  pub balanced-spend : Balanced g (s₀ ∷ ss) c → Balanced g ss (spend c s₀ j₀)
+  unfolding Balanced
+  balanced-spend b s = omega (arith, spend-both g s₀ j₀ ss c hj hc s, b s, howMany-cons s s₀ ss)
+
+  pub balanced-unspend : Balanced g ss (spend c s₀ j₀) → Balanced g (s₀ ∷ ss) c
+  unfolding Balanced
+  balanced-unspend b s = omega (arith, spend-both g s₀ j₀ ss c hj hc s, b s, howMany-cons s s₀ ss)
 
 pub balanced-tally : (g : ℕ) (ss labels : List ℕ) → length labels ≡ length ss → Below g labels → Balanced g ss (tally ss labels)
 unfolding Balanced tally table howMany countIf

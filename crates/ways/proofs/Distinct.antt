@@ -1,4 +1,4 @@
--- Lists of which no member stands at two places: how they are made, and sums, products and counts over them. Assumes nothing.
+-- Lists of which no member stands at two places: how they are made, and sums, products and counts over them.
 use mathlib.Core.Path.{_≡_, refl, sym, ap, ap₂, _∙_}
 use mathlib.Core.Bool.{Bool, cond}
 use mathlib.Core.Logic.{⊎-elim}

@@ -1,5 +1,5 @@
 -- The ways of labels within strata: every one, nothing else, none twice, and M of them. They are the same list for each of the ways, and any other order
--- gives the same counts. Over plain lists, then for a lot. Assumes nothing.
+-- gives the same counts. Over plain lists, then for a lot.
 use mathlib.Core.Path.{_≡_, refl, sym, ap, ap₂, _∙_}
 use mathlib.Core.Bool.{Bool}
 use mathlib.Core.Logic.{⊎-elim}

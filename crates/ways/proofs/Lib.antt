@@ -4,5 +4,5 @@ pub mod Dealt
 pub mod Every
 pub mod Number
 pub mod Counts
-pub mod Turns
+pub mod Order
 pub mod Cases

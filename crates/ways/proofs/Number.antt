@@ -1,4 +1,4 @@
--- M, sample by sample from the last. Assumes nothing.
+-- M, sample by sample from the last.
 use mathlib.Core.Path.{_≡_, refl, sym, ap, ap₂, _∙_}
 use mathlib.Core.List.{List, [], _∷_, List·Memᴰ·head as here, List·Memᴰ·tail as there}
 use mathlib.Core.Logic.{⊎-elim}

@@ -2,3 +2,4 @@
 pub mod Ways
 pub mod Every
 pub mod Onward
+pub mod Order

@@ -1,5 +1,4 @@
 -- `allocation::conclude` meets its contract. By the test for a NaN.
--- Assumes nothing.
 use mathlib.Core.Path.{refl, sym, ap, _∙_}
 use mathlib.Core.List.{List}
 use Prim.Native.Nat.{_*_}

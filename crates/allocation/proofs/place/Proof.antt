@@ -1,5 +1,4 @@
 -- `allocation::place` meets its contract. Directions, scores, groups.
--- Assumes nothing.
 use mathlib.Core.Path.{sym, ap, _∙_}
 use mathlib.Core.List.{List}
 use Prim.Native.Nat.{ℕ, _*_}

@@ -1,5 +1,4 @@
 -- `allocation::write_scores` meets its contract. The output is filled in two parts, each lent by itself.
--- Assumes nothing.
 use mathlib.Core.Path.{sym, _∙_}
 use Prim.Native.Nat.{_*_, _≤_}
 use native.Mathlib.Omega.{arith}

@@ -1,5 +1,4 @@
 -- `anova::anova_about` meets its contract. The parts are the groups, so the means are theirs.
--- Assumes nothing.
 
 use mathlib.Core.Path.{sym, ap, ap₂, _∙_}
 use mathlib.Core.List.{List}

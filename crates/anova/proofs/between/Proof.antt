@@ -1,5 +1,4 @@
 -- `anova::between` meets its contract. The shares from k on, added to s, are always the whole sum.
--- Assumes nothing.
 
 use mathlib.Core.Path.{_≡_, refl, sym, ap, _∙_}
 use mathlib.Core.List.{List, map}

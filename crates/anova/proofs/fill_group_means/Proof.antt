@@ -1,5 +1,4 @@
 -- `anova::fill_group_means` meets its contract. After k turns the first k entries are written.
--- Assumes nothing.
 
 use mathlib.Core.Path.{ap, _∙_}
 use Prim.Native.Nat.{_-_, _≤_}

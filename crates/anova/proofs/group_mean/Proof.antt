@@ -1,5 +1,4 @@
 -- `anova::group_mean` meets its contract. The sum from 0.0, divided by the count or 1.
--- Assumes nothing.
 use Prim.Native.Nat.{_-_}
 use native.Mathlib.Omega.{arith}
 use borrow.Author.Needs.{needs}

@@ -1,5 +1,4 @@
 -- `anova::mean_of` meets its contract. The sum from -0.0, divided by the count.
--- Assumes nothing.
 use Prim.Native.Nat.{_-_}
 use borrow.Author.Needs.{needs}
 use Rattle.anova.specs.Anova.{meanOf}

@@ -1,5 +1,4 @@
 -- `anova::quotient` meets its contract. The count is at most 2 ^ 53, so it is an f64.
--- Assumes nothing.
 use Prim.Native.Nat.{_-_, _^_}
 use native.Mathlib.Omega.{arith}
 use borrow.Author.Needs.{needs}

@@ -1,5 +1,4 @@
 -- `anova::residual` meets its contract. The residuals from k on, added to s, are always the whole sum.
--- Assumes nothing.
 use mathlib.Core.Path.{_≡_, refl, sym}
 use mathlib.Core.List.{map}
 use Prim.Native.Nat.{_-_}

@@ -1,5 +1,4 @@
 -- `anova::residual_at` meets its contract. The group of k is below the number of means.
--- Assumes nothing.
 use Prim.Native.Nat.{_-_}
 use native.Mathlib.Omega.{arith}
 use borrow.Author.Needs.{needs}

@@ -1,5 +1,4 @@
 -- `anova::share` meets its contract. The count is at most 2 ^ 53, so it is an f64.
--- Assumes nothing.
 use mathlib.Core.Path.{refl}
 use Prim.Native.Nat.{_-_, _^_}
 use native.Mathlib.Omega.{arith}

@@ -1,4 +1,4 @@
--- `bitsets::clear` meets its contract: after i turns the first i words are zero. Assumes nothing.
+-- `bitsets::clear` meets its contract: after i turns the first i words are zero.
 use mathlib.Core.Path.{refl}
 use Prim.Native.Nat.{_-_}
 use native.Mathlib.Omega.{arith}

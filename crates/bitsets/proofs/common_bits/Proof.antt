@@ -1,4 +1,4 @@
--- `bitsets::common_bits` meets its contract: what is left, and s, make up the whole. Assumes nothing.
+-- `bitsets::common_bits` meets its contract: what is left, and s, make up the whole.
 use mathlib.Core.Path.{_≡_}
 use Prim.Native.Nat.{_+_, _-_, _*_, _≤_}
 use native.Mathlib.Omega.{arith}

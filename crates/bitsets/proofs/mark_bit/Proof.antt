@@ -1,4 +1,4 @@
--- `bitsets::mark_bit` meets its contract: the shift loses nothing. Assumes nothing.
+-- `bitsets::mark_bit` meets its contract: the shift loses nothing.
 use Prim.Native.Nat.{_%_, _^_}
 use native.Mathlib.Nat.{one-mul}
 use native.Mathlib.Omega.{arith}

@@ -1,4 +1,4 @@
--- `block::block_step` meets its contract. The shift added to the product held, Gram-Schmidt, and the product anew. Assumes nothing.
+-- `block::block_step` meets its contract. The shift added to the product held, Gram-Schmidt, and the product anew.
 use mathlib.Core.Path.{ap, _∙_}
 use mathlib.Core.List.{List}
 use borrow.Author.Needs.{needs}

@@ -1,4 +1,4 @@
--- `block::iterate` meets its contract. After t rounds, what is left to do from here gives what was to be done at the start. Assumes nothing.
+-- `block::iterate` meets its contract. After t rounds, what is left to do from here gives what was to be done at the start.
 use mathlib.Core.Path.{_≡_, refl, sym, ap, _∙_}
 use mathlib.Core.List.{List}
 use Prim.Native.Nat.{ℕ, _-_}

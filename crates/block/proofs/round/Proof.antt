@@ -1,4 +1,4 @@
--- `block::round` meets its contract. A step, and its Ritz values by the product held. Assumes nothing.
+-- `block::round` meets its contract. A step, and its Ritz values by the product held.
 use mathlib.Core.Path.{ap, _∙_}
 use Prim.Native.Nat.{_*_, _≤_}
 use native.Mathlib.Nat.{mul-le-mul-right}

@@ -1,4 +1,4 @@
--- `block::settle` meets its contract. The invariant: j Ritz values are found and held against those before. Assumes nothing.
+-- `block::settle` meets its contract. The invariant: j Ritz values are found and held against those before.
 use Prim.Native.Nat.{ℕ, _-_}
 use native.Mathlib.Omega.{arith}
 use borrow.Author.Needs.{needs}

@@ -1,4 +1,4 @@
--- `block::settled_too` meets its contract. Where s holds, one comparison. Assumes nothing.
+-- `block::settled_too` meets its contract. Where s holds, one comparison.
 use mathlib.Core.Path.{_≡_, ap, ap₂, _∙_}
 use mathlib.Core.Bool.{true, _&&_, Bool}
 use borrow.Author.Needs.{needs}

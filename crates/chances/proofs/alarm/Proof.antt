@@ -1,5 +1,4 @@
 -- `chances::alarm` meets its contract. By the tests in order.
--- Assumes nothing.
 
 use Prim.Native.Nat.{_-_}
 use borrow.Author.Needs.{needs}

@@ -1,5 +1,4 @@
 -- `chances::chance_of` meets its contract. By cases of the statistic.
--- Assumes nothing.
 
 use Prim.Native.Nat.{_+_, _-_, _^_}
 use native.Mathlib.Omega.{arith}

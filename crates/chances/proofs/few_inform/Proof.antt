@@ -1,5 +1,4 @@
 -- `chances::few_inform` meets its contract. By whether the fraction is below 0.5.
--- Assumes nothing.
 
 use Prim.Native.Nat.{_-_}
 use Rattle.chances.proofs.few_inform.Statement.{statement}

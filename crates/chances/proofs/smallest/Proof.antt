@@ -1,5 +1,4 @@
 -- `chances::smallest` meets its contract. From the last down.
--- Assumes nothing.
 
 use mathlib.Core.Path.{_≡_, _∙_}
 use Prim.Native.Nat.{_-_, _≤_, min}

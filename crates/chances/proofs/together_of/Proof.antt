@@ -1,5 +1,4 @@
 -- `chances::together_of` meets its contract. By cases of both p.
--- Assumes nothing.
 
 use Prim.Native.Nat.{_-_}
 use borrow.Author.Needs.{needs}

@@ -1,5 +1,4 @@
 -- `chances::uninformed` meets its contract. By whether strata are given.
--- Assumes nothing.
 
 use Prim.Native.Nat.{_-_}
 use Rattle.chances.proofs.uninformed.Statement.{statement}

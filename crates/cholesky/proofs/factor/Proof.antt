@@ -1,5 +1,4 @@
 -- `cholesky::factor` meets its contract. After i turns the first i rows stand there, and their pivots are tested.
--- Assumes nothing.
 use mathlib.Core.Path.{sym, ap, subst, _∙_}
 use mathlib.Core.Logic.{⊎-elim}
 use mathlib.Core.Bool.{Bool}

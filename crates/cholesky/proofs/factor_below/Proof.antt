@@ -1,5 +1,4 @@
 -- `cholesky::factor_below` meets its contract. After j turns the first j entries of the row stand there.
--- Assumes nothing.
 use mathlib.Core.Path.{_≡_, refl, ap₂, _∙_}
 use Prim.Native.Nat.{_+_, _*_, _-_, _≤_}
 use native.Mathlib.Omega.{arith}

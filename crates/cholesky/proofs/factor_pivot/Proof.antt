@@ -1,5 +1,4 @@
 -- `cholesky::factor_pivot` meets its contract. One store, of the root.
--- Assumes nothing.
 use mathlib.Core.Path.{refl, ap, _∙_}
 use Prim.Native.Nat.{_+_, _*_, _-_}
 use native.Mathlib.Omega.{arith}

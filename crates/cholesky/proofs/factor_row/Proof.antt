@@ -1,5 +1,4 @@
 -- `cholesky::factor_row` meets its contract. The pivot is the same before and after its root is put down.
--- Assumes nothing.
 use mathlib.Core.Path.{sym, ap, _∙_}
 use mathlib.Core.List.{List}
 use Prim.Native.Nat.{_-_}

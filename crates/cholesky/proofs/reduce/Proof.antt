@@ -1,5 +1,4 @@
 -- `cholesky::reduce` meets its contract. After k turns the first k products are taken off.
--- Assumes nothing.
 use mathlib.Core.Path.{_≡_, ap₂, _∙_}
 use Prim.Native.Nat.{_-_, _≤_}
 use native.Mathlib.Omega.{arith}

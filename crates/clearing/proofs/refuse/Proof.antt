@@ -1,5 +1,4 @@
 -- `clearing::refuse` meets its contract. The fronts of the outputs and all work are cleared.
--- Assumes nothing.
 use mathlib.Core.Path.{sym}
 use Prim.Native.Nat.{_-_}
 use borrow.Author.Needs.{needs}

@@ -1,4 +1,4 @@
--- `columns::entry` meets its contract: the parts that are lent are the rows, and a count of at most 4,096 is an f64. Assumes nothing.
+-- `columns::entry` meets its contract: the parts that are lent are the rows, and a count of at most 4,096 is an f64.
 use mathlib.Core.Path.{sym, ap, ap₂, _∙_}
 use Prim.Native.Nat.{ℕ, _^_}
 use native.Mathlib.Omega.{arith}

@@ -1,4 +1,4 @@
--- `columns::fill` meets its contract: after i turns the first i rows are written. Assumes nothing.
+-- `columns::fill` meets its contract: after i turns the first i rows are written.
 use mathlib.Core.Path.{_≡_, refl, sym, ap, _∙_, subst}
 use Prim.Native.Nat.{ℕ, _+_, _-_, _*_, _≤_}
 use native.Mathlib.Omega.{arith}

@@ -1,4 +1,4 @@
--- `columns::fill_row` meets its contract: after the turn at j the entries from i to j are written. Assumes nothing.
+-- `columns::fill_row` meets its contract: after the turn at j the entries from i to j are written.
 use mathlib.Core.Path.{_≡_, refl, _∙_}
 use mathlib.Core.List.{map, _++_}
 use Prim.Native.Nat.{_-_, _≤_}

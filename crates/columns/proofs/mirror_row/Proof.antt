@@ -1,4 +1,4 @@
--- `columns::mirror_row` meets its contract: the loop is the one that the contract names. Assumes nothing.
+-- `columns::mirror_row` meets its contract: the loop is the one that the contract names.
 use mathlib.Core.Path.{_≡_, refl, ap, _∙_}
 use mathlib.Core.List.{List}
 use Prim.Native.Nat.{ℕ, _+_, _-_, _*_, _<_, _≤_}

@@ -1,4 +1,4 @@
--- `columns::square_sum` meets its contract: the squares that are left, added to s, give the whole sum. Assumes nothing.
+-- `columns::square_sum` meets its contract: the squares that are left, added to s, give the whole sum.
 use mathlib.Core.Path.{_≡_, refl}
 use mathlib.Core.List.{map}
 use Prim.Native.Nat.{_-_}

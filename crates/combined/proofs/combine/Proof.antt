@@ -1,4 +1,4 @@
--- `combined::combine` meets its contract. After j turns the first j rows are written. Assumes nothing.
+-- `combined::combine` meets its contract. After j turns the first j rows are written.
 use Prim.Native.Nat.{_+_, _*_, _-_, _≤_}
 use native.Mathlib.Omega.{arith}
 use lib.ListN.{length}

@@ -1,4 +1,4 @@
--- `combined::combine_at` meets its contract. With the products from column c on, s is the whole sum. Assumes nothing.
+-- `combined::combine_at` meets its contract. With the products from column c on, s is the whole sum.
 use mathlib.Core.Path.{_≡_, refl, sym}
 use mathlib.Core.List.{map}
 use Prim.Native.Nat.{_+_, _*_, _-_, _≤_, _<_}

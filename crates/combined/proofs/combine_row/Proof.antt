@@ -1,4 +1,4 @@
--- `combined::combine_row` meets its contract. After i turns the first i entries are written. Assumes nothing.
+-- `combined::combine_row` meets its contract. After i turns the first i entries are written.
 use Prim.Native.Nat.{_-_}
 use native.Mathlib.Omega.{arith}
 use Rattle.lists.proofs.Writes.{Writing, writing-none, writing-next, writing-table}

@@ -1,4 +1,4 @@
--- `combined::turn_back` meets its contract. The output is filled in two parts, each lent by itself. Assumes nothing.
+-- `combined::turn_back` meets its contract. The output is filled in two parts, each lent by itself.
 use mathlib.Core.Path.{sym, ap, ap₂, _∙_}
 use mathlib.Core.List.{List, _++_}
 use native.Mathlib.Omega.{arith}

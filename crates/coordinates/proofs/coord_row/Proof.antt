@@ -1,5 +1,4 @@
 -- `coordinates::coord_row` meets its contract. After c turns the first c components stand there.
--- Assumes nothing.
 use mathlib.Core.Path.{refl}
 use Prim.Native.Nat.{_-_}
 use native.Mathlib.Omega.{arith}

@@ -1,5 +1,4 @@
 -- `coordinates::describe` meets its contract. The output is filled in two parts, each lent by itself.
--- Assumes nothing.
 use mathlib.Core.Path.{sym, ap₂, _∙_}
 use mathlib.Core.List.{List, _++_}
 use native.Mathlib.Omega.{arith}

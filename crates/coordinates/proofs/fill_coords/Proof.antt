@@ -1,5 +1,4 @@
 -- `coordinates::fill_coords` meets its contract. After i turns the first i samples stand there.
--- Assumes nothing.
 use mathlib.Core.Path.{sym, ap, _∙_}
 use Prim.Native.Nat.{ℕ, _*_, _-_}
 use native.Mathlib.Omega.{arith}

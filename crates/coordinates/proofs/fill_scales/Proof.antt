@@ -1,5 +1,4 @@
 -- `coordinates::fill_scales` meets its contract. After c turns the first c scales stand there.
--- Assumes nothing.
 use mathlib.Core.Path.{sym, _∙_}
 use Prim.Native.Nat.{_-_}
 use native.Mathlib.Omega.{arith}

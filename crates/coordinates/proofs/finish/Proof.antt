@@ -1,5 +1,4 @@
 -- `coordinates::finish` meets its contract. Signs and scales have room of their own.
--- Assumes nothing.
 use mathlib.Core.Path.{sym}
 use Prim.Native.Nat.{_-_}
 use native.Mathlib.Omega.{arith}

@@ -1,5 +1,4 @@
 -- `coordinates::finish_in` meets its contract. The output is filled in two parts, each lent by itself.
--- Assumes nothing.
 use mathlib.Core.Path.{sym, ap, _∙_}
 use Prim.Native.Nat.{_+_}
 use native.Mathlib.Omega.{arith}

@@ -1,5 +1,4 @@
 -- `coordinates::place` meets its contract. Signs and scales first.
--- Assumes nothing.
 use mathlib.Core.Path.{sym, ap, _∙_}
 use Prim.Native.Nat.{ℕ, _*_, _-_}
 use borrow.Author.Needs.{needs}

@@ -1,5 +1,4 @@
 -- `coordinates::scale_of` meets its contract. Two calls.
--- Assumes nothing.
 use mathlib.Core.Path.{ap, _∙_}
 use Prim.Native.Nat.{_-_}
 use borrow.Author.Needs.{needs}

@@ -1,5 +1,4 @@
 -- `coordinates::share_of` meets its contract. By the sign of the total.
--- Assumes nothing.
 use mathlib.Core.Path.{refl, ap}
 use Prim.Native.Nat.{_-_}
 use borrow.Author.Needs.{needs}

@@ -1,5 +1,4 @@
 -- `dapc::assess` meets its contract. The design's groups on its samples are ready for the scores.
--- Assumes nothing.
 use mathlib.Core.Path.{_≡_, sym, subst, _∙_}
 use mathlib.Core.List.{List, _++_}
 use Prim.Native.Nat.{ℕ, _≤_}

@@ -1,7 +1,6 @@
 -- `dapc::judge` meets its contract. By whether line 5 or 9 holds of the design.
--- Assumes nothing.
-use mathlib.Core.Path.{sym, _∙_}
 use borrow.Author.Needs.{needs}
+use Rattle.outcome.proofs.Table.{told-passed, told-refused}
 use Rattle.dapc.proofs.Whole.{scorable, groups-scored, groups-refused-by}
 use Rattle.dapc.proofs.judge.Statement.{statement}
 use Rattle.dapc.proofs.judge.Tie as tie
@@ -17,14 +16,15 @@ assess-requires c κs =
     let told = c .before .before in
     let checked = told .before .before in
     let s = start (designed checked) in
-    scorable (s .args .columns) (s .args .x .now) (s .args .labels .now) (designed checked .design-of .ensures) (s .pre) (sym (told .enum-told .given .1) ∙ checked .check-groups .ensures)
+    scorable (s .args .columns) (s .args .x .now) (s .args .labels .now) (designed checked .design-of .ensures) (s .pre)
+    (told-passed (checked .check-groups .ensures) (told .enum-told .given .1))
 
 returns : tie.Need-returns
 returns c =
     let checked = c .before .before .before in
     let s = start (designed checked) in
     groups-refused-by (s .args .columns) (s .args .x .now) (s .args .labels .now) (designed checked .design-of .ensures) (s .args .out .now) (s .args .assigned .now)
-    (sym (c .before .c .given .1) ∙ checked .check-groups .ensures)
+    (told-refused (checked .check-groups .ensures) (c .before .c .given .1))
 
 returns-2 : tie.Need-returns-2
 returns-2 c =
@@ -33,7 +33,7 @@ returns-2 c =
     let checked = told .before .before in
     let s = start (designed checked) in
     groups-scored (s .args .columns) (s .args .x .now) (s .args .labels .now) (designed checked .design-of .ensures) (s .args .out .now) (s .args .assigned .now) (s .pre .few)
-    (sym (told .enum-told .given .1) ∙ checked .check-groups .ensures) (assessed .assess .ensures)
+    (told-passed (checked .check-groups .ensures) (told .enum-told .given .1)) (assessed .assess .ensures)
 
 pub judge-spec : {M : Type 1} → statement M
 judge-spec =

@@ -1,5 +1,4 @@
 -- `dapc_lines::check` meets its contract. The lines go by their numbers.
--- Assumes nothing.
 
 use mathlib.Core.Path.{sym, _∙_}
 use Prim.Native.Nat.{_-_}

@@ -1,5 +1,4 @@
 -- `dapc_lines::check_groups` meets its contract. The lines go by their numbers.
--- Assumes nothing.
 
 use mathlib.Core.Path.{sym, ap, _∙_}
 use Prim.Native.Nat.{ℕ, _-_}

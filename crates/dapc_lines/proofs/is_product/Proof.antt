@@ -1,5 +1,4 @@
 -- `dapc_lines::is_product` meets its contract. The product is made only where it is at most the length.
--- Assumes nothing.
 
 use mathlib.Core.Path.{refl}
 use Prim.Native.Nat.{_-_}

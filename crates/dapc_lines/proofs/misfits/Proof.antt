@@ -1,5 +1,4 @@
 -- `dapc_lines::misfits` meets its contract. Test by test.
--- Assumes nothing.
 
 use mathlib.Core.Path.{sym, _∙_}
 use Prim.Native.Nat.{_-_}

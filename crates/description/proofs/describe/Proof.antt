@@ -1,4 +1,4 @@
--- `lot::describe` meets its contract. The samples are grouped, and then the kept ones stratified. Assumes nothing.
+-- `description::describe` meets its contract. The samples are grouped, and then the kept ones stratified.
 use mathlib.Core.Path.{ap}
 use Prim.Native.Nat.{_-_}
 use native.Mathlib.Omega.{arith}

@@ -1,5 +1,4 @@
 -- `designs::design_of` meets its contract. The lot is described, and its arrays are the design's.
--- Assumes nothing.
 use mathlib.Core.Path.{refl, sym, _∙_}
 use Prim.Native.Nat.{_≤_}
 use native.Mathlib.Omega.{arith}

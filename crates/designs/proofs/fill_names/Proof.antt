@@ -1,5 +1,4 @@
 -- `designs::fill_names` meets its contract. The names go over the front.
--- Assumes nothing.
 use mathlib.Core.Path.{_≡_, sym, _∙_}
 use Prim.Native.Nat.{_≤_}
 use native.Mathlib.Omega.{arith}

@@ -1,5 +1,4 @@
 -- `designs::left_out` meets its contract. The samples that are kept, those without a label, and those with one of their own are all.
--- Assumes nothing.
 use native.Mathlib.Omega.{arith}
 use borrow.Author.Needs.{needs}
 use Rattle.designs.proofs.Labels.{apart-few, left-out-few}

@@ -1,4 +1,4 @@
--- `diagonal::diagonalise` meets its contract. The sweeps begin at a and the identity. Assumes nothing.
+-- `diagonal::diagonalise` meets its contract. The sweeps begin at a and the identity.
 use mathlib.Core.Path.{ap, ap₂, _∙_}
 use borrow.Author.Needs.{needs}
 use Rattle.rotation.specs.Rotation.{turned}

@@ -1,4 +1,4 @@
--- `diagonal::fill_identity` meets its contract. After i turns the first i rows are those of the identity. Assumes nothing.
+-- `diagonal::fill_identity` meets its contract. After i turns the first i rows are those of the identity.
 use mathlib.Core.Path.{_≡_, refl, ap, _∙_}
 use Prim.Native.Nat.{ℕ, _+_, _*_, _-_, _≤_}
 use native.Mathlib.Omega.{arith}

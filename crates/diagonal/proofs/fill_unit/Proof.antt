@@ -1,4 +1,4 @@
--- `diagonal::fill_unit` meets its contract. Zeros, and a 1 at place i. Assumes nothing.
+-- `diagonal::fill_unit` meets its contract. Zeros, and a 1 at place i.
 use borrow.Author.Needs.{needs}
 use lib.ListN.{length}
 use Rattle.lists.specs.Writes.{cleared}

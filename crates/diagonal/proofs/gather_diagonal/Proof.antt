@@ -1,4 +1,4 @@
--- `diagonal::gather_diagonal` meets its contract. After i turns the first i entries are written. Assumes nothing.
+-- `diagonal::gather_diagonal` meets its contract. After i turns the first i entries are written.
 use mathlib.Core.Path.{refl, ap, _∙_}
 use Prim.Native.Nat.{ℕ, _+_, _*_, _-_, _≤_}
 use native.Mathlib.Omega.{arith}

@@ -1,4 +1,4 @@
--- `diagonal::off_diagonal` meets its contract. After i turns the first i rows are added. Assumes nothing.
+-- `diagonal::off_diagonal` meets its contract. After i turns the first i rows are added.
 use mathlib.Core.Path.{_≡_, ap, _∙_}
 use mathlib.Core.List.{List}
 use Prim.Native.Nat.{_+_, _*_, _-_, _≤_}

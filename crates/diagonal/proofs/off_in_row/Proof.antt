@@ -1,4 +1,4 @@
--- `diagonal::off_in_row` meets its contract. What is left to add from entry j on gives the whole sum. Assumes nothing.
+-- `diagonal::off_in_row` meets its contract. What is left to add from entry j on gives the whole sum.
 use mathlib.Core.Path.{_≡_, refl, ap}
 use mathlib.Core.Logic.{⊎-elim}
 use mathlib.Core.Bool.{Bool, not}

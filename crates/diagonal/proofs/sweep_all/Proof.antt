@@ -1,4 +1,4 @@
--- `diagonal::sweep_all` meets its contract. What is left to do after the sweeps made gives what was to be done at the start. Assumes nothing.
+-- `diagonal::sweep_all` meets its contract. What is left to do after the sweeps made gives what was to be done at the start.
 use mathlib.Core.Path.{_≡_, refl, sym, ap, _∙_}
 use Prim.Native.Nat.{_-_, _≤_}
 use native.Mathlib.Omega.{arith}

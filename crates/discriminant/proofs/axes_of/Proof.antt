@@ -1,5 +1,4 @@
 -- `discriminant::axes_of` meets its contract. The smaller of two.
--- Assumes nothing.
 
 use mathlib.Core.Path.{sym}
 use Prim.Native.Nat.{_-_}

@@ -1,5 +1,4 @@
 -- `discriminant::leading_of` meets its contract. The smaller of two, the second cut off at 0.
--- Assumes nothing.
 
 use Prim.Native.Nat.{_-_}
 use native.Mathlib.Omega.{arith}

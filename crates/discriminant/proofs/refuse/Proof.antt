@@ -1,11 +1,10 @@
 -- `discriminant::refuse` meets its contract. Both first parts are cleared.
--- Assumes nothing.
-
 use mathlib.Core.Path.{sym}
 use Prim.Native.Nat.{_+_, _*_, _-_}
 use native.Mathlib.Omega.{arith}
 use borrow.Author.Needs.{needs}
 use lib.Seq.{length-take-le}
+use Rattle.outcome.specs.Numbers.{number}
 use Rattle.discriminant.proofs.Outputs.{refused-by}
 use Rattle.discriminant.proofs.refuse.Statement.{statement}
 use Rattle.discriminant.proofs.refuse.Tie as tie
@@ -48,7 +47,8 @@ returns : tie.Need-returns
 returns c =
     let after-clear = c .before .before .before .before .before .before in
     let start = after-clear .before .before .before .before in
-    refused-by (start .args .r) (start .args .axes + start .args .n * start .args .axes) (start .args .n) (start .args .out .now) (start .args .assigned .now) (start .pre .0) (start .pre .1) (after-clear .clear .ensures) (c .before .before .clear-u16 .ensures)
+    refused-by (number (start .args .r)) (start .args .axes + start .args .n * start .args .axes) (start .args .n) (start .args .out .now) (start .args .assigned .now)
+    (start .pre .0) (start .pre .1) (after-clear .clear .ensures) (c .before .before .clear-u16 .ensures)
 
 pub refuse-spec : {M : Type 1} → statement M
 refuse-spec =

@@ -1,5 +1,4 @@
 -- `discriminant::tell` meets its contract. By the test for a NaN.
--- Assumes nothing.
 use mathlib.Core.Path.{refl}
 use borrow.Author.Needs.{needs}
 use Rattle.discriminant.proofs.Outputs.{told-yes, told-no}

@@ -1,5 +1,4 @@
 -- `dispersion::distance_of` meets its contract. The root of the larger of the value and 0.
--- Assumes nothing.
 use Prim.Native.Nat.{_-_, max}
 use borrow.Author.Needs.{needs}
 use Rattle.dispersion.specs.Dispersion.{distanceOf}

@@ -1,5 +1,4 @@
 -- `dispersion::distances` meets its contract. After i turns the first i entries are distances.
--- Assumes nothing.
 use mathlib.Core.Path.{sym, ap, _∙_}
 use Prim.Native.Nat.{_-_}
 use native.Mathlib.Omega.{arith}

@@ -1,5 +1,4 @@
 -- `dispersion::fill_values` meets its contract. After a turns the first a entries are values.
--- Assumes nothing.
 
 use Prim.Native.Nat.{_-_}
 use native.Mathlib.Omega.{arith}

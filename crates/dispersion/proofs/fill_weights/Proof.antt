@@ -1,5 +1,4 @@
 -- `dispersion::fill_weights` meets its contract. After k turns the first k entries are written.
--- Assumes nothing.
 
 use mathlib.Core.Path.{ap, _∙_}
 use Prim.Native.Nat.{_-_, _≤_}

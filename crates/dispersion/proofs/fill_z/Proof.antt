@@ -1,5 +1,4 @@
 -- `dispersion::fill_z` meets its contract. The distances of the values, and whether one was below 0.
--- Assumes nothing.
 
 use mathlib.Core.Path.{ap, _∙_}
 use mathlib.Core.List.{map}

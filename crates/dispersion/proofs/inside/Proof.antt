@@ -1,5 +1,4 @@
 -- `dispersion::inside` meets its contract. The rows of ordered pairs from x on, added to s, are always the whole sum.
--- Assumes nothing.
 use mathlib.Core.Path.{_≡_, refl, ap, _∙_}
 use mathlib.Core.List.{map}
 use Prim.Native.Nat.{ℕ, _-_}

@@ -1,5 +1,4 @@
 -- `dispersion::pull_sum` meets its contract. A sum from -0.0.
--- Assumes nothing.
 use Prim.Native.Nat.{_-_}
 use borrow.Author.Needs.{needs}
 use Rattle.dispersion.specs.Dispersion.{pullSum}

@@ -1,5 +1,4 @@
 -- `dispersion::some_negative` meets its contract. None of the first i values is below 0.
--- Assumes nothing.
 use mathlib.Core.Path.{_≡_, refl, sym, _∙_}
 use Prim.Native.Nat.{_-_}
 use native.Mathlib.Omega.{arith}

@@ -1,5 +1,4 @@
 -- `dispersion::value_at` meets its contract. The group of a is one of g.
--- Assumes nothing.
 
 use Prim.Native.Nat.{_-_}
 use native.Mathlib.Omega.{arith}

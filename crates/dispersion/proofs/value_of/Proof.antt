@@ -1,5 +1,4 @@
 -- `dispersion::value_of` meets its contract. Step by step.
--- Assumes nothing.
 use mathlib.Core.Path.{refl}
 use Prim.Native.Nat.{_-_}
 use Rattle.dispersion.specs.Dispersion.{valueOf}

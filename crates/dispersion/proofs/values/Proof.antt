@@ -1,5 +1,4 @@
 -- `dispersion::values` meets its contract. The parts are the groups, so the values are theirs.
--- Assumes nothing.
 
 use mathlib.Core.Path.{_∙_}
 use Prim.Native.Nat.{_-_}

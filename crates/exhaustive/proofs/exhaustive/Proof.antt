@@ -1,9 +1,10 @@
 -- `exhaustive::exhaustive` meets its contract. Lines 1 to 5, the design, line 8, and then the rest.
--- Assumes nothing.
 use mathlib.Core.Path.{_≡_, sym, _∙_}
 use native.Mathlib.Omega.{arith}
 use borrow.Author.Needs.{needs}
-use Rattle.outcome.specs.declared.Check.the-variants.{Passed}
+use Rattle.outcome.specs.Outcome as outcome
+use Rattle.outcome.specs.Numbers.{told}
+use Rattle.outcome.proofs.Table.{told-passed}
 use Rattle.lot.specs.Lot.{Lot, lotOf}
 use Rattle.designs.specs.Designs.{Describes}
 use Rattle.designs.proofs.Designs.{designs-lot}
@@ -29,16 +30,16 @@ lent c =
     let a = start c .args in
     slicesOf (a .names .now) (a .counts .now) (a .means .now) (a .terms .now) (a .pulls .now) (a .coords .now) (a .room .now) (a .vectors .now) (a .rows .now)
 
-told : (c : tie.After-check-lot) → c .check-lot .result ≡ early (lot c) (lent c)
-told c = early-is (lot c) (lent c) (short-is (lot c) (lent c) (c .before .too-short .ensures)) (c .check-lot .ensures)
+said : (c : tie.After-check-lot) → told (c .check-lot .result) ≡ early (lot c) (lent c)
+said c = early-is (lot c) (lent c) (short-is (lot c) (lent c) (c .before .too-short .ensures)) (c .check-lot .ensures)
 
 -- ---- once it lets the lot pass
 
 abbrev asked : tie.After-design-of → tie.After-check-lot
 asked c = c .before .before .before
 
-passed : (c : tie.After-enum-told) → early (lot (c .before .before)) (lent (c .before .before)) ≡ Passed
-passed c = sym (told (c .before .before)) ∙ c .enum-told .given .1
+passed : (c : tie.After-enum-told) → early (lot (c .before .before)) (lent (c .before .before)) ≡ outcome.passed
+passed c = sym (told-passed (said (c .before .before)) (c .enum-told .given .1))
 
 design : (c : tie.After-design-of) → Describes (lot (asked c)) (c .design-of .result)
 design c = designs-lot (lot (asked c)) (c .design-of .ensures)
@@ -87,7 +88,7 @@ exhaustive-spec =
     (λ c κs. let q = asked c in design-sound (lot q) (lent q) (passed (c .before)) (design c))
     (λ c. let d = designed (c .before) in let q = asked d in call-many (lot q) (lent q) (passed (d .before)) (c .before .ways-of .ensures (lot q) (design d)) (omega (arith, c .if1 .taken)))
     (λ c κs. let a = start (asked (designed (few c))) .args in record { labels = a .labels .now; stratified = a .stratified; strata = a .strata .now; passing = passing c })
-    (λ c. let q = c .before .before .before in call-refused (lot q) (lent q) (sym (c .before .c .given .1) ∙ told q))
+    (λ c. let q = c .before .before .before in call-refused (lot q) (lent q) (said q) (c .before .c .given .1))
     (λ c. settled c .settle .kept .0)
     (λ c. settled c .settle .kept .1 .0)
     (λ c. settled c .settle .kept .1 .1 .0)

@@ -1,5 +1,4 @@
 -- `exhaustive::run` meets its contract. The samples are weighed, and the lot is judged by the coordinates that stand in the slice.
--- Assumes nothing.
 use mathlib.Core.Path.{_≡_, sym, _∙_}
 use Prim.Native.Nat.{ℕ, _+_, _*_, _≤_}
 use native.Mathlib.Nat.{mul-le-mul}

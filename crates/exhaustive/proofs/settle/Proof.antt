@@ -1,5 +1,4 @@
 -- `exhaustive::settle` meets its contract. By what the ordination tells.
--- Assumes nothing.
 use mathlib.Core.Path.{_≡_, sym, _∙_}
 use Prim.Native.Nat.{ℕ}
 use borrow.Author.Needs.{needs}

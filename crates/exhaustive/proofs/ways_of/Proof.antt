@@ -1,5 +1,4 @@
 -- `exhaustive::ways_of` meets its contract. The ways of the design's groups within its strata.
--- Assumes nothing.
 use mathlib.Core.Path.{_≡_, sym, _∙_}
 use Prim.Native.Nat.{_≤_}
 use native.Mathlib.Omega.{arith}

@@ -1,4 +1,4 @@
--- `float::abs` meets its contract: what is at most zero is taken from zero, and the rest has no sign. Assumes nothing.
+-- `float::abs` meets its contract: what is at most zero is taken from zero, and the rest has no sign.
 use Rattle.float.proofs.Tests.{passes, fails}
 use Rattle.float.proofs.Signs.{abs-below, abs-above}
 use Rattle.float.proofs.abs.Statement.{statement}

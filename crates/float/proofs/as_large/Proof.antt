@@ -1,4 +1,4 @@
--- `float::as_large` meets its contract: it compares with the threshold. Assumes nothing.
+-- `float::as_large` meets its contract: it compares with the threshold.
 use mathlib.Core.Path.{ap}
 use borrow.Author.Needs.{needs}
 use lib.Ieee.{Float, le}

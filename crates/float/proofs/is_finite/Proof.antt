@@ -1,4 +1,4 @@
--- `float::is_finite` meets its contract: x - x is zero of a finite x, and NaN of the rest. Assumes nothing.
+-- `float::is_finite` meets its contract: x - x is zero of a finite x, and NaN of the rest.
 use lib.Ieee.{binary64, ofBits}
 use Rattle.float.proofs.Sum.{finite-test}
 use Rattle.float.proofs.is_finite.Statement.{statement}

@@ -1,4 +1,4 @@
--- `float::max` meets its contract: each arm returns the larger of the values that come to it. Assumes nothing.
+-- `float::max` meets its contract: each arm returns the larger of the values that come to it.
 use Rattle.float.proofs.Tests.{passes, fails}
 use Rattle.float.proofs.Signs.{max-nan, max-less, max-zeros, max-rest}
 use Rattle.float.proofs.max.Statement.{statement}

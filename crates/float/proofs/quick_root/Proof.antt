@@ -1,5 +1,4 @@
 -- `float::quick_root` meets its contract: `rest` is exact, and what it is tested for tells the root (`Certificate`). No product wraps, since its factors have few digits.
--- Assumes nothing.
 use Prim.Native.Nat.{ℕ, _*_, _/_, _≤_}
 use native.Mathlib.Nat.{mul-le-mul}
 use native.Mathlib.Omega.{arith}

@@ -1,4 +1,4 @@
--- `float::rounded_root` meets its contract: the quick way where it passes, and else digit by digit. Assumes nothing.
+-- `float::rounded_root` meets its contract: the quick way where it passes, and else digit by digit.
 use native.Mathlib.Omega.{arith}
 use borrow.Author.Needs.{needs}
 use Rattle.float.proofs.Isqrt.{isqrt-few}

@@ -1,4 +1,4 @@
--- `float::signum` meets its contract: after the test for NaN the pattern's highest bit is the sign. Assumes nothing.
+-- `float::signum` meets its contract: after the test for NaN the pattern's highest bit is the sign.
 use Rattle.float.proofs.Tests.{passes}
 use Rattle.float.proofs.Nan.{same-no-nan}
 use Rattle.float.proofs.Signs.{signum-nan, signum-clear, signum-set}

@@ -1,4 +1,4 @@
--- `float::sqrt` meets its contract: each arm returns the root of the values that come to it (`Branches`). Assumes nothing.
+-- `float::sqrt` meets its contract: each arm returns the root of the values that come to it (`Branches`).
 use mathlib.Core.Path.{_∙_}
 use lib.Dec.{T}
 use lib.Ieee.{binary64, fits}

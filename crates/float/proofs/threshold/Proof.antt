@@ -1,4 +1,4 @@
--- `float::threshold` meets its contract: it has the definition's operations. Assumes nothing.
+-- `float::threshold` meets its contract: it has the definition's operations.
 use mathlib.Core.Path.{ap}
 use borrow.Author.Needs.{needs}
 use lib.Ieee.{Float}

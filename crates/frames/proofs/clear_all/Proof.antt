@@ -1,5 +1,4 @@
 -- `frames::clear_all` meets its contract. Each slice is cleared by its length.
--- Assumes nothing.
 use Prim.Native.Nat.{_-_}
 use borrow.Author.Needs.{needs}
 use Rattle.frames.proofs.Reading.{cleared-all}

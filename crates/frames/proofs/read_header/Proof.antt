@@ -1,6 +1,6 @@
 -- `frames::read_header` meets its contract. The tests say whether the first frame is a header.
--- Assumes nothing.
 use Prim.Native.Nat.{_-_}
+use native.Mathlib.Omega.{arith}
 use borrow.Author.Needs.{needs}
 use Rattle.frames.specs.Reached.{OpenedBy}
 use Rattle.frames.proofs.Taking.{not-a1, too-many, not-a-flag, is-header}
@@ -16,14 +16,14 @@ returns c = not-a1 (c .before .before .before .line-at .ensures) (c .if1 .taken)
 
 returns-2 : tie.Need-returns-2
 unfolding OpenedBy
-returns-2 c = too-many (c .before .before .before .before .before .line-at .ensures) (c .before .before .if1 .left) (c .if2 .taken)
+returns-2 c = too-many (c .before .before .before .before .before .line-at .ensures) (c .before .before .if1 .left) (omega (arith, c .if2 .taken))
 
 returns-3 : tie.Need-returns-3
 unfolding OpenedBy
 returns-3 c =
     let at-if1 = c .before .before .before .before in
     let after-line-at = at-if1 .before .before .before in
-    not-a-flag (after-line-at .line-at .ensures) (at-if1 .if1 .left) (c .before .before .if2 .left) (c .if3 .taken)
+    not-a-flag (after-line-at .line-at .ensures) (at-if1 .if1 .left) (omega (arith, c .before .before .if2 .left)) (c .if3 .taken)
 
 cast-t5 : tie.Need-cast-t5
 cast-t5 c = search needs
@@ -34,7 +34,7 @@ returns-4 c =
     let at-if2 = c .before .before .before .before in
     let at-if1 = at-if2 .before .before in
     let after-line-at = at-if1 .before .before .before in
-    is-header (after-line-at .line-at .ensures) (at-if1 .if1 .left) (at-if2 .if2 .left) (c .before .before .if3 .left)
+    is-header (after-line-at .line-at .ensures) (at-if1 .if1 .left) (omega (arith, at-if2 .if2 .left)) (c .before .before .if3 .left)
 
 pub read-header-spec : {M : Type 1} → statement M
 read-header-spec =

@@ -1,5 +1,4 @@
 -- `frames::read_over` meets its contract. The stages one after the other.
--- Assumes nothing.
 use Prim.Native.Nat.{_-_}
 use mathlib.Core.Path.{sym, _∙_}
 use borrow.Author.Needs.{needs}

@@ -1,5 +1,4 @@
 -- `frames::read_pairs` meets its contract. At each turn one pair more is taken, and the marks tell those that were.
--- Assumes nothing.
 use Prim.Native.Nat.{ℕ, _-_}
 use mathlib.Core.Path.{sym, ap, _∙_}
 use native.Mathlib.Omega.{arith}

@@ -1,5 +1,4 @@
 -- `frames::read_samples` meets its contract. At each turn one frame more is taken.
--- Assumes nothing.
 use Prim.Native.Nat.{_-_}
 use mathlib.Core.Path.{sym, _∙_}
 use native.Mathlib.Omega.{arith}
@@ -63,7 +62,8 @@ returns-2 c =
     let after-line-at = c .before .before .before .before .before in
     let in-loop = after-line-at .before in
     let at-loop = in-loop .before in
-    taking-other _ _ _ _ (at-loop .loop .inv) (after-line-at .line-at .ensures) (in-loop .loop-test .taken) (out-of-order _ _ (at-loop .loop .inv .many) (c .before .before .if1 .left) (c .if2 .taken))
+    taking-other _ _ _ _ (at-loop .loop .inv) (after-line-at .line-at .ensures) (in-loop .loop-test .taken)
+    (out-of-order _ _ (at-loop .loop .inv .many) (c .before .before .if1 .left) (λ same. omega (arith, same, c .if2 .taken, in-loop .loop-test .taken)))
 
 mul-labels : tie.Need-mul-labels Inv-loop μ-loop
 mul-labels c = omega arith
@@ -95,7 +95,8 @@ loop-again c =
     let loop-test = c .before .before .before .before .before .before .loop-test in
     let turn = c .before .before .before .before .before .before .before .loop in
     let pre = c .before .before .before .before .before .before .before .before .before .before .before .pre in
-    taking-next _ _ _ _ (turn .inv) (line-at .ensures) (loop-test .taken) _ (is-sample _ _ (turn .inv .many) (c .before .before .if1 .left) (c .if2 .left)) (sampled-next _ _ (turn .inv .many) (omega (arith, pre .0)) (turn .inv .holds))
+    taking-next _ _ _ _ (turn .inv) (line-at .ensures) (loop-test .taken) _ (is-sample _ _ (turn .inv .many) (c .before .before .if1 .left) (omega (arith, c .if2 .left)))
+    (sampled-next _ _ (turn .inv .many) (omega (arith, pre .0)) (turn .inv .holds))
 
 same-length-5 : tie.Need-same-length-5 Inv-loop μ-loop
 same-length-5 c = c .before .loop .inv .holds .labels ∙ sym (blank (c .before .before .before .before .before .pre .1))

@@ -1,5 +1,4 @@
 -- `frames::read_with` meets its contract. Over cleared slices, and cleared again on a refusal.
--- Assumes nothing.
 use Prim.Native.Nat.{_-_}
 use borrow.Author.Needs.{needs}
 use Rattle.frames.proofs.Reading.{whole-read, whole-refused, room-kept}

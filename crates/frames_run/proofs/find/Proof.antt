@@ -1,5 +1,4 @@
 -- `frames_run::find` meets its contract. What was passed lies within the input.
--- Assumes nothing.
 use Prim.Native.Nat.{_≤_, _-_}
 use native.Mathlib.Omega.{arith}
 use lib.ListN.{length}

@@ -1,5 +1,4 @@
 -- `frames_run::mix_numbers` meets its contract. Every index lies within the slice.
--- Assumes nothing.
 use Prim.Native.Nat.{_≤_, _-_}
 use native.Mathlib.Omega.{arith}
 use lib.ListN.{length}

@@ -1,5 +1,4 @@
 -- `frames_run::pattern` meets its contract. A NaN is told apart first.
--- Assumes nothing.
 use Prim.Native.Nat.{_-_}
 use borrow.Author.Needs.{needs}
 use Rattle.float.proofs.Nan.{same-no-nan}

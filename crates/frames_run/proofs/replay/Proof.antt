@@ -1,5 +1,4 @@
 -- `frames_run::replay` meets its contract. Each text ends past where it starts.
--- Assumes nothing.
 use Prim.Native.Nat.{_≤_, _-_}
 use native.Mathlib.Omega.{arith}
 use lib.ListN.{length}

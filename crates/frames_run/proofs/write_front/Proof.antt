@@ -1,5 +1,4 @@
 -- `frames_run::write_front` meets its contract. The part lies within the slice.
--- Assumes nothing.
 use Prim.Native.Nat.{_-_}
 use mathlib.Core.Path.{sym}
 use lib.Seq.{length-take-le}

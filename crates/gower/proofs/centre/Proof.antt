@@ -1,5 +1,4 @@
 -- `gower::centre` meets its contract. The means have room of their own.
--- Assumes nothing.
 use mathlib.Core.Path.{sym}
 use Prim.Native.Nat.{_-_}
 use native.Mathlib.Omega.{arith}

@@ -1,5 +1,4 @@
 -- `gower::centre_in` meets its contract. Squares, their means, the mean of these, and each row centred in its place.
--- Assumes nothing.
 use Prim.Native.Nat.{_-_}
 use borrow.Author.Needs.{needs}
 use Rattle.gower.specs.Centred.{mean}

@@ -1,5 +1,4 @@
 -- `gower::centre_row` meets its contract. After j turns the first j entries are centred.
--- Assumes nothing.
 use mathlib.Core.Path.{ap}
 use Prim.Native.Nat.{_-_}
 use native.Mathlib.Omega.{arith}

@@ -1,5 +1,4 @@
 -- `gower::centre_rows` meets its contract. After i turns the first i rows are centred.
--- Assumes nothing.
 use mathlib.Core.Path.{refl, sym, _∙_}
 use Prim.Native.Nat.{_-_}
 use native.Mathlib.Omega.{arith}

@@ -1,5 +1,4 @@
 -- `gower::fill_means` meets its contract. After i turns the first i means stand there.
--- Assumes nothing.
 use mathlib.Core.Path.{ap, _∙_}
 use Prim.Native.Nat.{_-_}
 use native.Mathlib.Omega.{arith}

@@ -1,5 +1,4 @@
 -- `gower::fill_squares` meets its contract. After i turns the first i squares stand there.
--- Assumes nothing.
 use mathlib.Core.Path.{refl, sym, _∙_}
 use Prim.Native.Nat.{_-_}
 use native.Mathlib.Omega.{arith}

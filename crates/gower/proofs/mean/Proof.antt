@@ -1,5 +1,4 @@
 -- `gower::mean` meets its contract. What is left of the sum stays the same.
--- Assumes nothing.
 use mathlib.Core.Path.{_≡_, refl, ap}
 use Prim.Native.Nat.{_-_, _≤_, _^_}
 use native.Mathlib.Omega.{arith}

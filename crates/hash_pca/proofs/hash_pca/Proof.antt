@@ -1,5 +1,4 @@
 -- `hash_pca::hash_pca` meets its contract. The lengths and the components are judged first.
--- Assumes nothing.
 use mathlib.Core.Path.{sym, _∙_}
 use Prim.Native.Nat.{_-_}
 use native.Mathlib.Nat.{min-le-right}

@@ -1,5 +1,4 @@
 -- `hash_pca::ordinate_sets` meets its contract. A refusal leaves everything as it was; the coordinates of the matrix, or zeros, are left where the lines pass.
--- Assumes nothing.
 use Rattle.gram.specs.declared.Answer.the-variants as answer
 use mathlib.Core.Path.{_∙_}
 use Prim.Native.Nat.{_-_}

@@ -1,4 +1,4 @@
--- `hexadecimal::digit_of` meets its contract. Assumes nothing.
+-- `hexadecimal::digit_of` meets its contract.
 use borrow.Author.Tests.{lt-ltb, le-ltb}
 use borrow.Author.Needs.{needs}
 use Rattle.hexadecimal.proofs.digit_of.Statement.{statement}

@@ -1,5 +1,4 @@
 -- `hexadecimal::put_hex` meets its contract. What is written with the digits that are left is the same at every turn.
--- Assumes nothing.
 use Prim.Native.Nat.{_≤_, _+_, _-_}
 use mathlib.Core.Path.{_≡_, refl, sym, _∙_}
 use native.Mathlib.Omega.{arith}

@@ -1,6 +1,5 @@
 -- `hit_counts::count_hits` meets its contract. The rows are filled, and the walk starts at the first sample.
--- Assumes nothing.
-use mathlib.Core.Path.{_≡_, sym}
+use mathlib.Core.Path.{_≡_, sym, ap, _∙_}
 use mathlib.Core.List.{List}
 use Prim.Native.Nat.{ℕ}
 use native.Mathlib.Omega.{arith}
@@ -8,8 +7,10 @@ use borrow.Author.Needs.{needs}
 use lib.ListN.{length, take, replicate}
 use lib.Seq.{length-take-le}
 use Rattle.ways.specs.Onward.{HasRows}
-use Rattle.ways.proofs.Counts.{zeros-cleared}
-use Rattle.hit_counts.proofs.Started.{rows-longer, start-walking, all-counted}
+use Rattle.way_hits.specs.WayHits.{hitsAmong}
+use Rattle.ways.proofs.Counts.{zeros-cleared, onward-ways}
+use Rattle.ways.proofs.Order.{rows-longer}
+use Rattle.hit_counts.proofs.Started.{start-walking}
 use Rattle.hit_counts.proofs.count_hits.Statement.{statement}
 use Rattle.hit_counts.proofs.count_hits.Tie as tie
 
@@ -51,7 +52,7 @@ returns c =
     let at = clear (filled (walked .before)) in
     let s = start at in
     let a = s .args in
-    all-counted (a .f .groups) (a .strata .now) (a .gs .now) (at .clear-u16 .last .0) (rows at) (filled (walked .before) .fill-counts .ensures) (room s) (walked .walk .ensures .0)
+    walked .walk .ensures ∙ ap (hitsAmong _ _) (onward-ways (a .f .groups) (a .strata .now) (a .gs .now) (at .clear-u16 .last .0) (rows at) (filled (walked .before) .fill-counts .ensures))
 
 pub count-hits-spec : {M : Type 1} → statement M
 count-hits-spec =

@@ -1,4 +1,4 @@
--- `jacobi::check` meets its contract. The lines go by their numbers. Assumes nothing.
+-- `jacobi::check` meets its contract. The lines go by their numbers.
 use mathlib.Core.Path.{sym, _∙_}
 use borrow.Author.Needs.{needs}
 use borrow.Author.Tests.{lt-ltb, le-ltb}
@@ -30,7 +30,8 @@ returns-3 c =
     let at-misfits = at-if1 .before in
     let at-start = at-misfits .before .before in
     let a = at-start .args in
-    line-value (a .n) (a .a .now) (a .out) (a .m) (a .v) (sym (at-misfits .misfits .ensures) ∙ at-if1 .if1 .left) (le-ltb _ _ (at-if2 .if2 .left)) (sym (at-has-not-finite .has-not-finite .ensures) ∙ c .if3 .taken)
+    line-value (a .n) (a .a .now) (a .out) (a .m) (a .v)
+    (sym (at-misfits .misfits .ensures) ∙ at-if1 .if1 .left) (le-ltb _ _ (at-if2 .if2 .left)) (sym (at-has-not-finite .has-not-finite .ensures) ∙ c .if3 .taken)
 
 returns-4 : tie.Need-returns-4
 returns-4 c =
@@ -40,7 +41,8 @@ returns-4 c =
     let at-misfits = at-if1 .before in
     let at-start = at-misfits .before .before in
     let a = at-start .args in
-    line-none (a .n) (a .a .now) (a .out) (a .m) (a .v) (sym (at-misfits .misfits .ensures) ∙ at-if1 .if1 .left) (le-ltb _ _ (at-if2 .if2 .left)) (sym (at-has-not-finite .has-not-finite .ensures) ∙ c .if3 .left)
+    line-none (a .n) (a .a .now) (a .out) (a .m) (a .v)
+    (sym (at-misfits .misfits .ensures) ∙ at-if1 .if1 .left) (le-ltb _ _ (at-if2 .if2 .left)) (sym (at-has-not-finite .has-not-finite .ensures) ∙ c .if3 .left)
 
 pub check-spec : {M : Type 1} → statement M
 check-spec =

@@ -1,4 +1,4 @@
--- `jacobi::eigen` meets its contract. By whether a NaN stands on the diagonal. Assumes nothing.
+-- `jacobi::eigen` meets its contract. By whether a NaN stands on the diagonal.
 use mathlib.Core.Path.{sym, ap, _∙_}
 use Prim.Native.Nat.{ℕ}
 use native.Mathlib.Omega.{arith}

@@ -1,7 +1,7 @@
--- `jacobi::jacobi_eigen` meets its contract. By whether a line of the table holds. Assumes nothing.
-use mathlib.Core.Path.{sym, _∙_}
+-- `jacobi::jacobi_eigen` meets its contract. By whether a line of the table holds.
 use borrow.Author.Needs.{needs}
 use lib.ListN.{length}
+use Rattle.outcome.proofs.Table.{told-passed, told-refused}
 use Rattle.jacobi.proofs.Call.{call-refused, call-passed, passed-fits}
 use Rattle.jacobi.proofs.jacobi_eigen.Statement.{statement}
 use Rattle.jacobi.proofs.jacobi_eigen.Tie as tie
@@ -21,7 +21,7 @@ with-scratch-requires c κs =
     let at-check = at-enum-told .before .before in
     let at-start = at-check .before .before .before .before .before in
     let a = at-start .args in
-    let passed = sym (at-enum-told .enum-told .given .1) ∙ at-check .check .ensures in
+    let passed = told-passed (at-check .check .ensures) (at-enum-told .enum-told .given .1) in
     let fits = passed-fits (a .n) (a .a .now) (length (a .out .now)) (length (a .m .now)) (length (a .v .now)) passed in
     (fits .a-fits, fits .out-fits, fits .m-fits, fits .v-fits, fits .n-fits)
 
@@ -31,7 +31,7 @@ returns c =
     let at-check = at-c .before .before in
     let at-start = at-check .before .before .before .before .before in
     let a = at-start .args in
-    call-refused (a .n) (a .a .now) (a .out .now) (a .m .now) (a .v .now) (sym (at-c .c .given .1) ∙ at-check .check .ensures)
+    call-refused (a .n) (a .a .now) (a .out .now) (a .m .now) (a .v .now) (told-refused (at-check .check .ensures) (at-c .c .given .1))
 
 same-length : tie.Need-same-length
 same-length c = search needs
@@ -49,7 +49,7 @@ returns-2 c =
     let at-check = at-enum-told .before .before in
     let at-start = at-check .before .before .before .before .before in
     let a = at-start .args in
-    call-passed (a .n) (a .a .now) (a .out .now) (a .m .now) (a .v .now) (sym (at-enum-told .enum-told .given .1) ∙ at-check .check .ensures) (at-with-scratch .with-scratch .ensures)
+    call-passed (a .n) (a .a .now) (a .out .now) (a .m .now) (a .v .now) (told-passed (at-check .check .ensures) (at-enum-told .enum-told .given .1)) (at-with-scratch .with-scratch .ensures)
 
 pub jacobi-eigen-spec : {M : Type 1} → statement M
 jacobi-eigen-spec =

@@ -1,4 +1,4 @@
--- `jacobi::misfits` meets its contract. From 2 ^ 32 on the square of n is above every length. Assumes nothing.
+-- `jacobi::misfits` meets its contract. From 2 ^ 32 on the square of n is above every length.
 use mathlib.Core.Path.{_≡_, refl}
 use mathlib.Core.Bool.{Bool, true, false, _||_}
 use Prim.Native.Nat.{_*_, _≤_}

@@ -1,4 +1,4 @@
--- `jacobi::solve` meets its contract. The first parts are lent to `eigen`, and come back to the longer slices. Assumes nothing.
+-- `jacobi::solve` meets its contract. The first parts are lent to `eigen`, and come back to the longer slices.
 use mathlib.Core.Path.{sym, ap, _∙_}
 use Prim.Native.Nat.{ℕ, _+_, _*_}
 use native.Mathlib.Omega.{arith}

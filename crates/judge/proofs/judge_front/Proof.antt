@@ -1,5 +1,4 @@
 -- `judge::judge_front` meets its contract. The fronts are the lot.
--- Assumes nothing.
 use Prim.Native.Nat.{_-_}
 use native.Mathlib.Omega.{arith}
 use native.Mathlib.Nat.{mul-le-mul}

@@ -1,5 +1,4 @@
 -- `judge::judge_into` meets its contract. What is found is printed.
--- Assumes nothing.
 use Prim.Native.Nat.{_-_}
 use borrow.Author.Needs.{needs}
 use Rattle.judge.proofs.Judging.{judged-text}

@@ -1,5 +1,4 @@
 -- `judge::judge_text` meets its contract. By cases of what was read.
--- Assumes nothing.
 use mathlib.Core.Path.{_∙_}
 use Prim.Native.Nat.{_-_}
 use borrow.Author.Needs.{needs}

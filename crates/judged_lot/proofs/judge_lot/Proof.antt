@@ -1,5 +1,4 @@
 -- `judged_lot::judge_lot` meets its contract. The slices are long enough, so what is answered is the judgement.
--- Assumes nothing.
 use mathlib.Core.Bool.{false}
 use Prim.Native.Nat.{_-_}
 use borrow.Author.Needs.{needs}

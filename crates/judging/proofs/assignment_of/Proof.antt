@@ -1,5 +1,4 @@
 -- `judging::assignment_of` meets its contract. None where the coordinates are barred, else by the scores of the way's groups.
--- Assumes nothing.
 use mathlib.Core.Path.{_≡_, sym, subst, _∙_}
 use mathlib.Core.List.{List, _++_}
 use Prim.Native.Nat.{ℕ, _≤_}

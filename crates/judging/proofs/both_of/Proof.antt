@@ -1,5 +1,4 @@
 -- `judging::both_of` meets its contract. Location and dispersion over one grouping, with room for 256 samples.
--- Assumes nothing.
 use mathlib.Core.Path.{sym}
 use borrow.Author.Needs.{needs}
 use lib.ListN.{replicate}

@@ -1,5 +1,4 @@
 -- `judging::dispersion_of` meets its contract. The values' distances, and their F.
--- Assumes nothing.
 use native.Mathlib.Omega.{arith}
 use borrow.Author.Needs.{needs}
 use Rattle.judging.proofs.Cases.{dispersion-is}

@@ -1,5 +1,4 @@
 -- `judging::is_barred` meets its contract. One test, and then the other.
--- Assumes nothing.
 use borrow.Author.Needs.{needs}
 use Rattle.judging.proofs.Cases.{barred-beyond, barred-few}
 use Rattle.judging.proofs.is_barred.Statement.{statement}

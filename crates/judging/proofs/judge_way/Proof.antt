@@ -1,5 +1,4 @@
 -- `judging::judge_way` meets its contract. The hits of what is found.
--- Assumes nothing.
 use borrow.Author.Needs.{needs}
 use Rattle.judging.proofs.Cases.{found-hits}
 use Rattle.judging.proofs.judge_way.Statement.{statement}

@@ -1,5 +1,4 @@
 -- `judging::location_of` meets its contract. F over the members of the groups.
--- Assumes nothing.
 use borrow.Author.Needs.{needs}
 use Rattle.judging.proofs.Cases.{location-is}
 use Rattle.judging.proofs.location_of.Statement.{statement}

@@ -1,5 +1,4 @@
 -- `judging::right_of` meets its contract. Case by case.
--- Assumes nothing.
 use borrow.Author.Needs.{needs}
 use Rattle.judging.proofs.Cases.{right-scored, right-refused}
 use Rattle.judging.proofs.right_of.Statement.{statement}

@@ -1,5 +1,4 @@
 -- `judging::statistics_of` meets its contract. Location and dispersion, and the assignment.
--- Assumes nothing.
 use borrow.Author.Needs.{needs}
 use Rattle.judging.proofs.Cases.{statistics-are}
 use Rattle.judging.proofs.statistics_of.Statement.{statement}

@@ -1,5 +1,4 @@
 -- `layouts::dapc_numbers` meets its contract. As the definition lists them.
--- Assumes nothing.
 use mathlib.Core.Path.{refl}
 use Rattle.layouts.specs.Layouts.{dapcNumbers}
 use Rattle.layouts.proofs.dapc_numbers.Statement.{statement}

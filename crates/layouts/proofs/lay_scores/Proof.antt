@@ -1,5 +1,4 @@
 -- `layouts::lay_scores` meets its contract. Each answer as it is laid out.
--- Assumes nothing.
 use mathlib.Core.Path.{ap}
 use borrow.Author.Needs.{needs}
 use Rattle.discriminant.specs.Outputs.{outcomeOf}

@@ -1,9 +1,8 @@
 -- `layouts::lay_selected` meets its contract. Each answer as it is laid out.
--- Assumes nothing.
 use mathlib.Core.Path.{refl, ap}
 use borrow.Author.Needs.{needs}
 use Rattle.gram.specs.Call.{outcomeOf}
-use Rattle.layouts.specs.Layouts.{selectedOf}
+use Rattle.layouts.specs.Layouts.{countOf}
 use Rattle.layouts.proofs.Laid.{laid-out, turned-away}
 use Rattle.layouts.proofs.lay_selected.Statement.{statement}
 use Rattle.layouts.proofs.lay_selected.Tie as tie
@@ -18,10 +17,10 @@ enum-known-a-2 : tie.Need-enum-known-a-2
 enum-known-a-2 c = search needs
 
 returns : tie.Need-returns
-returns c = turned-away selectedOf (c .before .before .before .before .args .selected .now) (ap outcomeOf (c .before .before .a .given .1)) (c .number-of .ensures)
+returns c = turned-away countOf (c .before .before .before .before .args .selected .now) (ap outcomeOf (c .before .before .a .given .1)) (c .number-of .ensures)
 
 returns-2 : tie.Need-returns-2
-returns-2 c = laid-out selectedOf (c .before .before .before .args .selected .now) (ap outcomeOf (c .before .a2 .given .1)) refl
+returns-2 c = laid-out countOf (c .before .before .before .args .selected .now) (ap outcomeOf (c .before .a2 .given .1)) refl
 
 pub lay-selected-spec : {M : Type 1} → statement M
 lay-selected-spec =

@@ -1,5 +1,4 @@
 -- `layouts::lay_test` meets its contract. Each answer as it is laid out.
--- Assumes nothing.
 use mathlib.Core.Path.{ap}
 use borrow.Author.Needs.{needs}
 use Rattle.sampled.specs.Call.{answerOf}

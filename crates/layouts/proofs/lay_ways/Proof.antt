@@ -1,5 +1,4 @@
 -- `layouts::lay_ways` meets its contract. Each answer as it is laid out.
--- Assumes nothing.
 use mathlib.Core.Path.{ap}
 use borrow.Author.Needs.{needs}
 use Rattle.every_way.specs.Call.{answerOf}

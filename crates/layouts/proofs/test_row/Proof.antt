@@ -1,5 +1,4 @@
 -- `layouts::test_row` meets its contract. As the definition lists the parts.
--- Assumes nothing.
 use borrow.Author.Needs.{needs}
 use Rattle.layouts.proofs.Laid.{test-row-is}
 use Rattle.layouts.proofs.test_row.Statement.{statement}

@@ -1,18 +1,17 @@
 -- `layouts::way_row` meets its contract. As the definition lists the parts.
--- Assumes nothing.
 use borrow.Author.Needs.{needs}
 use Rattle.layouts.proofs.Laid.{way-row-is}
 use Rattle.layouts.proofs.way_row.Statement.{statement}
 use Rattle.layouts.proofs.way_row.Tie as tie
 
-abbrev start : tie.After-f-of2 → tie.Start
+abbrev start : tie.After-value-of2 → tie.Start
 start c = c .before .before .before .before .before .before
 
 returns : tie.Need-returns
 returns c =
-    let bounded = c .before .before .before in
-    let at = bounded .before .before in
-    way-row-is (start at .args .j) (at .before .f-of .ensures) (at .f-of2 .ensures) (bounded .before .is-bounded .ensures) (bounded .is-bounded2 .ensures)
+    let state = c .before .before .before in
+    let at = state .before .before in
+    way-row-is (start at .args .j) (at .before .value-of .ensures) (at .value-of2 .ensures) (state .before .state-of .ensures) (state .state-of2 .ensures)
     (c .before .before .is-assigned .ensures) (c .before .right-of .ensures)
 
 pub way-row-spec : {M : Type 1} → statement M

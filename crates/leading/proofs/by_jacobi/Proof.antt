@@ -1,4 +1,4 @@
--- `leading::by_jacobi` meets its contract. By what Jacobi answers. Assumes nothing.
+-- `leading::by_jacobi` meets its contract. By what Jacobi answers.
 use mathlib.Core.Path.{ap, _∙_}
 use mathlib.Core.List.{List}
 use Prim.Native.Nat.{_*_}
@@ -14,36 +14,6 @@ use Rattle.leading.proofs.Front.{length-leading}
 use Rattle.leading.proofs.by_jacobi.Statement.{statement}
 use Rattle.leading.proofs.by_jacobi.Tie as tie
 
-eigen-requires : tie.Need-eigen-requires
-eigen-requires c κs = search needs
-
-enum-told : tie.Need-enum-told
-enum-told c = search needs
-
-enum-told-2 : tie.Need-enum-told-2
-enum-told-2 c = search needs
-
-clear-requires : tie.Need-clear-requires
-clear-requires c κs = search needs
-
-same-length : tie.Need-same-length
-same-length c = search needs
-
-same-length-2 : tie.Need-same-length-2
-same-length-2 c = search needs
-
-same-length-3 : tie.Need-same-length-3
-same-length-3 c = search needs
-
-same-length-4 : tie.Need-same-length-4
-same-length-4 c = search needs
-
-same-length-5 : tie.Need-same-length-5
-same-length-5 c = search needs
-
-same-length-6 : tie.Need-same-length-6
-same-length-6 c = search needs
-
 returns : tie.Need-returns
 unfolding leading
 returns c =
@@ -54,27 +24,6 @@ returns c =
     let a = at-start .args in
     found-refused (a .k) (a .n) (a .out .now) (at-start .pre .0 .0) (a .n) (a .a .now) (λ e. record { values = take (a .k) (e .values); vectors = take (a .k * a .n) (e .vectors) })
     (at-eigen .eigen .last .1 .1 .0) (solved-found (a .n) (a .a .now) (a .pairs .now) (at-eigen .eigen .result) (at-eigen .eigen .ensures)) (at-enum-told2 .enum-told2 .given .1) (at-clear .clear .ensures)
-
-copy-leading-requires : tie.Need-copy-leading-requires
-copy-leading-requires c κs = search needs
-
-same-length-7 : tie.Need-same-length-7
-same-length-7 c = search needs
-
-same-length-8 : tie.Need-same-length-8
-same-length-8 c = search needs
-
-same-length-9 : tie.Need-same-length-9
-same-length-9 c = search needs
-
-same-length-10 : tie.Need-same-length-10
-same-length-10 c = search needs
-
-same-length-11 : tie.Need-same-length-11
-same-length-11 c = search needs
-
-same-length-12 : tie.Need-same-length-12
-same-length-12 c = search needs
 
 returns-2 : tie.Need-returns-2
 unfolding leading
@@ -96,22 +45,22 @@ pub by-jacobi-spec : {M : Type 1} → statement M
 by-jacobi-spec =
     tie.close
     (tie.spec
-    eigen-requires
-    enum-told
-    enum-told-2
-    clear-requires
-    same-length
-    same-length-2
-    same-length-3
-    same-length-4
-    same-length-5
-    same-length-6
+    (λ c κs. search needs)
+    (λ c. search needs)
+    (λ c. search needs)
+    (λ c κs. search needs)
+    (λ c. search needs)
+    (λ c. search needs)
+    (λ c. search needs)
+    (λ c. search needs)
+    (λ c. search needs)
+    (λ c. search needs)
     returns
-    copy-leading-requires
-    same-length-7
-    same-length-8
-    same-length-9
-    same-length-10
-    same-length-11
-    same-length-12
+    (λ c κs. search needs)
+    (λ c. search needs)
+    (λ c. search needs)
+    (λ c. search needs)
+    (λ c. search needs)
+    (λ c. search needs)
+    (λ c. search needs)
     returns-2)

@@ -1,4 +1,4 @@
--- `leading::by_jacobi_in` meets its contract. Room of its own. Assumes nothing.
+-- `leading::by_jacobi_in` meets its contract. Room of its own.
 use mathlib.Core.Path.{sym}
 use native.Mathlib.Omega.{arith}
 use borrow.Author.Needs.{needs}

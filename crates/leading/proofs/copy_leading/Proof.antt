@@ -1,4 +1,4 @@
--- `leading::copy_leading` meets its contract. The output is filled in two parts, each lent by itself. Assumes nothing.
+-- `leading::copy_leading` meets its contract. The output is filled in two parts, each lent by itself.
 use mathlib.Core.Path.{sym, ap, ap₂, _∙_}
 use mathlib.Core.List.{List, _++_}
 use native.Mathlib.Nat.{mul-le-mul-right}

@@ -1,5 +1,4 @@
 -- `lengths::dapc_lengths` meets its contract. Up to 256 and 16 nothing wraps.
--- Assumes nothing.
 use native.Mathlib.Omega.{arith}
 use native.Mathlib.Nat.{mul-le-mul}
 use mathlib.Core.Bool.{Bool, _||_}

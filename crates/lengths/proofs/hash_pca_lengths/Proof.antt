@@ -1,5 +1,4 @@
 -- `lengths::hash_pca_lengths` meets its contract. Up to 256 nothing wraps.
--- Assumes nothing.
 use mathlib.Core.Path.{sym, _∙_}
 use native.Mathlib.Omega.{arith}
 use native.Mathlib.Nat.{mul-le-mul, min-le-right}

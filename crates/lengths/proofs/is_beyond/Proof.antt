@@ -1,5 +1,4 @@
 -- `lengths::is_beyond` meets its contract. One test after the other.
--- Assumes nothing.
 use mathlib.Core.Path.{sym, ap}
 use mathlib.Core.Bool.{Bool, _||_}
 use borrow.Author.Needs.{needs}

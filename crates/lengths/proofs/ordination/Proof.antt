@@ -1,5 +1,4 @@
 -- `lengths::ordination` meets its contract. Up to 256 nothing wraps.
--- Assumes nothing.
 use native.Mathlib.Omega.{arith}
 use native.Mathlib.Nat.{mul-le-mul}
 use borrow.Author.Needs.{needs}

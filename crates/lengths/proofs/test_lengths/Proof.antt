@@ -1,5 +1,4 @@
 -- `lengths::test_lengths` meets its contract. Up to 256 nothing wraps.
--- Assumes nothing.
 use native.Mathlib.Omega.{arith}
 use native.Mathlib.Nat.{mul-le-mul}
 use borrow.Author.Tests.{lt-ltb, le-ltb}

@@ -1,4 +1,4 @@
--- `lines::any_outside` meets its contract. None of the entries passed is outside. Assumes nothing.
+-- `lines::any_outside` meets its contract. None of the entries passed is outside.
 use mathlib.Core.Path.{_≡_, refl, sym, _∙_}
 use mathlib.Core.Bool.{Bool, not, _&&_}
 use Prim.Native.Nat.{_-_}

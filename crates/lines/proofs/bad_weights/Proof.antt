@@ -1,4 +1,4 @@
--- `lines::bad_weights` meets its contract. What is not given is not looked at. Assumes nothing.
+-- `lines::bad_weights` meets its contract. What is not given is not looked at.
 use Prim.Native.Nat.{_-_}
 use borrow.Author.Needs.{needs}
 use Rattle.lines.proofs.bad_weights.Statement.{statement}

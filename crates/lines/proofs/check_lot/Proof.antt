@@ -1,12 +1,12 @@
--- `lines::check_lot` meets its contract: the groups go one after another, and the first that refuses wins. Assumes nothing.
+-- `lines::check_lot` meets its contract: the groups go one after another, and the first that refuses wins.
 use mathlib.Core.Path.{_≡_, sym, ap, _∙_}
 use mathlib.Core.Bool.{Bool, _||_}
 use mathlib.Core.List.{List, _++_}
 use native.Mathlib.Omega.{arith}
 use borrow.Author.Needs.{needs}
-use Rattle.outcome.specs.declared.Check.the-variants.{Passed}
+use Rattle.outcome.specs.Numbers.{told}
 use Rattle.outcome.specs.Refusals.{Line, first}
-use Rattle.outcome.proofs.Table.{told-refused, told-next}
+use Rattle.outcome.proofs.Table.{check-refused, check-next, told-passed}
 use Rattle.lists.proofs.Truths.{or-neither}
 use Rattle.lot.specs.Lot.{Lot, lotOf}
 use Rattle.lot.specs.Lines.{misfits, sizeLines, matrixLines, labelLines, testLines}
@@ -32,7 +32,7 @@ matrix s = matrixLines (s .args .distances .now)
 abbrev labels : tie.Start → List Line
 labels s = labelLines (s .args .labels .now) (s .args .weighted) (s .args .weights .now)
 
-sized : (c : tie.After-check-sizes) → c .check-sizes .result ≡ first (sizes (start c))
+sized : (c : tie.After-check-sizes) → told (c .check-sizes .result) ≡ first (sizes (start c))
 unfolding misfits
 sized c = c .check-sizes .ensures ∙ ap (λ (b : Bool). first (sizeLines b (start c .args .n) (start c .args .beyond))) (c .before .misfits .ensures)
 
@@ -42,7 +42,7 @@ abbrev asked : tie.After-enum-told → tie.After-check-sizes
 asked c = c .before .before
 
 known : (c : tie.After-enum-told) → Sized (misfits (lot (start (asked c))) || start (asked c) .args .short) (start (asked c) .args .n) (start (asked c) .args .beyond)
-known c = sizes-known _ _ _ (sym (sized (asked c)) ∙ c .enum-told .given .1)
+known c = sizes-known _ _ _ (sym (told-passed (sized (asked c)) (c .enum-told .given .1)))
 
 -- ---- what is left
 
@@ -50,15 +50,15 @@ returns : tie.Need-returns
 unfolding testLines
 returns c =
     let q = c .before .before in
-    told-refused (sizes (start q)) (matrix (start q) ++ labels (start q)) (sized q) (c .enum-told2 .given .1)
+    check-refused (sizes (start q)) (matrix (start q) ++ labels (start q)) (sized q) (c .enum-told2 .given .1)
 
 returns-2 : tie.Need-returns-2
 unfolding testLines
 returns-2 c =
     let passed = c .before .before .before in
     let q = asked passed in
-    told-next (sizes (start q)) (matrix (start q) ++ labels (start q)) (sized q) (passed .enum-told .given .1)
-    (told-refused (matrix (start q)) (labels (start q)) (c .before .before .check-matrix .ensures) (c .enum-told4 .given .1))
+    check-next (sizes (start q)) (matrix (start q) ++ labels (start q)) (sized q) (passed .enum-told .given .1)
+    (check-refused (matrix (start q)) (labels (start q)) (c .before .before .check-matrix .ensures) (c .enum-told4 .given .1))
 
 check-labels-requires : tie.Need-check-labels-requires
 check-labels-requires c κs =
@@ -72,8 +72,8 @@ returns-3 c =
     let at = c .before in
     let passed = at .before .before .before in
     let q = asked passed in
-    told-next (sizes (start q)) (matrix (start q) ++ labels (start q)) (sized q) (passed .enum-told .given .1)
-    (told-next (matrix (start q)) (labels (start q)) (at .before .before .check-matrix .ensures) (at .enum-told3 .given .1) (c .check-labels .ensures))
+    check-next (sizes (start q)) (matrix (start q) ++ labels (start q)) (sized q) (passed .enum-told .given .1)
+    (check-next (matrix (start q)) (labels (start q)) (at .before .before .check-matrix .ensures) (at .enum-told3 .given .1) (c .check-labels .ensures))
 
 pub check-lot-spec : {M : Type 1} → statement M
 check-lot-spec =

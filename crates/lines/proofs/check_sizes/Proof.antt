@@ -1,4 +1,4 @@
--- `lines::check_sizes` meets its contract. Test by test. Assumes nothing.
+-- `lines::check_sizes` meets its contract. Test by test.
 use borrow.Author.Tests.{lt-ltb, le-ltb}
 use Rattle.outcome.specs.Refusals.{first}
 use Rattle.lines.proofs.check_sizes.Statement.{statement}

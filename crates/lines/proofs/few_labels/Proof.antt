@@ -1,4 +1,4 @@
--- `lines::few_labels` meets its contract. There are two groups if a second label is found. Assumes nothing.
+-- `lines::few_labels` meets its contract. There are two groups if a second label is found.
 use mathlib.Core.Path.{ap, _∙_}
 use Prim.Native.Nat.{ℕ, _-_}
 use borrow.Author.Needs.{needs}

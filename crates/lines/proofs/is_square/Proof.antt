@@ -1,4 +1,4 @@
--- `lines::is_square` meets its contract. From 2 ^ 32 on n * n is past every `usize`, and below it n * n is one. Assumes nothing.
+-- `lines::is_square` meets its contract. From 2 ^ 32 on n * n is past every `usize`, and below it n * n is one.
 use mathlib.Core.Path.{sym}
 use Prim.Native.Nat.{_*_, _-_, _≤_}
 use native.Mathlib.Nat.{mul-le-mul}

@@ -1,4 +1,4 @@
--- `lines::misfits` meets its contract. Each answer is what the tests that led there give. Assumes nothing.
+-- `lines::misfits` meets its contract. Each answer is what the tests that led there give.
 use mathlib.Core.Path.{_≡_, sym, _∙_}
 use mathlib.Core.Bool.{true}
 use Prim.Native.Nat.{_*_, _-_}

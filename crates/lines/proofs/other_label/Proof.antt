@@ -1,4 +1,4 @@
--- `lines::other_label` meets its contract. None of the labels passed is one that two samples have, other than l. Assumes nothing.
+-- `lines::other_label` meets its contract. None of the labels passed is one that two samples have, other than l.
 use mathlib.Core.Path.{_≡_, sym, ap, _∙_}
 use mathlib.Core.Logic.{⊎-elim}
 use mathlib.Core.Bool.{true, false}

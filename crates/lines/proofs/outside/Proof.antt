@@ -1,4 +1,4 @@
--- `lines::outside` meets its contract. Each answer is what the two tests give. Assumes nothing.
+-- `lines::outside` meets its contract. Each answer is what the two tests give.
 use Prim.Native.Nat.{_-_}
 use Rattle.lines.proofs.outside.Statement.{statement}
 use Rattle.lines.proofs.outside.Tie as tie

@@ -1,5 +1,4 @@
 -- `location::add_two` meets its contract. Each pair sum is divided by its own group's weight sum, or the smallest normal number.
--- Assumes nothing.
 
 use native.Mathlib.Omega.{arith}
 use borrow.Author.Needs.{needs}

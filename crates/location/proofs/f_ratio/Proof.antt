@@ -1,5 +1,4 @@
 -- `location::f_ratio` meets its contract. Both degrees of freedom are at most 2 ^ 53, so each is an f64.
--- Assumes nothing.
 
 use mathlib.Core.Path.{refl}
 use Prim.Native.Nat.{_-_, _^_}

@@ -1,5 +1,4 @@
 -- `location::group_weight` meets its contract. A sum from -0.0.
--- Assumes nothing.
 
 use Prim.Native.Nat.{_-_}
 use Rattle.location.specs.Location.{groupWeight}

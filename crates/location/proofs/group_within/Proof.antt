@@ -1,5 +1,4 @@
 -- `location::group_within` meets its contract. The pair sum divided by the weight sum, or the smallest normal number.
--- Assumes nothing.
 
 use native.Mathlib.Omega.{arith}
 use borrow.Author.Needs.{needs}

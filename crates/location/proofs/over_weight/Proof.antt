@@ -1,5 +1,4 @@
 -- `location::over_weight` meets its contract. By what the weight sum and `max` ensure.
--- Assumes nothing.
 
 use borrow.Author.Needs.{needs}
 use Rattle.location.proofs.over_weight.Statement.{statement}

@@ -1,5 +1,4 @@
 -- `location::pseudo_f` meets its contract. The ratio of what is not within, and what is.
--- Assumes nothing.
 
 use Prim.Native.Nat.{_-_}
 use Rattle.location.specs.Location.{pseudoF}

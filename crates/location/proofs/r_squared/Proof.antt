@@ -1,5 +1,4 @@
 -- `location::r_squared` meets its contract. By whether the total is above 0.
--- Assumes nothing.
 use Prim.Native.Nat.{_-_}
 use Rattle.location.specs.Location.{rSquared}
 use Rattle.location.proofs.r_squared.Statement.{statement}

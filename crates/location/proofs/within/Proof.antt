@@ -1,5 +1,4 @@
 -- `location::within` meets its contract. All parts go by two, but a last odd one.
--- Assumes nothing.
 
 use mathlib.Core.Path.{refl}
 use Prim.Native.Nat.{ℕ, _+_, _-_, _*_, _/_}

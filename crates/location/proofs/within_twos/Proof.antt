@@ -1,5 +1,4 @@
 -- `location::within_twos` meets its contract. s is always the sum over the parts before 2 j.
--- Assumes nothing.
 
 use mathlib.Core.Path.{_≡_, ap}
 use Prim.Native.Nat.{_+_, _*_, _-_, _≤_}

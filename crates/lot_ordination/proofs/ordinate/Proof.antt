@@ -1,5 +1,4 @@
 -- `lot_ordination::ordinate` meets its contract. Fronts of just the lengths that n asks.
--- Assumes nothing.
 use mathlib.Core.Path.{_≡_, sym, _∙_}
 use Prim.Native.Nat.{ℕ, _+_, _*_, _≤_}
 use native.Mathlib.Omega.{arith}

@@ -1,5 +1,4 @@
 -- `lotjudge_c::lotjudge_dapc` meets its contract. The operation is called, and its answer laid out.
--- Assumes nothing.
 use borrow.Author.Needs.{needs}
 use Rattle.lotjudge_c.proofs.Exports.{dapc-returns}
 use Rattle.lotjudge_c.proofs.lotjudge_dapc.Statement.{statement}

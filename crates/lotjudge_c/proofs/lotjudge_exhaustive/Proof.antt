@@ -1,5 +1,4 @@
 -- `lotjudge_c::lotjudge_exhaustive` meets its contract. The operation is called, and its answer laid out.
--- Assumes nothing.
 use borrow.Author.Needs.{needs}
 use Rattle.layouts.specs.Coded.{arrays}
 use Rattle.lotjudge_c.proofs.Exports.{ways-return}

@@ -1,5 +1,4 @@
 -- `lotjudge_c::lotjudge_hash_pca` meets its contract. The operation is called, and its answer laid out.
--- Assumes nothing.
 use borrow.Author.Needs.{needs}
 use Rattle.lotjudge_c.proofs.Exports.{hash-pca-returns}
 use Rattle.lotjudge_c.proofs.lotjudge_hash_pca.Statement.{statement}

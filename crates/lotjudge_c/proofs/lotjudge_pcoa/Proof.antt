@@ -1,5 +1,4 @@
 -- `lotjudge_c::lotjudge_pcoa` meets its contract. The operation is called, and its answer laid out.
--- Assumes nothing.
 use borrow.Author.Needs.{needs}
 use Rattle.lotjudge_c.proofs.Exports.{pcoa-returns}
 use Rattle.lotjudge_c.proofs.lotjudge_pcoa.Statement.{statement}
@@ -27,7 +26,9 @@ same-length-5 : tie.Need-same-length-5
 same-length-5 c = c .before .before .before .before .before .before .before .before .before .before .before .pcoa .kept .1 .1 .1 .1 .1 .1 .1 .0
 
 returns : tie.Need-returns
-returns c = pcoa-returns (c .before .before .before .before .before .before .before .before .before .before .before .pcoa .ensures) (c .code-of .ensures)
+returns c =
+    let called = c .before .before .before .before .before .before .before .before .before .before .before in
+    pcoa-returns (called .pcoa .result) (called .pcoa .ensures) (c .code-of .ensures)
 
 pub lotjudge-pcoa-spec : {M : Type 1} → statement M
 lotjudge-pcoa-spec = tie.close (tie.spec pcoa-requires code-of-requires same-length same-length-2 same-length-3 same-length-4 same-length-5 returns)

@@ -1,4 +1,4 @@
--- `matrix::copy_row` meets its contract. The part that is copied is row i. Assumes nothing.
+-- `matrix::copy_row` meets its contract. The part that is copied is row i.
 use mathlib.Core.Path.{_∙_}
 use borrow.Author.Needs.{needs}
 use Rattle.lists.proofs.Rows.{part-row}

@@ -1,4 +1,4 @@
--- `matrix::has_nan` meets its contract. None of the first i is a NaN. Assumes nothing.
+-- `matrix::has_nan` meets its contract. None of the first i is a NaN.
 use mathlib.Core.Path.{_≡_, refl, sym, _∙_}
 use Prim.Native.Nat.{_-_, _≤_}
 use native.Mathlib.Omega.{arith}

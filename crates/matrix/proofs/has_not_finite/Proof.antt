@@ -1,4 +1,4 @@
--- `matrix::has_not_finite` meets its contract. Each of the first i is finite. Assumes nothing.
+-- `matrix::has_not_finite` meets its contract. Each of the first i is finite.
 use mathlib.Core.Path.{_≡_, refl, sym, ap, _∙_}
 use mathlib.Core.Bool.{not}
 use Prim.Native.Nat.{_-_, _≤_}

@@ -1,4 +1,4 @@
--- `matrix::put_row` meets its contract. The part that is written is row i. Assumes nothing.
+-- `matrix::put_row` meets its contract. The part that is written is row i.
 use mathlib.Core.Path.{ap, _∙_}
 use mathlib.Core.List.{List}
 use borrow.Author.Needs.{needs}

@@ -1,5 +1,4 @@
 -- `means::add_members` meets its contract. After i turns the first i samples are added.
--- Assumes nothing.
 
 use mathlib.Core.Path.{sym, _∙_}
 use mathlib.Core.Logic.{⊎-elim}

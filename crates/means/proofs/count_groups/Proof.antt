@@ -1,5 +1,4 @@
 -- `means::count_groups` meets its contract. After i turns the first i samples are counted.
--- Assumes nothing.
 
 use mathlib.Core.Path.{sym, subst}
 use mathlib.Core.Logic.{⊎-elim}

@@ -1,5 +1,4 @@
 -- `means::divide_rows` meets its contract. After j turns the first j rows are divided.
--- Assumes nothing.
 
 use mathlib.Core.Path.{ap}
 use Prim.Native.Nat.{ℕ, _-_, _^_}

@@ -1,5 +1,4 @@
 -- `means::fill_group_means` meets its contract. Counts and sums, and the sums divided.
--- Assumes nothing.
 
 use mathlib.Core.Path.{_≡_, sym, ap, _∙_}
 use Prim.Native.Nat.{ℕ, _*_, _-_}

@@ -1,5 +1,4 @@
 -- `means::fill_mean` meets its contract. Sums, divided.
--- Assumes nothing.
 
 use mathlib.Core.Path.{ap, _∙_}
 use Prim.Native.Nat.{_-_, _^_}

@@ -1,5 +1,4 @@
 -- `measurement::answer` meets its contract. What is observed, both p, and the answer by the groups' sizes.
--- Assumes nothing.
 use mathlib.Core.Path.{sym}
 use Prim.Native.Nat.{_≤_}
 use native.Mathlib.Omega.{arith}

@@ -1,5 +1,4 @@
 -- `moments::fill` meets its contract. Means, then the scatter about them.
--- Assumes nothing.
 use mathlib.Core.Path.{sym, ap, _∙_}
 use mathlib.Core.List.{List}
 use Prim.Native.Nat.{ℕ, _*_}

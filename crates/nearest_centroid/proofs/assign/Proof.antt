@@ -1,5 +1,4 @@
 -- `nearest_centroid::assign` meets its contract. After i turns the first i samples are assigned and counted.
--- Assumes nothing.
 
 use mathlib.Core.Path.{ap, _∙_}
 use mathlib.Core.Logic.{⊎-elim}

@@ -1,5 +1,4 @@
 -- `nearest_centroid::nearer` meets its contract. A NaN is not less, and ties stay with the lower group.
--- Assumes nothing.
 
 use Prim.Native.Nat.{_-_}
 use Rattle.nearest_centroid.specs.Assigned.{gap, unordered}

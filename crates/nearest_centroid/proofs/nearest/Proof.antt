@@ -1,5 +1,4 @@
 -- `nearest_centroid::nearest` meets its contract. After j turns the best of the first j is known.
--- Assumes nothing.
 
 use mathlib.Core.Path.{sym, _∙_}
 use Prim.Native.Nat.{_-_}

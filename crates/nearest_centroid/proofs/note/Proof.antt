@@ -1,5 +1,4 @@
 -- `nearest_centroid::note` meets its contract. By the two tests.
--- Assumes nothing.
 
 use mathlib.Core.Path.{sym, ap, _∙_}
 use mathlib.Core.Logic.{⊎-elim}

@@ -1,5 +1,4 @@
 -- `observation::disperse` meets its contract. The values' distances, and their F; 256 samples have room.
--- Assumes nothing.
 use mathlib.Core.Path.{_∙_}
 use native.Mathlib.Omega.{arith}
 use borrow.Author.Needs.{needs}

@@ -1,5 +1,4 @@
 -- `observation::list_groups` meets its contract. The parts are the members of the groups.
--- Assumes nothing.
 
 use mathlib.Core.Path.{ap, _∙_}
 use mathlib.Core.List.{List}

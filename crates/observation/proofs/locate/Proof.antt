@@ -1,5 +1,4 @@
 -- `observation::locate` meets its contract. Total, within, and what follows from both.
--- Assumes nothing.
 
 use Prim.Native.Nat.{_-_}
 use borrow.Author.Needs.{needs}

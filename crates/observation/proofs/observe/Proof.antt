@@ -1,5 +1,4 @@
 -- `observation::observe` meets its contract. The design's groups are the labels, and what is observed over the lot's own terms is the lot's.
--- Assumes nothing.
 use mathlib.Core.Path.{_≡_, sym, _∙_}
 use Prim.Native.Nat.{_≤_}
 use native.Mathlib.Omega.{arith}

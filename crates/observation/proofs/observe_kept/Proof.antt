@@ -1,5 +1,4 @@
 -- `observation::observe_kept` meets its contract. Location, dispersion and what is listed, over one grouping; 256 samples have room.
--- Assumes nothing.
 use mathlib.Core.Path.{ap, ap₂, _∙_}
 use mathlib.Core.List.{List}
 use native.Mathlib.Omega.{arith}

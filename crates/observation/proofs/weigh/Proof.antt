@@ -1,5 +1,4 @@
 -- `observation::weigh` meets its contract. The design's samples are weighed into the fronts of three slices.
--- Assumes nothing.
 use mathlib.Core.Path.{_≡_, sym, _∙_}
 use mathlib.Core.List.{List}
 use Prim.Native.Nat.{ℕ, _*_, _≤_}

@@ -1,5 +1,4 @@
 -- `observation::weigh_kept` meets its contract. Weights first, then what is made of them.
--- Assumes nothing.
 
 use mathlib.Core.Path.{ap, _∙_}
 use mathlib.Core.List.{List}

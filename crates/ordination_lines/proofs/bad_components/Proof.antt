@@ -1,5 +1,4 @@
 -- `ordination_lines::bad_components` meets its contract. Test by test.
--- Assumes nothing.
 use Prim.Native.Nat.{_-_}
 use borrow.Author.Tests.{eq-eqb, ne-eqb}
 use Rattle.ordination_lines.specs.Lines.{badComponents}

@@ -1,13 +1,13 @@
 -- `ordination_lines::check` meets its contract. The groups of lines go one after another, and the first that refuses wins.
--- Assumes nothing.
-use mathlib.Core.Path.{_≡_, sym, _∙_}
+use mathlib.Core.Path.{_≡_, sym}
 use mathlib.Core.List.{List, [], _++_}
+use native.Mathlib.Omega.{arith}
 use borrow.Author.Needs.{needs}
 use borrow.Author.Tests.{lt-ltb, le-ltb}
-use Rattle.outcome.specs.declared.Refusal.the-variants.{Ordination}
-use Rattle.outcome.specs.declared.Check.{Check}
+use Rattle.outcome.specs.Outcome.{Told}
+use Rattle.outcome.specs.Numbers.{told}
 use Rattle.outcome.specs.Refusals.{Line, first}
-use Rattle.outcome.proofs.Table.{first-holds, first-passes, told-refused, told-next}
+use Rattle.outcome.proofs.Table.{first-holds, first-passes, check-refused, check-next}
 use Rattle.lot.specs.Lines.{matrixLines}
 use Rattle.ordination_lines.specs.Lines.{fewLines, pcoaLines}
 use Rattle.ordination_lines.proofs.Lines.{sizesOf, sizes-told}
@@ -26,10 +26,11 @@ sizes s = let a = s .args in sizesOf (a .components) (a .n) (a .d .now) (a .out)
 abbrev rest : tie.Start → List Line
 rest s = matrixLines (s .args .d .now) ++ fewLines (s .args .n)
 
-sized : (c : tie.After-check-sizes) → c .check-sizes .result ≡ first (sizes (start c))
+sized : (c : tie.After-check-sizes) → told (c .check-sizes .result) ≡ first (sizes (start c))
 sized c =
     let a = start c .args in
-    sizes-told (a .components) (a .n) (a .d .now) (a .out) (a .b) (a .w) (a .m) (a .v) (start c .pre) (c .before .before .misfits .ensures) (c .before .bad-components .ensures) (c .check-sizes .ensures)
+    sizes-told (a .components) (a .n) (a .d .now) (a .out) (a .b) (a .w) (a .m) (a .v) (start c .pre)
+    (c .before .before .misfits .ensures) (c .before .bad-components .ensures) (c .check-sizes .ensures)
 
 -- ---- once the matrix is judged too
 
@@ -37,25 +38,25 @@ abbrev asked : tie.After-check-matrix → tie.After-check-sizes
 asked c = c .before .before .before
 
 -- where it refuses, and where what follows tells the line
-refused : (c : tie.After-enum-told4) → let at = c .before .before in at .check-matrix .result ≡ first (sizes (start (asked at)) ++ rest (start (asked at)))
+refused : (c : tie.After-enum-told4) → let at = c .before .before in told (at .check-matrix .result) ≡ first (sizes (start (asked at)) ++ rest (start (asked at)))
 refused c =
     let at = c .before .before in
     let s = start (asked at) in
-    told-next (sizes s) (rest s) (sized (asked at)) (at .before .enum-told .given .1)
-    (told-refused (matrixLines (s .args .d .now)) (fewLines (s .args .n)) (at .check-matrix .ensures) (c .enum-told4 .given .1))
+    check-next (sizes s) (rest s) (sized (asked at)) (at .before .enum-told .given .1)
+    (check-refused (matrixLines (s .args .d .now)) (fewLines (s .args .n)) (at .check-matrix .ensures) (c .enum-told4 .given .1))
 
-passed : (c : tie.After-enum-told3) {t : Check} → let s = start (asked (c .before .before)) in t ≡ first (fewLines (s .args .n)) → t ≡ first (sizes s ++ rest s)
+passed : (c : tie.After-enum-told3) {t : Told} → let s = start (asked (c .before .before)) in t ≡ first (fewLines (s .args .n)) → t ≡ first (sizes s ++ rest s)
 passed c e =
     let at = c .before .before in
     let s = start (asked at) in
-    told-next (sizes s) (rest s) (sized (asked at)) (at .before .enum-told .given .1)
-    (told-next (matrixLines (s .args .d .now)) (fewLines (s .args .n)) (at .check-matrix .ensures) (c .enum-told3 .given .1) e)
+    check-next (sizes s) (rest s) (sized (asked at)) (at .before .enum-told .given .1)
+    (check-next (matrixLines (s .args .d .now)) (fewLines (s .args .n)) (at .check-matrix .ensures) (c .enum-told3 .given .1) e)
 
 -- ---- what is left
 
 returns : tie.Need-returns
 unfolding pcoaLines
-returns c = let q = c .before .before in told-refused (sizes (start q)) (rest (start q)) (sized q) (c .enum-told2 .given .1)
+returns c = let q = c .before .before in check-refused (sizes (start q)) (rest (start q)) (sized q) (c .enum-told2 .given .1)
 
 returns-2 : tie.Need-returns-2
 unfolding pcoaLines
@@ -63,11 +64,11 @@ returns-2 c = refused c
 
 returns-3 : tie.Need-returns-3
 unfolding pcoaLines
-returns-3 c = passed (c .before) (sym (first-holds Ordination [] (lt-ltb _ _ (c .if1 .taken))))
+returns-3 c = passed (c .before) (sym (first-holds 6 [] (lt-ltb (start (asked (c .before .before .before)) .args .n) 3 (omega (arith, c .if1 .taken)))))
 
 returns-4 : tie.Need-returns-4
 unfolding pcoaLines first
-returns-4 c = passed (c .before) (sym (first-passes Ordination [] (le-ltb _ _ (c .if1 .left))))
+returns-4 c = passed (c .before) (sym (first-passes 6 [] (le-ltb (start (asked (c .before .before .before)) .args .n) 3 (omega (arith, c .if1 .left)))))
 
 pub check-spec : {M : Type 1} → statement M
 check-spec =

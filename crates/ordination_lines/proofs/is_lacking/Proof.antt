@@ -1,5 +1,4 @@
 -- `ordination_lines::is_lacking` meets its contract. Test by test.
--- Assumes nothing.
 use mathlib.Core.Path.{sym, _∙_}
 use Prim.Native.Nat.{_-_}
 use borrow.Author.Needs.{needs}

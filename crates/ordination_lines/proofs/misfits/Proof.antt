@@ -1,4 +1,4 @@
--- `ordination_lines::misfits` meets its contract. Test by test. Assumes nothing.
+-- `ordination_lines::misfits` meets its contract. Test by test.
 use mathlib.Core.Path.{sym, _∙_}
 use borrow.Author.Needs.{needs}
 use borrow.Author.Tests.{not-true, not-false}

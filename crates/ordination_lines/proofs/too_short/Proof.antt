@@ -1,5 +1,4 @@
 -- `ordination_lines::too_short` meets its contract. Test by test; n * n fits where n is below 2 ^ 32.
--- Assumes nothing.
 use Prim.Native.Nat.{_-_}
 use native.Mathlib.Omega.{arith}
 use Rattle.ordination_lines.proofs.Lines.{fitting, short-far, short-out, short-b, short-w, short-m, short-v}

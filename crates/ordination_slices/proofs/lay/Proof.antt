@@ -1,5 +1,4 @@
 -- `ordination_slices::lay` meets its contract. By whether the eigenpairs were found.
--- Assumes nothing.
 use mathlib.Core.Path.{refl, ap, _∙_}
 use borrow.Author.Needs.{needs}
 use lib.ListN.{take, drop}

@@ -1,4 +1,4 @@
--- `orthonormal::draw` meets its contract. The invariant: i words are drawn. Assumes nothing.
+-- `orthonormal::draw` meets its contract. The invariant: i words are drawn.
 use Prim.Native.Nat.{_-_}
 use native.Mathlib.Omega.{arith}
 use borrow.Author.Needs.{needs}

@@ -1,4 +1,4 @@
--- `orthonormal::first_block` meets its contract. What is drawn, made orthonormal. Assumes nothing.
+-- `orthonormal::first_block` meets its contract. What is drawn, made orthonormal.
 use mathlib.Core.Path.{ap, _∙_}
 use Prim.Native.Nat.{ℕ}
 use borrow.Author.Needs.{needs}

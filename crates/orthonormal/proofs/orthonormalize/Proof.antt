@@ -1,4 +1,4 @@
--- `orthonormal::orthonormalize` meets its contract. The invariant: the first j columns stand in q. Assumes nothing.
+-- `orthonormal::orthonormalize` meets its contract. The invariant: the first j columns stand in q.
 use mathlib.Core.Path.{sym, _∙_}
 use Prim.Native.Nat.{_-_}
 use native.Mathlib.Omega.{arith}

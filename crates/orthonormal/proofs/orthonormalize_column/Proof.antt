@@ -1,4 +1,4 @@
--- `orthonormal::orthonormalize_column` meets its contract. The part of z without its projections, and that at length 1 put into q. Assumes nothing.
+-- `orthonormal::orthonormalize_column` meets its contract. The part of z without its projections, and that at length 1 put into q.
 use mathlib.Core.Path.{ap, _∙_}
 use mathlib.Core.List.{List}
 use borrow.Author.Needs.{needs}

@@ -1,4 +1,4 @@
--- `orthonormal::project_off_all` meets its contract. The invariant: the parts along the first i columns are off. Assumes nothing.
+-- `orthonormal::project_off_all` meets its contract. The invariant: the parts along the first i columns are off.
 use mathlib.Core.Path.{_≡_, refl, ap, _∙_}
 use mathlib.Core.List.{List}
 use Prim.Native.Nat.{ℕ, _-_, _≤_}

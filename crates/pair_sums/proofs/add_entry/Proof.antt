@@ -1,5 +1,4 @@
 -- `pair_sums::add_entry` meets its contract. A sample's number is below m, so it has an entry in the row.
--- Assumes nothing.
 
 use native.Mathlib.Omega.{arith}
 use borrow.Author.Needs.{needs}

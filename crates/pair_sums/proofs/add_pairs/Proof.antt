@@ -1,5 +1,4 @@
 -- `pair_sums::add_pairs` meets its contract. In each list the pairs from x on, added to its sum, are always the whole sum.
--- Assumes nothing.
 
 use mathlib.Core.Path.{_≡_, refl}
 use Prim.Native.Nat.{_-_}

@@ -1,5 +1,4 @@
 -- `pair_sums::first_pairs` meets its contract. s is always the sum over the rows before x.
--- Assumes nothing.
 
 use mathlib.Core.Path.{_≡_, ap, _∙_}
 use Prim.Native.Nat.{ℕ, _-_, _≤_}

@@ -1,5 +1,4 @@
 -- `pair_sums::pair_sum` meets its contract. All members are the first ones.
--- Assumes nothing.
 
 use borrow.Author.Needs.{needs}
 use Rattle.pair_sums.proofs.Later.{first-all}

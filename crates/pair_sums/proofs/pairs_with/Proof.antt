@@ -1,5 +1,4 @@
 -- `pair_sums::pairs_with` meets its contract. The later members are their own part of the list.
--- Assumes nothing.
 
 use Prim.Native.Nat.{_+_}
 use native.Mathlib.Omega.{arith}

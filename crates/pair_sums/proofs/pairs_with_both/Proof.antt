@@ -1,5 +1,4 @@
 -- `pair_sums::pairs_with_both` meets its contract. In each list the later members are their own part, and both parts are of one length.
--- Assumes nothing.
 
 use Prim.Native.Nat.{_+_}
 use native.Mathlib.Omega.{arith}

@@ -1,5 +1,4 @@
 -- `pair_sums::row_sum` meets its contract. The terms from b on, added to s, are always the whole row.
--- Assumes nothing.
 use mathlib.Core.Path.{_≡_, refl}
 use mathlib.Core.List.{map}
 use Prim.Native.Nat.{_-_, _<_}

@@ -1,5 +1,4 @@
 -- `pair_sums::rows_sum` meets its contract. The rows from a on, added to s, are always the whole sum.
--- Assumes nothing.
 use mathlib.Core.Path.{_≡_, refl}
 use mathlib.Core.List.{map}
 use Prim.Native.Nat.{_-_}

@@ -1,5 +1,4 @@
 -- `pair_sums::sum` meets its contract. What is left, added to s, is always the whole sum.
--- Assumes nothing.
 use mathlib.Core.Path.{_≡_, refl}
 use Prim.Native.Nat.{_-_}
 use native.Mathlib.Omega.{arith}

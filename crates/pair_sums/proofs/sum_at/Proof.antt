@@ -1,5 +1,4 @@
 -- `pair_sums::sum_at` meets its contract. The numbers from x on, added to u, are always the whole sum.
--- Assumes nothing.
 
 use mathlib.Core.Path.{_≡_, refl, ap}
 use mathlib.Core.List.{map}

@@ -1,5 +1,4 @@
 -- `pair_sums::sum_entries` meets its contract. The entries from y on, added to u, are always the whole sum.
--- Assumes nothing.
 
 use mathlib.Core.Path.{_≡_, refl}
 use mathlib.Core.List.{map}

@@ -1,5 +1,4 @@
 -- `pair_sums::sum_rows` meets its contract. In each row the entries from y on, added to its sum, are always the whole sum.
--- Assumes nothing.
 
 use mathlib.Core.Path.{_≡_, refl}
 use mathlib.Core.List.{map}

@@ -1,5 +1,4 @@
 -- `pair_sums::two_pair_sums` meets its contract. What is left of both lists is of one length; each list's first members, then its rest, are its pair sum.
--- Assumes nothing.
 
 use native.Mathlib.Omega.{arith}
 use borrow.Author.Needs.{needs}

@@ -1,5 +1,4 @@
 -- `pairs::put_pair` meets its contract. The tests say whether the pair is new, and its cells lie within 32 rows of 32.
--- Assumes nothing.
 use Prim.Native.Nat.{_-_}
 use native.Mathlib.Omega.{arith}
 use lib.ListN.{length-set}
@@ -18,10 +17,10 @@ cast-j : tie.Need-cast-j
 cast-j c = search needs
 
 returns-2 : tie.Need-returns-2
-returns-2 c = put-none _ _ _ _ (not-upper _ _ _ (c .before .before .before .if1 .left) (c .if2 .taken))
+returns-2 c = put-none _ _ _ _ (not-upper _ _ _ (c .before .before .before .if1 .left) (omega (arith, c .if2 .taken)))
 
 returns-3 : tie.Need-returns-3
-returns-3 c = put-none _ _ _ _ (not-inside _ _ _ (c .before .before .before .before .if1 .left) (c .before .if2 .left) (c .if3 .taken))
+returns-3 c = put-none _ _ _ _ (not-inside _ _ _ (c .before .before .before .before .if1 .left) (omega (arith, c .before .if2 .left)) (c .if3 .taken))
 
 mul-p : tie.Need-mul-p
 mul-p c =
@@ -42,7 +41,10 @@ slice-read-if4 c =
     omega (arith, cell-lt (args .n) (args .f .first) (args .f .second) (pre .0) (omega arith) (omega arith))
 
 returns-4 : tie.Need-returns-4
-returns-4 c = put-none _ _ _ _ (was-seen _ _ _ (c .before .before .before .before .before .before .if1 .left) (c .before .before .before .if2 .left) (c .before .before .if3 .left) (c .if4 .taken))
+returns-4 c =
+    let at-if3 = c .before .before in
+    let at-if2 = at-if3 .before in
+    put-none _ _ _ _ (was-seen _ _ _ (at-if2 .before .before .before .if1 .left) (omega (arith, at-if2 .if2 .left)) (at-if3 .if3 .left) (c .if4 .taken))
 
 mul-q : tie.Need-mul-q
 mul-q c =
@@ -100,7 +102,7 @@ returns-5 c =
     let at-if3 = c .before .before .before in
     let at-if2 = at-if3 .before in
     let at-if1 = at-if2 .before .before .before in
-    put-one _ _ _ _ (is-new _ _ _ (at-if1 .if1 .left) (at-if2 .if2 .left) (at-if3 .if3 .left) (c .before .if4 .left)) (c .float-of .ensures)
+    put-one _ _ _ _ (is-new _ _ _ (at-if1 .if1 .left) (omega (arith, at-if2 .if2 .left)) (at-if3 .if3 .left) (c .before .if4 .left)) (c .float-of .ensures)
 
 pub put-pair-spec : {M : Type 1} → statement M
 put-pair-spec =

@@ -1,5 +1,4 @@
 -- `pcoa::coordinates_of` meets its contract. The centred matrix, and its coordinates.
--- Assumes nothing.
 use mathlib.Core.Path.{_∙_}
 use Prim.Native.Nat.{_-_}
 use Rattle.pcoa.proofs.Found.{centred-found}

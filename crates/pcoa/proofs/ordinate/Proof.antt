@@ -1,5 +1,4 @@
 -- `pcoa::ordinate` meets its contract. The eigenpairs have room of their own.
--- Assumes nothing.
 use mathlib.Core.Path.{sym}
 use Prim.Native.Nat.{_+_, _*_, _-_, _≤_}
 use native.Mathlib.Nat.{mul-le-mul}

@@ -1,5 +1,4 @@
 -- `pcoa::ordinate_in` meets its contract. By whether the eigenpairs were found.
--- Assumes nothing.
 use mathlib.Core.Path.{refl, _∙_}
 use borrow.Author.Needs.{needs}
 use Rattle.pcoa.proofs.Found.{refused-by, answered-by}

@@ -1,10 +1,7 @@
 -- `pcoa::pcoa` meets its contract. By whether a line of the table holds.
--- Assumes nothing.
-use mathlib.Core.Path.{sym, _∙_}
-use Prim.Native.Nat.{_-_}
 use borrow.Author.Needs.{needs}
 use lib.ListN.{length}
-use Rattle.pcoa.specs.Given.{given}
+use Rattle.outcome.proofs.Table.{told-passed, told-refused}
 use Rattle.pcoa.proofs.Call.{call-refused, call-passed}
 use Rattle.ordination_lines.proofs.Lines.{passed-fits}
 use Rattle.pcoa.proofs.pcoa.Statement.{statement}
@@ -29,7 +26,8 @@ solve-requires c κs =
     let at-leading = at-check .before in
     let at-start = at-leading .before .before .before .before .before .before .before in
     let a = at-start .args in
-    let f = passed-fits (a .components) (a .n) (a .distances .now) (length (a .out .now)) (length (a .b .now)) (length (a .w .now)) (length (a .m .now)) (length (a .v .now)) (at-leading .leading .ensures) (sym (at-enum-told .enum-told .given .1) ∙ at-check .check .ensures) in
+    let f = passed-fits (a .components) (a .n) (a .distances .now) (length (a .out .now)) (length (a .b .now)) (length (a .w .now)) (length (a .m .now)) (length (a .v .now))
+    (at-leading .leading .ensures) (told-passed (at-check .check .ensures) (at-enum-told .enum-told .given .1)) in
     let k = f .asks in
     let r = f .room in
     ((f .distances, f .few, k .below, k .most), (r .out-fits, r .b-fits, r .w-fits, r .m-fits, r .v-fits))
@@ -40,7 +38,8 @@ returns c =
     let at-check = at-c .before .before in
     let at-start = at-check .before .before .before .before .before .before .before .before in
     let a = at-start .args in
-    call-refused (a .components) (a .n) (a .distances .now) (a .out .now) (a .b .now) (a .w .now) (a .m .now) (a .v .now) (sym (at-c .c .given .1) ∙ at-check .check .ensures)
+    call-refused (a .components) (a .n) (a .distances .now) (a .out .now) (a .b .now) (a .w .now) (a .m .now) (a .v .now)
+    (told-refused (at-check .check .ensures) (at-c .c .given .1))
 
 same-length : tie.Need-same-length
 same-length c = c .before .before .before .before .before .before .before .before .before .before .solve .kept .1 .1 .1 .0
@@ -65,7 +64,8 @@ returns-2 c =
     let at-leading = at-check .before in
     let at-start = at-leading .before .before .before .before .before .before .before in
     let a = at-start .args in
-    call-passed (a .components) (a .n) (a .distances .now) (a .out .now) (a .b .now) (a .w .now) (a .m .now) (a .v .now) (at-leading .leading .ensures) (sym (at-enum-told .enum-told .given .1) ∙ at-check .check .ensures) (at-solve .solve .ensures)
+    call-passed (a .components) (a .n) (a .distances .now) (a .out .now) (a .b .now) (a .w .now) (a .m .now) (a .v .now)
+    (at-leading .leading .ensures) (told-passed (at-check .check .ensures) (at-enum-told .enum-told .given .1)) (at-solve .solve .ensures)
 
 pub pcoa-spec : {M : Type 1} → statement M
 pcoa-spec =

@@ -1,5 +1,4 @@
 -- `pcoa::settle` meets its contract. The first parts are lent to `ordinate`, and come back to the longer slices.
--- Assumes nothing.
 use mathlib.Core.Path.{sym, ap, _∙_}
 use Prim.Native.Nat.{ℕ, _+_, _*_, _-_}
 use borrow.Author.Needs.{needs}

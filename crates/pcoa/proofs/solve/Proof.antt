@@ -1,5 +1,4 @@
 -- `pcoa::solve` meets its contract. The centred matrix goes to the front of b.
--- Assumes nothing.
 use mathlib.Core.Path.{sym, _∙_}
 use Prim.Native.Nat.{_*_, _-_}
 use native.Mathlib.Omega.{arith}

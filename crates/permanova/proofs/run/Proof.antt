@@ -1,5 +1,4 @@
 -- `permanova::run` meets its contract. Weights, terms and pulls of the design's samples, the answer over them, and both work slices are zero.
--- Assumes nothing.
 use mathlib.Core.Path.{_≡_, refl, sym, _∙_}
 use mathlib.Core.List.{List}
 use Prim.Native.Nat.{ℕ, _*_, _≤_}

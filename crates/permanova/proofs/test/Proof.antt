@@ -1,8 +1,9 @@
 -- `permanova::test` meets its contract. By whether a line of the table holds.
--- Assumes nothing.
 use mathlib.Core.Path.{_≡_, sym, _∙_}
 use borrow.Author.Needs.{needs}
-use Rattle.outcome.specs.declared.Check.the-variants.{Passed}
+use Rattle.outcome.specs.Outcome as outcome
+use Rattle.outcome.specs.Numbers.{told}
+use Rattle.outcome.proofs.Table.{told-passed}
 use Rattle.lot.specs.Lot.{Lot, lotOf}
 use Rattle.designs.specs.Designs.{Describes}
 use Rattle.designs.proofs.Designs.{designs-lot}
@@ -23,16 +24,16 @@ lot c = let a = start c .args in lotOf (a .n) (a .distances .now) (a .labels .no
 abbrev lent : tie.After-check-lot → Slices
 lent c = let a = start c .args in slicesOf (a .names .now) (a .counts .now) (a .means .now) (a .terms .now) (a .pulls .now)
 
-told : (c : tie.After-check-lot) → c .check-lot .result ≡ testCheck (lot c) (start c .args .n-perm) (lent c)
-told c = checked (lot c) (start c .args .seed) (start c .args .n-perm) (lent c) (c .before .before .too-short .ensures) (c .before .too-many .ensures) (c .check-lot .ensures)
+said : (c : tie.After-check-lot) → told (c .check-lot .result) ≡ testCheck (lot c) (start c .args .n-perm) (lent c)
+said c = checked (lot c) (start c .args .seed) (start c .args .n-perm) (lent c) (c .before .before .too-short .ensures) (c .before .too-many .ensures) (c .check-lot .ensures)
 
 -- ---- once it lets the lot pass
 
 abbrev asked : tie.After-enum-told → tie.After-check-lot
 asked c = c .before .before
 
-passed : (c : tie.After-enum-told) → testCheck (lot (asked c)) (start (asked c) .args .n-perm) (lent (asked c)) ≡ Passed
-passed c = sym (told (asked c)) ∙ c .enum-told .given .1
+passed : (c : tie.After-enum-told) → testCheck (lot (asked c)) (start (asked c) .args .n-perm) (lent (asked c)) ≡ outcome.passed
+passed c = sym (told-passed (said (asked c)) (c .enum-told .given .1))
 
 design : (c : tie.After-design-of) → Describes (lot (asked (c .before))) (c .design-of .result)
 design c = designs-lot (lot (asked (c .before))) (c .design-of .ensures)
@@ -71,7 +72,7 @@ test-spec =
     (λ c κs. let q = asked c in designable (lot q) (start q .args .n-perm) (lent q) (passed c))
     (λ c κs. let at = c .before in let q = asked (at .before) in names-room (lot q) (start q .args .seed) (start q .args .n-perm) (lent q) (passed (at .before)) (design at))
     run-requires
-    (λ c. let q = c .before .before .before in call-refused (lot q) (start q .args .seed) (start q .args .n-perm) (lent q) (sym (c .before .c .given .1) ∙ told q))
+    (λ c. let q = c .before .before .before in call-refused (lot q) (start q .args .seed) (start q .args .n-perm) (lent q) (said q) (c .before .c .given .1))
     (λ c. search needs)
     (λ c. search needs)
     (λ c. search needs)

@@ -1,4 +1,4 @@
--- `power::power_bound` meets its contract. After k steps, what is left to do from here gives what was to be done at the start. Assumes nothing.
+-- `power::power_bound` meets its contract. After k steps, what is left to do from here gives what was to be done at the start.
 use mathlib.Core.Path.{_≡_, refl, ap, _∙_}
 use Prim.Native.Nat.{_-_}
 use native.Mathlib.Omega.{arith}

@@ -1,4 +1,4 @@
--- `power::power_step` meets its contract. The product, and its length. Assumes nothing.
+-- `power::power_step` meets its contract. The product, and its length.
 use mathlib.Core.Path.{ap, _∙_}
 use borrow.Author.Needs.{needs}
 use Rattle.vectors.specs.Vectors.{norm}

@@ -1,5 +1,4 @@
 -- `printing::print_into` meets its contract. By cases.
--- Assumes nothing.
 use Prim.Native.Nat.{_-_}
 use native.Mathlib.Omega.{arith}
 use borrow.Author.Needs.{needs}

@@ -1,5 +1,4 @@
 -- `printing::print_refusal` meets its contract. One line.
--- Assumes nothing.
 use Prim.Native.Nat.{ℕ, _+_, _-_}
 use mathlib.Core.Path.{ap}
 use mathlib.Core.List.{_++_}

@@ -1,5 +1,4 @@
 -- `printing::print_verdict` meets its contract. Five lines.
--- Assumes nothing.
 use Prim.Native.Nat.{_-_}
 use borrow.Author.Needs.{needs}
 use Rattle.printing.specs.Printed.{verdictLines}

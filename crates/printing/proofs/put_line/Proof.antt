@@ -1,5 +1,4 @@
 -- `printing::put_line` meets its contract. One text after another.
--- Assumes nothing.
 use Prim.Native.Nat.{_-_}
 use borrow.Author.Needs.{needs}
 use Rattle.hexadecimal.proofs.Writing.{wrote-then}

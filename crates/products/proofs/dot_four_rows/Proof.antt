@@ -1,4 +1,4 @@
--- `products::dot_four_rows` meets its contract. The parts lent are the rows. Assumes nothing.
+-- `products::dot_four_rows` meets its contract. The parts lent are the rows.
 use mathlib.Core.Path.{_≡_}
 use mathlib.Core.List.{List}
 use Prim.Native.Nat.{ℕ, _+_, _-_, _*_}

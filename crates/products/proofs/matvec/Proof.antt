@@ -1,4 +1,4 @@
--- `products::matvec` meets its contract. The invariant: the first i entries are written. Assumes nothing.
+-- `products::matvec` meets its contract. The invariant: the first i entries are written.
 use Prim.Native.Nat.{_-_}
 use native.Mathlib.Omega.{arith}
 use denote.Ref.{now}

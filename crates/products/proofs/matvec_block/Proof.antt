@@ -1,4 +1,4 @@
--- `products::matvec_block` meets its contract. The invariant: the first c columns are written. Assumes nothing.
+-- `products::matvec_block` meets its contract. The invariant: the first c columns are written.
 use mathlib.Core.Path.{_≡_, ap, _∙_}
 use mathlib.Core.List.{List}
 use Prim.Native.Nat.{ℕ, _-_}

@@ -1,4 +1,4 @@
--- `products::matvec_from` meets its contract. One entry by its row, or four by theirs. Assumes nothing.
+-- `products::matvec_from` meets its contract. One entry by its row, or four by theirs.
 use mathlib.Core.Path.{ap, _∙_}
 use mathlib.Core.List.{List}
 use Prim.Native.Nat.{ℕ, _+_, _*_, _≤_}

@@ -1,4 +1,4 @@
--- `products::put_four` meets its contract. Four writes. Assumes nothing.
+-- `products::put_four` meets its contract. Four writes.
 use native.Mathlib.Omega.{arith}
 use borrow.Author.Needs.{needs}
 use lib.ListN.{length-set}

@@ -1,5 +1,4 @@
 -- `replay::byte` meets its contract. An element of a `&[u8]` fits a `u64`.
--- Assumes nothing.
 use Prim.Native.Nat.{_-_}
 use native.Mathlib.Omega.{arith}
 use borrow.Author.Needs.{needs}

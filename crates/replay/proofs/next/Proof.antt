@@ -1,5 +1,4 @@
 -- `replay::next` meets its contract. The part lent has the length that is announced.
--- Assumes nothing.
 use Prim.Native.Nat.{_-_}
 use borrow.Author.Needs.{needs}
 use mathlib.Core.Path.{sym}

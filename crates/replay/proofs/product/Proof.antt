@@ -1,5 +1,4 @@
 -- `replay::product` meets its contract. Both are at most 65,536.
--- Assumes nothing.
 use Prim.Native.Nat.{_-_}
 use native.Mathlib.Omega.{arith}
 use borrow.Author.Needs.{needs}

@@ -1,5 +1,4 @@
 -- `replay::read_floats` meets its contract. It is safe and ends.
--- Assumes nothing.
 use Prim.Native.Nat.{_-_}
 use native.Mathlib.Omega.{arith}
 use mathlib.Core.Path.{_≡_, refl, _∙_}

@@ -1,5 +1,4 @@
 -- `replay::same` meets its contract. What has a pattern is no NaN.
--- Assumes nothing.
 use Prim.Native.Nat.{_-_}
 use borrow.Author.Needs.{needs}
 use Rattle.float.proofs.Nan.{same-no-nan}

@@ -1,5 +1,4 @@
 -- `replay::same_floats` meets its contract. It is safe and ends.
--- Assumes nothing.
 use Prim.Native.Nat.{_-_}
 use native.Mathlib.Omega.{arith}
 use lib.ListN.{length}

@@ -1,5 +1,4 @@
 -- `replay::value` meets its contract. The test leaves no pattern of a NaN.
--- Assumes nothing.
 use Prim.Native.Nat.{_-_}
 use borrow.Author.Needs.{needs}
 use Rattle.float.proofs.Nan.{pattern-no-nan}

@@ -1,5 +1,4 @@
 -- `replay::word` meets its contract. It is safe and ends.
--- Assumes nothing.
 use Prim.Native.Nat.{_-_, _≤_}
 use native.Mathlib.Omega.{arith}
 use Rattle.replay.proofs.word.Statement.{statement}

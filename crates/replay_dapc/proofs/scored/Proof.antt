@@ -1,5 +1,4 @@
 -- `replay_dapc::scored` meets its contract. The part lent is the front.
--- Assumes nothing.
 use Prim.Native.Nat.{_-_}
 use mathlib.Core.Path.{sym}
 use lib.Seq.{length-take-le}

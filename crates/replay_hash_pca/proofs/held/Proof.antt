@@ -1,5 +1,4 @@
 -- `replay_hash_pca::held` meets its contract. What is read into a slice keeps its length.
--- Assumes nothing.
 use Prim.Native.Nat.{_-_}
 use borrow.Author.Needs.{needs}
 use Rattle.replay_hash_pca.proofs.held.Statement.{statement}

@@ -1,5 +1,4 @@
 -- `replay_pcoa::found` meets its contract. The part lent is a front.
--- Assumes nothing.
 use Prim.Native.Nat.{_-_}
 use mathlib.Core.Path.{sym}
 use lib.Seq.{length-take-le}

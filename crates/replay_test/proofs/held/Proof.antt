@@ -1,5 +1,4 @@
 -- `replay_test::held` meets its contract. What is read into a slice keeps its length.
--- Assumes nothing.
 use Prim.Native.Nat.{_-_}
 use borrow.Author.Needs.{needs}
 use Rattle.replay_test.proofs.held.Statement.{statement}

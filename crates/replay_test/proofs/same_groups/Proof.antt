@@ -1,5 +1,4 @@
 -- `replay_test::same_groups` meets its contract. It is safe and ends.
--- Assumes nothing.
 use Prim.Native.Nat.{_-_}
 use native.Mathlib.Omega.{arith}
 use Rattle.replay_test.proofs.same_groups.Statement.{statement}

@@ -1,5 +1,4 @@
 -- `replays::all` meets its contract. Each record is the front of the bytes.
--- Assumes nothing.
 use Prim.Native.Nat.{_-_}
 use mathlib.Core.Path.{_≡_, refl, _∙_, sym}
 use native.Mathlib.Omega.{arith}

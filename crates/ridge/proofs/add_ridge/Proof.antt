@@ -1,5 +1,4 @@
 -- `ridge::add_ridge` meets its contract. The ridge is worked out first.
--- Assumes nothing.
 
 use Prim.Native.Nat.{_-_, _^_}
 use native.Mathlib.Omega.{arith}

@@ -1,5 +1,4 @@
 -- `ridge::raise` meets its contract. After a turns the first a are raised.
--- Assumes nothing.
 
 use mathlib.Core.Path.{refl, sym, ap, _∙_}
 use mathlib.Core.Bool.{Bool, cond}

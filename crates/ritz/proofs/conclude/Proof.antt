@@ -1,4 +1,4 @@
--- `ritz::conclude` meets its contract. By what Jacobi answers. Assumes nothing.
+-- `ritz::conclude` meets its contract. By what Jacobi answers.
 use mathlib.Core.Path.{ap}
 use mathlib.Core.List.{List}
 use native.Mathlib.Omega.{arith}

@@ -1,4 +1,4 @@
--- `ritz::decompose` meets its contract. The small matrix is filled, made even and taken apart. Assumes nothing.
+-- `ritz::decompose` meets its contract. The small matrix is filled, made even and taken apart.
 use mathlib.Core.Path.{ap, _∙_}
 use borrow.Author.Needs.{needs}
 use Rattle.jacobi.specs.Eigen.{jacobi}

@@ -1,4 +1,4 @@
--- `ritz::decompose_in` meets its contract. Room of its own. Assumes nothing.
+-- `ritz::decompose_in` meets its contract. Room of its own.
 use mathlib.Core.Path.{sym}
 use native.Mathlib.Omega.{arith}
 use lib.Seq.{length-take-le}

@@ -1,4 +1,4 @@
--- `ritz::rayleigh_ritz` meets its contract. Room of its own. Assumes nothing.
+-- `ritz::rayleigh_ritz` meets its contract. Room of its own.
 use mathlib.Core.Path.{sym}
 use native.Mathlib.Omega.{arith}
 use borrow.Author.Needs.{needs}

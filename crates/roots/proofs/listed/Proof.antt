@@ -1,4 +1,4 @@
--- `roots::listed` meets its contract: the loop counts up to the length. Assumes nothing.
+-- `roots::listed` meets its contract: the loop counts up to the length.
 use Prim.Native.Nat.{_≤_, _-_}
 use borrow.Author.Needs.{needs}
 use Rattle.roots.proofs.listed.Statement.{statement}

@@ -1,4 +1,4 @@
--- `roots::pattern` meets its contract: what has a pattern is no NaN. Assumes nothing.
+-- `roots::pattern` meets its contract: what has a pattern is no NaN.
 use borrow.Author.Needs.{needs}
 use Rattle.float.proofs.Nan.{same-no-nan}
 use Rattle.roots.proofs.pattern.Statement.{statement}

@@ -1,4 +1,4 @@
--- `roots::powers` meets its contract: the loop counts up to a bound. Assumes nothing.
+-- `roots::powers` meets its contract: the loop counts up to a bound.
 use Prim.Native.Nat.{_≤_, _<_, _-_}
 use borrow.Author.Needs.{needs}
 use Rattle.roots.proofs.powers.Statement.{statement}

@@ -1,4 +1,4 @@
--- `roots::random` meets its contract: the loop counts up to a bound. Assumes nothing.
+-- `roots::random` meets its contract: the loop counts up to a bound.
 use Prim.Native.Nat.{_≤_, _-_}
 use borrow.Author.Needs.{needs}
 use Rattle.roots.proofs.random.Statement.{statement}

@@ -1,4 +1,4 @@
--- `roots::squares` meets its contract: the loop counts up to a bound, and the squares are below 2 ^ 53. Assumes nothing.
+-- `roots::squares` meets its contract: the loop counts up to a bound, and the squares are below 2 ^ 53.
 use Prim.Native.Nat.{_-_, _^_, _≤_, _<_}
 use native.Mathlib.Nat.{le-trans, le-of-lt, mul-le-mul}
 use native.Mathlib.Omega.{arith}

@@ -1,4 +1,4 @@
--- `roots::subnormals` meets its contract: the loop doubles b up to a bound. Assumes nothing.
+-- `roots::subnormals` meets its contract: the loop doubles b up to a bound.
 use Prim.Native.Nat.{_≤_, _<_, _-_}
 use borrow.Author.Needs.{needs}
 use Rattle.roots.proofs.subnormals.Statement.{statement}

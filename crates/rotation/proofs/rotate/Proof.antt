@@ -1,4 +1,4 @@
--- `rotation::rotate` meets its contract. By whether the entry of the pair is below 1e-300. Assumes nothing.
+-- `rotation::rotate` meets its contract. By whether the entry of the pair is below 1e-300.
 use Prim.Native.Nat.{_+_, _*_, _<_}
 use native.Mathlib.Omega.{arith}
 use borrow.Author.Needs.{needs}

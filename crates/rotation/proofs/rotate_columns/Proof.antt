@@ -1,4 +1,4 @@
--- `rotation::rotate_columns` meets its contract. After i turns the first i rows are done; row i is lent as its own part. Assumes nothing.
+-- `rotation::rotate_columns` meets its contract. After i turns the first i rows are done; row i is lent as its own part.
 use mathlib.Core.Path.{_≡_, refl, _∙_}
 use Prim.Native.Nat.{_+_, _*_, _-_, _≤_}
 use native.Mathlib.Omega.{arith}

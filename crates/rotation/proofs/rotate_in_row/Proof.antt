@@ -1,4 +1,4 @@
--- `rotation::rotate_in_row` meets its contract. The two stores are the definition. Assumes nothing.
+-- `rotation::rotate_in_row` meets its contract. The two stores are the definition.
 use mathlib.Core.Path.{refl}
 use borrow.Author.Needs.{needs}
 use Rattle.rotation.specs.Rotation.{turnEntries}

@@ -1,4 +1,4 @@
--- `rotation::rotate_pair` meets its contract. After k turns the first k entries of both rows are turned, and the rest are as they were. Assumes nothing.
+-- `rotation::rotate_pair` meets its contract. After k turns the first k entries of both rows are turned, and the rest are as they were.
 use mathlib.Core.Path.{sym, ap, ap₂, _∙_}
 use mathlib.Core.List.{List}
 use Prim.Native.Nat.{ℕ, _-_}

@@ -1,4 +1,4 @@
--- `rotation::rotate_rows` meets its contract. Row q is lent as its own part. Assumes nothing.
+-- `rotation::rotate_rows` meets its contract. Row q is lent as its own part.
 use mathlib.Core.Path.{ap, _∙_}
 use mathlib.Core.List.{List, zipWith}
 use borrow.Author.Needs.{needs}

@@ -1,4 +1,4 @@
--- `rotation::tangent` meets its contract. By whether theta is a zero. Assumes nothing.
+-- `rotation::tangent` meets its contract. By whether theta is a zero.
 use borrow.Author.Needs.{needs}
 use Rattle.rotation.specs.Rotation.{tangent}
 use Rattle.rotation.proofs.tangent.Statement.{statement}

@@ -1,4 +1,4 @@
--- `rotation::turn` meets its contract. The calls are the definition. Assumes nothing.
+-- `rotation::turn` meets its contract. The calls are the definition.
 use Prim.Native.Nat.{_+_, _*_, _≤_}
 use native.Mathlib.Omega.{arith}
 use borrow.Author.Needs.{needs}

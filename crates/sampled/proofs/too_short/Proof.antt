@@ -1,5 +1,4 @@
 -- `sampled::too_short` meets its contract. The slices in turn; from 2 ^ 32 on n times n is above every length.
--- Assumes nothing.
 use Prim.Native.Nat.{_*_, _-_, _≤_}
 use native.Mathlib.Nat.{mul-le-mul}
 use native.Mathlib.Omega.{arith}

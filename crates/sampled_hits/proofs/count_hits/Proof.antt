@@ -1,5 +1,4 @@
 -- `sampled_hits::count_hits` meets its contract. The hits so far and those of the shuffles left are always all.
--- Assumes nothing.
 use mathlib.Core.Path.{refl, sym, subst, _∙_}
 use mathlib.Core.List.{List, _++_}
 use Prim.Native.Nat.{ℕ, _-_, _<_, _≤_}

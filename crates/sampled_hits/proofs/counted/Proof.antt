@@ -1,5 +1,4 @@
 -- `sampled_hits::counted` meets its contract. By whether it is so.
--- Assumes nothing.
 
 use Prim.Native.Nat.{_-_}
 use native.Mathlib.Omega.{arith}

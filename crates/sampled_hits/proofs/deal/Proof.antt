@@ -1,5 +1,4 @@
 -- `sampled_hits::deal` meets its contract. A shuffle gives each sample a group, and the groups get their members.
--- Assumes nothing.
 use borrow.Author.Needs.{needs}
 use Rattle.shuffles.proofs.Shuffles.{labels-are}
 use Rattle.sampled_hits.proofs.Tally.{labelled-again}

@@ -1,5 +1,4 @@
 -- `sampled_hits::dispersion_hit` meets its contract. F of the observed z over the members of the groups, held against the observed.
--- Assumes nothing.
 use borrow.Author.Needs.{needs}
 use Rattle.sampled_hits.specs.Drawn.{dispersionHit}
 use Rattle.sampled_hits.proofs.dispersion_hit.Statement.{statement}

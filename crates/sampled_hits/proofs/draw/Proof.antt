@@ -1,5 +1,4 @@
 -- `sampled_hits::draw` meets its contract. The strata become parts of a list, and the shuffles within them are counted.
--- Assumes nothing.
 use mathlib.Core.Path.{_≡_, sym, _∙_}
 use Prim.Native.Nat.{_≤_}
 use native.Mathlib.Omega.{arith}

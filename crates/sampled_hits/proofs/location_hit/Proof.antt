@@ -1,5 +1,4 @@
 -- `sampled_hits::location_hit` meets its contract. F over the members of the groups, held against the observed.
--- Assumes nothing.
 use borrow.Author.Needs.{needs}
 use Rattle.sampled_hits.specs.Drawn.{locationHit}
 use Rattle.sampled_hits.proofs.location_hit.Statement.{statement}

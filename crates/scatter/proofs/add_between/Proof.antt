@@ -1,5 +1,4 @@
 -- `scatter::add_between` meets its contract. After j turns the first j groups are added.
--- Assumes nothing.
 
 use mathlib.Core.Path.{_≡_, sym, _∙_}
 use Prim.Native.Nat.{_-_, _^_}

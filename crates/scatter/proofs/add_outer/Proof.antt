@@ -1,5 +1,4 @@
 -- `scatter::add_outer` meets its contract. After a turns the first a rows are added to.
--- Assumes nothing.
 
 use mathlib.Core.Path.{refl, sym, _∙_}
 use Prim.Native.Nat.{_-_}

@@ -1,5 +1,4 @@
 -- `scatter::add_within` meets its contract. After i turns the first i samples are added.
--- Assumes nothing.
 
 use mathlib.Core.Path.{_≡_, sym, ap, _∙_}
 use mathlib.Core.Logic.{⊎-elim}

@@ -1,5 +1,4 @@
 -- `scatter::fill_scatter` meets its contract. Within, with the ridge, and between.
--- Assumes nothing.
 
 use mathlib.Core.Path.{sym, ap, _∙_}
 use Prim.Native.Nat.{ℕ, _*_, _-_}

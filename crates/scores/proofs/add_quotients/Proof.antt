@@ -1,5 +1,4 @@
 -- `scores::add_quotients` meets its contract. After c turns the first c entries are written, and the others stand as they were.
--- Assumes nothing.
 use mathlib.Core.Path.{ap}
 use Prim.Native.Nat.{_-_}
 use native.Mathlib.Omega.{arith}

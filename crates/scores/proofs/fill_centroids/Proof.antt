@@ -1,5 +1,4 @@
 -- `scores::fill_centroids` meets its contract. After i turns the first i samples are added.
--- Assumes nothing.
 
 use mathlib.Core.Path.{sym, ap, _∙_}
 use mathlib.Core.Logic.{⊎-elim}

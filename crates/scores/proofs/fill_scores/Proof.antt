@@ -1,5 +1,4 @@
 -- `scores::fill_scores` meets its contract. After i turns the scores of the first i samples stand there.
--- Assumes nothing.
 
 use mathlib.Core.Path.{_≡_, sym, ap, _∙_}
 use Prim.Native.Nat.{ℕ, _*_, _-_}

@@ -1,5 +1,4 @@
 -- `scores::score_row` meets its contract. After a turns the first a scores stand there.
--- Assumes nothing.
 use mathlib.Core.Path.{sym, _∙_}
 use Prim.Native.Nat.{_-_}
 use native.Mathlib.Omega.{arith}

@@ -1,5 +1,4 @@
 -- `separation::decompose` meets its contract. By the pivots, and by the answer of the eigenpairs.
--- Assumes nothing.
 use mathlib.Core.Path.{sym, _∙_}
 use Prim.Native.Nat.{_+_, _*_, _≤_}
 use native.Mathlib.Omega.{arith}

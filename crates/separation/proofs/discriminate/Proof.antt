@@ -1,5 +1,4 @@
 -- `separation::discriminate` meets its contract. The axes are counted first, then means and scatter are filled.
--- Assumes nothing.
 use mathlib.Core.Path.{sym, ap, subst, _∙_}
 use Prim.Native.Nat.{ℕ, _*_, _≤_}
 use native.Mathlib.Omega.{arith}

@@ -1,5 +1,4 @@
 -- `separation::eigenpairs` meets its contract. The eigenpairs of the whitened matrix.
--- Assumes nothing.
 use mathlib.Core.Path.{sym, ap, _∙_}
 use mathlib.Core.List.{List}
 use Prim.Native.Nat.{_*_, _≤_}

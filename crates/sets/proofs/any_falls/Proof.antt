@@ -1,4 +1,4 @@
--- `sets::any_falls` meets its contract: no step passed falls. Assumes nothing.
+-- `sets::any_falls` meets its contract: no step passed falls.
 use mathlib.Core.Path.{_≡_, refl, sym, _∙_}
 use Prim.Native.Nat.{_+_, _-_, _≤_}
 use native.Mathlib.Omega.{arith}

@@ -1,4 +1,4 @@
--- `sets::bad_offsets` meets its contract: each answer rewrites with the tests that led there. Assumes nothing.
+-- `sets::bad_offsets` meets its contract: each answer rewrites with the tests that led there.
 use Prim.Native.Nat.{_+_}
 use native.Mathlib.Omega.{arith}
 use borrow.Author.Tests.{eq-eqb, ne-eqb}

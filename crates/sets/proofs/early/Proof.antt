@@ -1,4 +1,4 @@
--- `sets::early` meets its contract: each answer rewrites with the tests that led there. Assumes nothing.
+-- `sets::early` meets its contract: each answer rewrites with the tests that led there.
 use mathlib.Core.Path.{sym, _∙_}
 use borrow.Author.Tests.{lt-ltb, le-ltb}
 use Rattle.sets.specs.Lines.{earlyLines}

@@ -1,4 +1,4 @@
--- `sets::too_short` meets its contract: from 2 ^ 32 on n times n is above every length. Assumes nothing.
+-- `sets::too_short` meets its contract: from 2 ^ 32 on n times n is above every length.
 use mathlib.Core.Path.{sym}
 use Prim.Native.Nat.{_*_, _≤_}
 use native.Mathlib.Nat.{mul-le-mul}

@@ -1,4 +1,4 @@
--- `shuffles::draw_below` meets its contract. The next word, mod the bound. Assumes nothing.
+-- `shuffles::draw_below` meets its contract. The next word, mod the bound.
 use borrow.Author.Needs.{needs}
 use Rattle.shuffles.specs.Shuffle.{drawBelow}
 use Rattle.shuffles.proofs.draw_below.Statement.{statement}

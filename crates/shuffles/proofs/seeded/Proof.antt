@@ -1,4 +1,4 @@
--- `shuffles::seeded` meets its contract. The product wraps. Assumes nothing.
+-- `shuffles::seeded` meets its contract. The product wraps.
 use borrow.Author.Needs.{needs}
 use Rattle.shuffles.specs.Shuffle.{seeded}
 use Rattle.shuffles.proofs.seeded.Statement.{statement}

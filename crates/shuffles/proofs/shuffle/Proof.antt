@@ -1,4 +1,4 @@
--- `shuffles::shuffle` meets its contract. After k turns the first k parts are shuffled. Assumes nothing.
+-- `shuffles::shuffle` meets its contract. After k turns the first k parts are shuffled.
 use mathlib.Core.Path.{ap, _∙_}
 use mathlib.Core.List.{List}
 use Prim.Native.Nat.{ℕ, _-_}

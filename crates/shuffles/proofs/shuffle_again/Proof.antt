@@ -1,4 +1,4 @@
--- `shuffles::shuffle_again` meets its contract. From a copy of the labels and the state of shuffle t. Assumes nothing.
+-- `shuffles::shuffle_again` meets its contract. From a copy of the labels and the state of shuffle t.
 use mathlib.Core.Path.{_∙_}
 use borrow.Author.Needs.{needs}
 use Rattle.shuffles.proofs.Draws.{dealt-again}

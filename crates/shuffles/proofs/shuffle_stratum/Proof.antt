@@ -1,4 +1,4 @@
--- `shuffles::shuffle_stratum` meets its contract. The invariant: the swaps from the last position down to i are made. Assumes nothing.
+-- `shuffles::shuffle_stratum` meets its contract. The invariant: the swaps from the last position down to i are made.
 use mathlib.Core.Path.{sym, subst}
 use Prim.Native.Nat.{ℕ}
 use native.Mathlib.Omega.{arith}

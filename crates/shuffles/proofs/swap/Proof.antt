@@ -1,4 +1,4 @@
--- `shuffles::swap` meets its contract. Two writes. Assumes nothing.
+-- `shuffles::swap` meets its contract. Two writes.
 use mathlib.Core.Path.{refl}
 use borrow.Author.Needs.{needs}
 use Rattle.shuffles.specs.Shuffle.{swapped}

@@ -1,4 +1,4 @@
--- `shuffles::swap_drawn` meets its contract. The position drawn is at most i, so both places are labels. Assumes nothing.
+-- `shuffles::swap_drawn` meets its contract. The position drawn is at most i, so both places are labels.
 use Prim.Native.Nat.{_<_}
 use native.Mathlib.Omega.{arith}
 use borrow.Author.Needs.{needs}

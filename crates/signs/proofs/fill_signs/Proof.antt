@@ -1,5 +1,4 @@
 -- `signs::fill_signs` meets its contract. After c turns the first c signs stand there.
--- Assumes nothing.
 use mathlib.Core.Path.{ap, _∙_}
 use Prim.Native.Nat.{_-_}
 use native.Mathlib.Omega.{arith}

@@ -1,5 +1,4 @@
 -- `signs::largest` meets its contract. After i turns m is the largest of the first i.
--- Assumes nothing.
 use mathlib.Core.Path.{_≡_}
 use Prim.Native.Nat.{_-_, _≤_}
 use native.Mathlib.Omega.{arith}

@@ -1,5 +1,4 @@
 -- `signs::orient` meets its contract. By the sign of the largest.
--- Assumes nothing.
 use mathlib.Core.Path.{refl, sym, ap}
 use Prim.Native.Nat.{_-_}
 use borrow.Author.Needs.{needs}

@@ -1,5 +1,4 @@
 -- `signs::stronger` meets its contract. By the test on magnitudes.
--- Assumes nothing.
 use mathlib.Core.Path.{refl, sym, ap₂}
 use Prim.Native.Nat.{_-_}
 use borrow.Author.Needs.{needs}

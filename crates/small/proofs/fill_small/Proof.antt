@@ -1,4 +1,4 @@
--- `small::fill_small` meets its contract. After i turns the first i rows are written. Assumes nothing.
+-- `small::fill_small` meets its contract. After i turns the first i rows are written.
 use Prim.Native.Nat.{_+_, _*_, _-_, _≤_}
 use native.Mathlib.Omega.{arith}
 use lib.ListN.{length}

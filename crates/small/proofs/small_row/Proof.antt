@@ -1,4 +1,4 @@
--- `small::small_row` meets its contract. After j turns the first j entries are written. Assumes nothing.
+-- `small::small_row` meets its contract. After j turns the first j entries are written.
 use Prim.Native.Nat.{_-_}
 use native.Mathlib.Omega.{arith}
 use Rattle.lists.proofs.Rows.{row-end}

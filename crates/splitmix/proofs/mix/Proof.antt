@@ -1,4 +1,4 @@
--- `splitmix::mix` meets its contract. Each word is multiplied and folded, by what `wrapping_mul` ensures. Assumes nothing.
+-- `splitmix::mix` meets its contract. Each word is multiplied and folded, by what `wrapping_mul` ensures.
 use Rattle.splitmix.specs.SplitMix.{mix}
 use borrow.Author.Needs.{needs}
 use Rattle.splitmix.proofs.mix.Statement.{statement}

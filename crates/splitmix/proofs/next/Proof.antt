@@ -1,4 +1,4 @@
--- `splitmix::next` meets its contract. The word is that of the next state. Assumes nothing.
+-- `splitmix::next` meets its contract. The word is that of the next state.
 use borrow.Author.Needs.{needs}
 use Rattle.splitmix.proofs.next.Statement.{statement}
 use Rattle.splitmix.proofs.next.Tie as tie

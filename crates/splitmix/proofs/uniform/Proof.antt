@@ -1,4 +1,4 @@
--- `splitmix::uniform` meets its contract. The upper bits of a word are a number below 2 ^ 53, so it is an f64. Assumes nothing.
+-- `splitmix::uniform` meets its contract. The upper bits of a word are a number below 2 ^ 53, so it is an f64.
 use mathlib.Core.Path.{ap}
 use Prim.Native.Nat.{ℕ, _/_, _^_}
 use native.Mathlib.Omega.{arith}

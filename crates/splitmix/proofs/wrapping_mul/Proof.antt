@@ -1,5 +1,4 @@
 -- `splitmix::wrapping_mul` meets its contract. The product by halves is the product.
--- Assumes nothing.
 use Prim.Native.Nat.{_%_, _/_}
 use native.Mathlib.Omega.{arith}
 use borrow.Author.Needs.{needs}

@@ -1,4 +1,4 @@
--- `square_matrix::even` meets its contract. Two stores. Assumes nothing.
+-- `square_matrix::even` meets its contract. Two stores.
 use mathlib.Core.Path.{refl}
 use borrow.Author.Needs.{needs}
 use lib.ListN.{length-set}

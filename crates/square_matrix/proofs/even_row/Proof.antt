@@ -1,5 +1,4 @@
 -- `square_matrix::even_row` meets its contract. The pairs of row i up to column j are evened.
--- Assumes nothing.
 use mathlib.Core.Path.{_≡_, refl, _∙_}
 use Prim.Native.Nat.{_+_, _-_, _≤_}
 use native.Mathlib.Omega.{arith}

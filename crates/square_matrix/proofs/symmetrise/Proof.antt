@@ -1,5 +1,4 @@
 -- `square_matrix::symmetrise` meets its contract. After i turns the first i rows are evened; all of them make the matrix symmetric.
--- Assumes nothing.
 use mathlib.Core.Path.{_≡_, refl, _∙_}
 use Prim.Native.Nat.{_-_, _≤_}
 use native.Mathlib.Omega.{arith}

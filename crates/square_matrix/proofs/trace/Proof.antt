@@ -1,5 +1,4 @@
 -- `square_matrix::trace` meets its contract. What is left of the sum stays the same.
--- Assumes nothing.
 use mathlib.Core.Path.{_≡_, refl, sym, _∙_}
 use mathlib.Core.List.{map}
 use Prim.Native.Nat.{_-_, _≤_}

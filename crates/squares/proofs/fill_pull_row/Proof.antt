@@ -1,5 +1,4 @@
 -- `squares::fill_pull_row` meets its contract. After b turns the first b entries are pulls.
--- Assumes nothing.
 
 use mathlib.Core.Path.{ap}
 use Prim.Native.Nat.{_-_}

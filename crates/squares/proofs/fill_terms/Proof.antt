@@ -1,5 +1,4 @@
 -- `squares::fill_terms` meets its contract. After a turns the first a rows are filled.
--- Assumes nothing.
 
 use mathlib.Core.Path.{ap, _∙_}
 use Prim.Native.Nat.{ℕ, _+_, _-_, _*_, _≤_}

@@ -1,5 +1,4 @@
 -- `squares::fill_weights` meets its contract. After a turns the first a entries are weights.
--- Assumes nothing.
 
 use mathlib.Core.Path.{sym, ap, _∙_}
 use Prim.Native.Nat.{_-_}

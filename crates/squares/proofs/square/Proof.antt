@@ -1,5 +1,4 @@
 -- `squares::square` meets its contract. The places of the kept samples a and b are below n.
--- Assumes nothing.
 
 use Prim.Native.Nat.{_-_}
 use native.Mathlib.Omega.{arith}

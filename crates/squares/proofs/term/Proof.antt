@@ -1,5 +1,4 @@
 -- `squares::term` meets its contract. The cell of row a and column b is below m * m, the length of `t`.
--- Assumes nothing.
 use mathlib.Core.Path.{refl}
 use Prim.Native.Nat.{_+_, _-_, _*_, _<_}
 use native.Mathlib.Omega.{arith}

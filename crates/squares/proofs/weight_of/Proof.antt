@@ -1,5 +1,4 @@
 -- `squares::weight_of` meets its contract. By whether weights are given.
--- Assumes nothing.
 
 use Prim.Native.Nat.{_-_}
 use native.Mathlib.Omega.{arith}

@@ -1,5 +1,4 @@
 -- `statistics::fill_sizes` meets its contract. After k turns the first k entries are sizes.
--- Assumes nothing.
 use Rattle.statistics.specs.Hits as hits
 use mathlib.Core.Path.{ap}
 use Prim.Native.Nat.{_-_, _≤_}

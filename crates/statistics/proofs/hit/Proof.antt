@@ -1,5 +1,4 @@
 -- `statistics::hit` meets its contract. By cases of both statistics.
--- Assumes nothing.
 use Rattle.statistics.specs.Hits as hits
 use Prim.Native.Nat.{_-_}
 use borrow.Author.Needs.{needs}

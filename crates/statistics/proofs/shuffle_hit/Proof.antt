@@ -1,5 +1,4 @@
 -- `statistics::shuffle_hit` meets its contract. By cases of the observed statistic.
--- Assumes nothing.
 use Rattle.statistics.specs.Hits as hits
 use Prim.Native.Nat.{_-_}
 use borrow.Author.Needs.{needs}

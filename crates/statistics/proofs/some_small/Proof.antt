@@ -1,5 +1,4 @@
 -- `statistics::some_small` meets its contract. None of the first k sizes is below 5.
--- Assumes nothing.
 use Rattle.statistics.specs.Hits as hits
 use mathlib.Core.Path.{_≡_, refl, sym, _∙_}
 use Prim.Native.Nat.{_-_}

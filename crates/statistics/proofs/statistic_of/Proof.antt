@@ -1,5 +1,4 @@
 -- `statistics::statistic_of` meets its contract. By whether F is finite.
--- Assumes nothing.
 use Rattle.statistics.specs.Hits as hits
 use Prim.Native.Nat.{_-_}
 use borrow.Author.Needs.{needs}

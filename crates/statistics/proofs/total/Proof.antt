@@ -1,5 +1,4 @@
 -- `statistics::total` meets its contract. The rows' sum divided by the weights'.
--- Assumes nothing.
 use Rattle.statistics.specs.Hits as hits
 use mathlib.Core.Path.{ap₂}
 use Prim.Native.Nat.{_-_}

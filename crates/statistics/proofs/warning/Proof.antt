@@ -1,5 +1,4 @@
 -- `statistics::warning` meets its contract. Each bit is at most its weight, so the sum fits.
--- Assumes nothing.
 use Rattle.statistics.specs.Hits as hits
 use Prim.Native.Nat.{_-_}
 use native.Mathlib.Omega.{arith}

@@ -1,5 +1,4 @@
 -- `statistics::within` meets its contract. The parts are the members of the groups.
--- Assumes nothing.
 use Rattle.statistics.specs.Hits as hits
 use mathlib.Core.Path.{ap, _∙_}
 use Prim.Native.Nat.{_-_}

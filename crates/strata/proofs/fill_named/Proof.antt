@@ -1,4 +1,4 @@
--- `lot::strata::fill_named` meets its contract. After i turns the strata of the first i samples are named. Assumes nothing.
+-- `strata::fill_named` meets its contract. After i turns the strata of the first i samples are named.
 use mathlib.Core.Path.{_≡_, refl, ap, _∙_}
 use Prim.Native.Nat.{_-_, _≤_}
 use native.Mathlib.Omega.{arith}

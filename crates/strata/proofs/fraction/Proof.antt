@@ -1,4 +1,4 @@
--- `lot::strata::fraction` meets its contract. Both numbers are exact floats. Assumes nothing.
+-- `strata::fraction` meets its contract. Both numbers are exact floats.
 use Prim.Native.Nat.{_-_, _^_}
 use native.Mathlib.Omega.{arith}
 use borrow.Author.Needs.{needs}

@@ -1,5 +1,4 @@
 -- `strata::informative` meets its contract. What is left to count and what is counted are all.
--- Assumes nothing.
 use mathlib.Core.Path.{_≡_, sym, ap, _∙_}
 use mathlib.Core.Logic.{⊎-elim}
 use mathlib.Core.Bool.{Bool}

@@ -1,4 +1,4 @@
--- `lot::strata::informs` meets its contract. No sample passed is of the stratum of k and in another group. Assumes nothing.
+-- `strata::informs` meets its contract. No sample passed is of the stratum of k and in another group.
 use mathlib.Core.Path.{_≡_, refl, sym, _∙_}
 use mathlib.Core.Logic.{⊎-elim}
 use mathlib.Core.Bool.{true, false}

@@ -1,5 +1,4 @@
 -- `strata::informs_too` meets its contract. What is told of the sample before holds of one in the same stratum.
--- Assumes nothing.
 use mathlib.Core.Path.{sym, ap, _∙_}
 use borrow.Author.Needs.{needs}
 use lib.ListN.{length}

@@ -1,4 +1,4 @@
--- `lot::strata::note` meets its contract. One answer for each of the three cases. Assumes nothing.
+-- `strata::note` meets its contract. One answer for each of the three cases.
 use mathlib.Core.Path.{sym, _∙_}
 use Prim.Native.Nat.{_-_}
 use native.Mathlib.Omega.{arith}

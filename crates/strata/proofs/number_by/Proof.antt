@@ -1,4 +1,4 @@
--- `lot::strata::number_by` meets its contract. After k turns the first k samples have their numbers. Assumes nothing.
+-- `strata::number_by` meets its contract. After k turns the first k samples have their numbers.
 use mathlib.Core.Path.{ap}
 use mathlib.Core.Logic.{⊎-elim}
 use Prim.Native.Nat.{_-_}

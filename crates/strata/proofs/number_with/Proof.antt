@@ -1,4 +1,4 @@
--- `lot::strata::number_with` meets its contract. The strata are named, and then numbered by their places. Assumes nothing.
+-- `strata::number_with` meets its contract. The strata are named, and then numbered by their places.
 use Prim.Native.Nat.{_-_, _≤_}
 use native.Mathlib.Omega.{arith}
 use borrow.Author.Needs.{needs}

@@ -1,4 +1,4 @@
--- `lot::strata::stands` meets its contract. A place before the end is where the number stands. Assumes nothing.
+-- `strata::stands` meets its contract. A place before the end is where the number stands.
 use mathlib.Core.Path.{sym, ap, _∙_}
 use Prim.Native.Nat.{ℕ}
 use borrow.Author.Needs.{needs}

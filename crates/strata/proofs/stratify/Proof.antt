@@ -1,4 +1,4 @@
--- `lot::strata::stratify` meets its contract. With strata they are gathered and numbered, and without all are 0. Assumes nothing.
+-- `strata::stratify` meets its contract. With strata they are gathered and numbered, and without all are 0.
 use mathlib.Core.Path.{sym}
 use Prim.Native.Nat.{_-_}
 use native.Mathlib.Omega.{arith}

@@ -1,4 +1,4 @@
--- `subspace::by_block` meets its contract. Rayleigh-Ritz on the last block. Assumes nothing.
+-- `subspace::by_block` meets its contract. Rayleigh-Ritz on the last block.
 use mathlib.Core.Path.{ap, _∙_}
 use borrow.Author.Needs.{needs}
 use Rattle.outcome.specs.Outcome.{Outcome}

@@ -1,4 +1,4 @@
--- `subspace::prepare` meets its contract. The first block, and a bound by power steps on its first column. Assumes nothing.
+-- `subspace::prepare` meets its contract. The first block, and a bound by power steps on its first column.
 use mathlib.Core.Path.{sym, _∙_}
 use native.Mathlib.Omega.{arith}
 use borrow.Author.Needs.{needs}

@@ -1,4 +1,4 @@
--- `subspace::settle` meets its contract. The rounds, started as they are. Assumes nothing.
+-- `subspace::settle` meets its contract. The rounds, started as they are.
 use mathlib.Core.Path.{ap, _∙_}
 use native.Mathlib.Omega.{arith}
 use borrow.Author.Needs.{needs}

@@ -1,4 +1,4 @@
--- `subspace::settle_in` meets its contract. Room of its own, the values before the first round zero. Assumes nothing.
+-- `subspace::settle_in` meets its contract. Room of its own, the values before the first round zero.
 use mathlib.Core.Path.{sym}
 use native.Mathlib.Omega.{arith}
 use borrow.Author.Needs.{needs}

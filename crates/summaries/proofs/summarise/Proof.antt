@@ -1,5 +1,4 @@
 -- `summaries::summarise` meets its contract. The warnings fit a byte, and the parts are the lot's.
--- Assumes nothing.
 use borrow.Author.Needs.{needs}
 use Rattle.summaries.proofs.Parts.{warnings-fit, summary-is}
 use Rattle.summaries.proofs.summarise.Statement.{statement}

@@ -1,4 +1,4 @@
--- `sweep::sweep` meets its contract. At p the rows before p are swept. Assumes nothing.
+-- `sweep::sweep` meets its contract. At p the rows before p are swept.
 use mathlib.Core.Path.{_≡_, refl, _∙_}
 use Prim.Native.Nat.{_-_, _≤_}
 use native.Mathlib.Omega.{arith}

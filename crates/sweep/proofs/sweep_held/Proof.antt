@@ -1,4 +1,4 @@
--- `sweep::sweep_held` meets its contract. At q the rotations with p + 1 up to q - 1 are made. Assumes nothing.
+-- `sweep::sweep_held` meets its contract. At q the rotations with p + 1 up to q - 1 are made.
 use mathlib.Core.Path.{_≡_, refl, _∙_}
 use Prim.Native.Nat.{_+_, _-_, _≤_}
 use native.Mathlib.Omega.{arith}

@@ -1,4 +1,4 @@
--- `sweep::sweep_row` meets its contract. The rows p go out and come back. Assumes nothing.
+-- `sweep::sweep_row` meets its contract. The rows p go out and come back.
 use mathlib.Core.Path.{ap, ap₂, _∙_}
 use mathlib.Core.List.{List}
 use borrow.Author.Needs.{needs}

@@ -1,5 +1,4 @@
 -- `tests_run::all_are` meets its contract. The loop counts up to the length.
--- Assumes nothing.
 use Prim.Native.Nat.{_-_, _≤_}
 use borrow.Author.Needs.{needs}
 use lib.ListN.{length}
@@ -7,19 +6,22 @@ use Rattle.tests_run.proofs.all_are.Statement.{statement}
 use Rattle.tests_run.proofs.all_are.Tie as tie
 
 abbrev Inv-loop : tie.InvT-loop
-Inv-loop s v i₀ i-end i = i ≤ length s
+Inv-loop s bits i₀ i-end i = i ≤ length s
 
 abbrev μ-loop : tie.MeasureT-loop
-μ-loop s v i₀ i-end i = length s - i
+μ-loop s bits i₀ i-end i = length s - i
 
 loop-holds : tie.Need-loop-holds Inv-loop μ-loop
 loop-holds c = search needs
 
-mul-if1 : tie.Need-mul-if1 Inv-loop μ-loop
-mul-if1 c = search needs
+mul-pattern : tie.Need-mul-pattern Inv-loop μ-loop
+mul-pattern c = search needs
 
-shared-slice-read-if1 : tie.Need-shared-slice-read-if1 Inv-loop μ-loop
-shared-slice-read-if1 c = search needs
+shared-slice-read-pattern : tie.Need-shared-slice-read-pattern Inv-loop μ-loop
+shared-slice-read-pattern c = search needs
+
+pattern-requires : tie.Need-pattern-requires Inv-loop μ-loop
+pattern-requires c κs = search needs
 
 returns : tie.Need-returns Inv-loop μ-loop
 returns c = search needs
@@ -43,8 +45,9 @@ all-are-spec =
     Inv-loop
     μ-loop
     loop-holds
-    mul-if1
-    shared-slice-read-if1
+    mul-pattern
+    shared-slice-read-pattern
+    pattern-requires
     returns
     add-i
     loop-less

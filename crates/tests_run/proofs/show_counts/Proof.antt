@@ -1,5 +1,4 @@
 -- `tests_run::show_counts` meets its contract. The loop counts up to the length.
--- Assumes nothing.
 use Prim.Native.Nat.{_-_, _≤_}
 use native.Mathlib.Omega.{arith}
 use borrow.Author.Needs.{needs}

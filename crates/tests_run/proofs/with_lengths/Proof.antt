@@ -1,5 +1,4 @@
 -- `tests_run::with_lengths` meets its contract. A part of each array.
--- Assumes nothing.
 use Prim.Native.Nat.{_-_}
 use mathlib.Core.Path.{sym}
 use native.Mathlib.Omega.{arith}

@@ -1,4 +1,4 @@
--- `text_lines::ends_at` meets its contract. Assumes nothing.
+-- `text_lines::ends_at` meets its contract.
 use Rattle.text_lines.proofs.End.{not-the-end, the-end}
 use borrow.Author.Needs.{needs}
 use Rattle.text_lines.proofs.ends_at.Statement.{statement}

@@ -1,4 +1,4 @@
--- `text_lines::line_end` meets its contract. The place that is looked for is the same at every turn. Assumes nothing.
+-- `text_lines::line_end` meets its contract. The place that is looked for is the same at every turn.
 use Prim.Native.Nat.{_≤_, _+_, _-_}
 use mathlib.Core.Path.{_≡_, refl, sym, _∙_}
 use native.Mathlib.Omega.{arith}

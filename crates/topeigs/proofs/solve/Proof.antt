@@ -1,4 +1,4 @@
--- `topeigs::solve` meets its contract. The first part goes out and comes back, and the work is cleared. Assumes nothing.
+-- `topeigs::solve` meets its contract. The first part goes out and comes back, and the work is cleared.
 use mathlib.Core.Path.{sym, ap, _∙_}
 use Prim.Native.Nat.{ℕ, _+_, _*_}
 use borrow.Author.Needs.{needs}

@@ -1,8 +1,8 @@
--- `topeigs::top_eigs` meets its contract. By whether a line of the table holds. Assumes nothing.
-use mathlib.Core.Path.{sym, _∙_}
+-- `topeigs::top_eigs` meets its contract. By whether a line of the table holds.
 use native.Mathlib.Nat.{min-le-right}
 use borrow.Author.Needs.{needs}
 use lib.ListN.{length}
+use Rattle.outcome.proofs.Table.{told-passed, told-refused}
 use Rattle.topeigs_lines.proofs.Lines.{passed-fits}
 use Rattle.topeigs.proofs.Call.{call-refused, call-passed}
 use Rattle.topeigs.proofs.top_eigs.Statement.{statement}
@@ -27,7 +27,7 @@ solve-requires c κs =
     let at-lesser = at-check .before in
     let at-start = at-lesser .before .before .before .before .before .before in
     let a = at-start .args in
-    let passed = sym (at-enum-told .enum-told .given .1) ∙ at-check .check .ensures in
+    let passed = told-passed (at-check .check .ensures) (at-enum-told .enum-told .given .1) in
     let fits = passed-fits (a .components) (a .n) (a .a .now) (length (a .out .now)) (length (a .w .now)) (length (a .m .now)) (length (a .v .now)) passed in
     let k-is = at-lesser .lesser .ensures in (
       (rw k-is (fits .out-fits), fits .w-fits, fits .m-fits, fits .v-fits),
@@ -40,7 +40,7 @@ returns c =
     let at-check = at-c .before .before in
     let at-start = at-check .before .before .before .before .before .before .before in
     let a = at-start .args in
-    call-refused (a .components) (a .n) (a .a .now) (a .out .now) (a .w .now) (a .m .now) (a .v .now) (sym (at-c .c .given .1) ∙ at-check .check .ensures)
+    call-refused (a .components) (a .n) (a .a .now) (a .out .now) (a .w .now) (a .m .now) (a .v .now) (told-refused (at-check .check .ensures) (at-c .c .given .1))
 
 same-length : tie.Need-same-length
 same-length c = search needs
@@ -62,7 +62,7 @@ returns-2 c =
     let at-lesser = at-check .before in
     let at-start = at-lesser .before .before .before .before .before .before in
     let a = at-start .args in
-    call-passed (a .components) (a .n) (a .a .now) (a .out .now) (a .w .now) (a .m .now) (a .v .now) (sym (at-enum-told .enum-told .given .1) ∙ at-check .check .ensures) (at-lesser .lesser .ensures) (at-solve .solve .ensures)
+    call-passed (a .components) (a .n) (a .a .now) (a .out .now) (a .w .now) (a .m .now) (a .v .now) (told-passed (at-check .check .ensures) (at-enum-told .enum-told .given .1)) (at-lesser .lesser .ensures) (at-solve .solve .ensures)
 
 pub top-eigs-spec : {M : Type 1} → statement M
 top-eigs-spec =

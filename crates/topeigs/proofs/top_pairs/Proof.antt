@@ -1,4 +1,4 @@
--- `topeigs::top_pairs` meets its contract. Jacobi up to n = 64, a block above. Assumes nothing.
+-- `topeigs::top_pairs` meets its contract. Jacobi up to n = 64, a block above.
 use mathlib.Core.Path.{sym, ap, _∙_}
 use Prim.Native.Nat.{_+_, _*_}
 use native.Mathlib.Omega.{arith}

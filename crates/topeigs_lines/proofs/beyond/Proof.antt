@@ -1,4 +1,4 @@
--- `topeigs_lines::beyond` meets its contract. One test after the other. Assumes nothing.
+-- `topeigs_lines::beyond` meets its contract. One test after the other.
 use borrow.Author.Tests.{lt-ltb, le-ltb, eq-eqb, ne-eqb}
 use Rattle.topeigs_lines.specs.TopLines.{beyond}
 use Rattle.topeigs_lines.proofs.beyond.Statement.{statement}

@@ -1,4 +1,4 @@
--- `topeigs_lines::check` meets its contract. The lines go by their numbers. Assumes nothing.
+-- `topeigs_lines::check` meets its contract. The lines go by their numbers.
 use mathlib.Core.Path.{sym, _∙_}
 use native.Mathlib.Nat.{min-le-right}
 use native.Mathlib.Omega.{arith}

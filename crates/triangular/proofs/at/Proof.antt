@@ -1,5 +1,4 @@
 -- `triangular::at` meets its contract. The entry lies within the p rows.
--- Assumes nothing.
 use mathlib.Core.Path.{refl}
 use Prim.Native.Nat.{_-_}
 use native.Mathlib.Omega.{arith}

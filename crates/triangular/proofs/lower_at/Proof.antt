@@ -1,5 +1,4 @@
 -- `triangular::lower_at` meets its contract. After k turns the first k products are taken off.
--- Assumes nothing.
 use mathlib.Core.Path.{_≡_, sym, ap, ap₂, _∙_}
 use Prim.Native.Nat.{_-_, _≤_}
 use native.Mathlib.Omega.{arith}

@@ -1,5 +1,4 @@
 -- `triangular::solve_lower` meets its contract. After i turns the first i unknowns stand there.
--- Assumes nothing.
 use mathlib.Core.Path.{_≡_, refl, ap, _∙_}
 use Prim.Native.Nat.{_-_, _≤_}
 use native.Mathlib.Omega.{arith}

@@ -1,5 +1,4 @@
 -- `triangular::solve_rows` meets its contract. After c turns the first c rows are solved.
--- Assumes nothing.
 use mathlib.Core.Path.{ap, _∙_}
 use Prim.Native.Nat.{_*_, _-_}
 use native.Mathlib.Omega.{arith}

@@ -1,5 +1,4 @@
 -- `triangular::solve_upper` meets its contract. After t turns the last t unknowns stand there.
--- Assumes nothing.
 use mathlib.Core.Path.{_≡_, refl, ap, _∙_}
 use Prim.Native.Nat.{_+_, _-_, _≤_}
 use native.Mathlib.Omega.{arith}

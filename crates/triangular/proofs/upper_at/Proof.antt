@@ -1,5 +1,4 @@
 -- `triangular::upper_at` meets its contract. The products from i + 1 up to k are taken off.
--- Assumes nothing.
 use mathlib.Core.Path.{_≡_, ap, ap₂}
 use Prim.Native.Nat.{_+_, _-_, _≤_}
 use native.Mathlib.Omega.{arith}

@@ -1,4 +1,4 @@
--- `vectors::dot` meets its contract. The invariant: with the products from entry i on, s is the whole. Assumes nothing.
+-- `vectors::dot` meets its contract. The invariant: with the products from entry i on, s is the whole.
 use Prim.Native.Nat.{_-_}
 use native.Mathlib.Omega.{arith}
 use denote.Ref.{now}

@@ -1,4 +1,4 @@
--- `vectors::dot_four` meets its contract. The invariant: with the products from entry k on, each of the four sums is the whole. Assumes nothing.
+-- `vectors::dot_four` meets its contract. The invariant: with the products from entry k on, each of the four sums is the whole.
 use Prim.Native.Nat.{_-_}
 use native.Mathlib.Omega.{arith}
 use denote.Ref.{now}

@@ -1,4 +1,4 @@
--- `vectors::dot_rows` meets its contract. The parts lent are the rows. Assumes nothing.
+-- `vectors::dot_rows` meets its contract. The parts lent are the rows.
 use mathlib.Core.Path.{_≡_}
 use Prim.Native.Nat.{ℕ, _+_, _-_, _*_}
 use borrow.Author.Needs.{needs}

@@ -1,4 +1,4 @@
--- `vectors::norm` meets its contract. The root of the inner product with itself. Assumes nothing.
+-- `vectors::norm` meets its contract. The root of the inner product with itself.
 use mathlib.Core.Path.{ap, _∙_}
 use borrow.Author.Needs.{needs}
 use Rattle.float.specs.Root.{root}

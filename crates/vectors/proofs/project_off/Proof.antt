@@ -1,4 +1,4 @@
--- `vectors::project_off` meets its contract. The part along y is its multiple by the inner product. Assumes nothing.
+-- `vectors::project_off` meets its contract. The part along y is its multiple by the inner product.
 use mathlib.Core.Path.{ap, _∙_}
 use borrow.Author.Needs.{needs}
 use denote.Ref.{now}

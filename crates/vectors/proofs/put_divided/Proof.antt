@@ -1,4 +1,4 @@
--- `vectors::put_divided` meets its contract. The invariant: the first i entries are written. Assumes nothing.
+-- `vectors::put_divided` meets its contract. The invariant: the first i entries are written.
 use mathlib.Core.Path.{refl}
 use Prim.Native.Nat.{_-_}
 use native.Mathlib.Omega.{arith}

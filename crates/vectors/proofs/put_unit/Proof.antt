@@ -1,4 +1,4 @@
--- `vectors::put_unit` meets its contract. Divided by its length, at least 1e-300. Assumes nothing.
+-- `vectors::put_unit` meets its contract. Divided by its length, at least 1e-300.
 use mathlib.Core.Path.{ap, _∙_}
 use borrow.Author.Needs.{needs}
 use denote.Ref.{now}

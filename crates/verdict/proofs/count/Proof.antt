@@ -1,5 +1,4 @@
 -- `verdict::count` meets its contract. What is the same for every way, the observed way's statistics, and the walk.
--- Assumes nothing.
 use mathlib.Core.Path.{_≡_, refl, sym}
 use Prim.Native.Nat.{_≤_}
 use native.Mathlib.Omega.{arith}

@@ -1,5 +1,4 @@
 -- `verdict::frame_of` meets its contract. The columns that lead, and whether `dapc` refuses them.
--- Assumes nothing.
 use borrow.Author.Needs.{needs}
 use Rattle.verdict.proofs.Counts.{frame-is}
 use Rattle.verdict.proofs.frame_of.Statement.{statement}

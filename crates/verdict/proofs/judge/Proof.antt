@@ -1,5 +1,4 @@
 -- `verdict::judge` meets its contract. What is observed, what is counted, and the summary, put together.
--- Assumes nothing.
 use mathlib.Core.Path.{_≡_, sym, _∙_}
 use Prim.Native.Nat.{_≤_}
 use native.Mathlib.Omega.{arith}

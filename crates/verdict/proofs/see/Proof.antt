@@ -1,5 +1,4 @@
 -- `verdict::see` meets its contract. The statistics of both F, and the assignment.
--- Assumes nothing.
 use borrow.Author.Needs.{needs}
 use Rattle.verdict.specs.Verdict.{seenBy}
 use Rattle.verdict.proofs.see.Statement.{statement}

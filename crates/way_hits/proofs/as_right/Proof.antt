@@ -1,5 +1,4 @@
 -- `way_hits::as_right` meets its contract. Case by case of the two.
--- Assumes nothing.
 use Prim.Native.Nat.{_-_}
 use borrow.Author.Needs.{needs}
 use Rattle.way_hits.proofs.WayHits.{none-seen, none-found, both-right}

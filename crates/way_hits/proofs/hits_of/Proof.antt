@@ -1,5 +1,4 @@
 -- `way_hits::hits_of` meets its contract. Three tests.
--- Assumes nothing.
 use borrow.Author.Needs.{needs}
 use Rattle.way_hits.proofs.WayHits.{hits-are}
 use Rattle.way_hits.proofs.hits_of.Statement.{statement}

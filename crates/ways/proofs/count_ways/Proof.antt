@@ -1,4 +1,4 @@
--- `ways::count_ways` meets its contract: m is M of the samples from k on, and at most 20,000. Assumes nothing.
+-- `ways::count_ways` meets its contract: m is M of the samples from k on, and at most 20,000.
 use mathlib.Core.Path.{_≡_, refl, sym}
 use Prim.Native.Nat.{_≤_, _-_}
 use native.Mathlib.Nat.{mul-le-mul}

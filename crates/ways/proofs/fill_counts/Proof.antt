@@ -1,4 +1,4 @@
--- `ways::fill_counts` meets its contract: the rows count the samples from k on. Assumes nothing.
+-- `ways::fill_counts` meets its contract: the rows count the samples from k on.
 use mathlib.Core.Path.{refl}
 use native.Mathlib.Omega.{arith}
 use Rattle.ways.proofs.Counts.{Filling, filling-none, filling-place, filling-small, filling-next, filling-all}

@@ -1,4 +1,4 @@
--- `ways::label_from` meets its contract: what is counted and what is still to come make up the whole. Assumes nothing.
+-- `ways::label_from` meets its contract: what is counted and what is still to come make up the whole.
 use mathlib.Core.Path.{_≡_, sym}
 use mathlib.Core.Logic.{⊎-elim}
 use Prim.Native.Nat.{_+_, _≤_, _-_}

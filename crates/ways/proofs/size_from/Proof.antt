@@ -1,4 +1,4 @@
--- `ways::size_from` meets its contract: what is counted and what is still to come make up the whole. Assumes nothing.
+-- `ways::size_from` meets its contract: what is counted and what is still to come make up the whole.
 use mathlib.Core.Path.{_≡_, sym}
 use mathlib.Core.Logic.{⊎-elim}
 use Prim.Native.Nat.{_+_, _≤_, _-_}

@@ -1,5 +1,4 @@
 -- `whitening::whiten` meets its contract. Solved twice, and evened.
--- Assumes nothing.
 use mathlib.Core.Path.{ap, _∙_}
 use Prim.Native.Nat.{_*_, _-_}
 use lib.ListN.{length, length-replicate}

@@ -1,4 +1,4 @@
--- `lot::groups::group` meets its contract. The kept samples are filled in, and then their groups. Assumes nothing.
+-- `kept::groups::group` meets its contract. The kept samples are filled in, and then their groups.
 use Prim.Native.Nat.{_-_, _≤_}
 use native.Mathlib.Omega.{arith}
 use borrow.Author.Needs.{needs}

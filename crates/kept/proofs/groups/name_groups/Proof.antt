@@ -1,4 +1,4 @@
--- `lot::groups::name_groups` meets its contract. The labels of the kept samples, gathered, give way to their groups. Assumes nothing.
+-- `kept::groups::name_groups` meets its contract. The labels of the kept samples, gathered, give way to their groups.
 use mathlib.Core.Path.{sym, ap, subst}
 use Prim.Native.Nat.{_-_}
 use native.Mathlib.Omega.{arith}

@@ -1,4 +1,4 @@
--- `lot::groups::number_labels` meets its contract. The labels' places are looked up in the groups' labels. Assumes nothing.
+-- `kept::groups::number_labels` meets its contract. The labels' places are looked up in the groups' labels.
 use mathlib.Core.Path.{ap, _∙_}
 use mathlib.Core.List.{List, map}
 use Prim.Native.Nat.{ℕ, _-_, _≤_}

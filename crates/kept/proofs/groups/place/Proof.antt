@@ -1,5 +1,4 @@
 -- `kept::groups::place` meets its contract. After k turns the first k groups are put.
--- Assumes nothing.
 use mathlib.Core.Path.{_≡_, refl, ap, _∙_}
 use mathlib.Core.List.{List}
 use Prim.Native.Nat.{ℕ, _-_, _≤_, _<_}

@@ -1,4 +1,4 @@
--- `ordinations::grams::over_and_over` is safe and ends: x stays below m. Assumes nothing.
+-- `ordinations::grams::over_and_over` is safe and ends: x stays below m.
 use mathlib.Core.Path.{_≡_, refl, _∙_}
 use Prim.Native.Nat.{_-_, _<_}
 use native.Mathlib.Nat.{mod-lt}

@@ -1,4 +1,4 @@
--- `ordinations::shown::all_are` is safe and ends. Assumes nothing.
+-- `ordinations::shown::all_are` is safe and ends.
 use Prim.Native.Nat.{_-_}
 use native.Mathlib.Omega.{arith}
 use lib.ListN.{length}

@@ -1,5 +1,4 @@
 -- `ordinations::shown::show` meets its contract. The loop counts up to the length.
--- Assumes nothing.
 use Prim.Native.Nat.{_-_, _≤_}
 use borrow.Author.Needs.{needs}
 use lib.ListN.{length}

@@ -1,5 +1,4 @@
 -- `ordinations::shown::show_number` meets its contract. What is written as a number is no NaN.
--- Assumes nothing.
 use Prim.Native.Nat.{_-_}
 use borrow.Author.Needs.{needs}
 use Rattle.float.proofs.Nan.{same-no-nan}

@@ -1,0 +1,2 @@
+-- What one read of standard input did.
+pub mod Reading

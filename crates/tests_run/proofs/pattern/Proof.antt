@@ -1,0 +1,18 @@
+-- `tests_run::pattern` meets its contract. A NaN is told apart first.
+use Prim.Native.Nat.{_-_}
+use borrow.Author.Needs.{needs}
+use Rattle.float.proofs.Nan.{same-no-nan}
+use Rattle.tests_run.proofs.pattern.Statement.{statement}
+use Rattle.tests_run.proofs.pattern.Tie as tie
+
+returns : tie.Need-returns
+returns c = search needs
+
+float-to-bits-result : tie.Need-float-to-bits-result
+float-to-bits-result c = same-no-nan _ (c .if1 .left)
+
+returns-2 : tie.Need-returns-2
+returns-2 c = search needs
+
+pub pattern-spec : {M : Type 1} → statement M
+pattern-spec = tie.close (tie.spec returns float-to-bits-result returns-2)

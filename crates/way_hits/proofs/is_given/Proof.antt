@@ -1,0 +1,17 @@
+-- `way_hits::is_given` meets its contract. By cases.
+use mathlib.Core.Path.{sym, ap}
+use borrow.Author.Needs.{needs}
+use Rattle.way_hits.specs.WayHits.{isGiven}
+use Rattle.way_hits.proofs.is_given.Statement.{statement}
+use Rattle.way_hits.proofs.is_given.Tie as tie
+
+returns : tie.Need-returns
+unfolding isGiven
+returns c = ap isGiven (sym (c .enum-told .given .1))
+
+returns-2 : tie.Need-returns-2
+unfolding isGiven
+returns-2 c = ap isGiven (sym (c .enum-told2 .given .1))
+
+pub is-given-spec : {M : Type 1} → statement M
+is-given-spec = tie.close (tie.spec (λ c. search needs) (λ c. search needs) returns returns-2)
