@@ -8,27 +8,31 @@
  *              nothing. Nothing that is written may overlap anything else that is passed. A bool is 0 or 1.
  *   floats     the floating-point environment is the default one: round to nearest, no flush to zero. A program linked with -Ofast or
  *              -ffast-math may flush subnormal numbers; a distance of -2^-1074 is then judged, where it is refused by 3 otherwise.
- *   stack      is part of no proof. hash_pca, exhaustive and judge hold the largest arrays. Give a thread 512 KB.
+ *   stack      is part of no proof. Measured on the largest inputs (`oracle stack`, oracle/README.md), in KB of 1,024 bytes: test 19,
+ *              exhaustive 72, jacobi_eigen 4, top_eigs 20, pcoa 54, gram_matrix and hash_pca 105, dapc 34, judge 116, every other function
+ *              below 1. A thread takes some 6 KB for itself: give it 128 KB.
  * Calls are reentrant: there are no variables between calls, no heap, no locks and no input or output. Of other libraries only memcpy and
  * memset are called.
  *
  * REFUSALS, the lowest that applies:
  *   1  a length does not fit n, offsets are not as told below, or an output or work slice is short
  *   2  n above 256; n_perm above 999,999; components 0 or above 16; over 65,536 hashes; columns above 16
- *   3  a distance NaN, below 0 or above 2^20; a coordinate NaN or beyond 2^40 in magnitude. -0.0 is not below 0
+ *   3  a distance NaN, below 0 or above 2^20; a coordinate NaN or beyond 2^40 in magnitude; an entry of the matrix of jacobi_eigen or
+ *      top_eigs NaN or infinite. -0.0 is not below 0
  *   4  a weight not within 2^-20 to 2^20
  *   5  fewer than two labels held by two samples
- *   6  ordination of fewer than 3 samples, or no hash with frequency 2 to n - 1
+ *   6  ordination (pcoa, hash_pca, gram_matrix) of fewer than 3 samples, or no hash with frequency 2 to n - 1
  *   7  over 4,096 such hashes
  *   8  more than 20,000 ways
  *   9  fewer than 2 columns can be used: columns, or kept samples less groups less 1 if that is fewer
  *  10  a Cholesky pivot not above 0, which a NaN is not (no coordinates that pass 3 are known to lead there)
  *  11  a NaN among values to be ordered
- * test returns 0 to 5; exhaustive 0 to 5, 8 and 11; pcoa 0 to 3, 6 and 11; hash_pca 0, 1, 2, 6, 7 and 11; dapc 0 to 3, 5, 9, 10 and 11.
+ * test returns 0 to 5; exhaustive 0 to 5, 8 and 11; pcoa 0 to 3, 6 and 11; hash_pca 0, 1, 2, 6, 7 and 11; dapc 0 to 3, 5, 9, 10 and 11;
+ * jacobi_eigen and top_eigs 0 to 3 and 11; gram_matrix 0, 1, 2, 6 and 7.
  * judge tells 3, 5, 8 and 11 in its text, and 12: the text is not in the form that README.md has.
  *
  * WHAT ARRAYS HOLD AFTERWARDS, by the number returned:
- *             outputs                                             work        values, numbers, selected
+ *             outputs                                             work        values, numbers, selected, sweeps
  *   0         the first entries are written, the rest as before   all 0       written
  *   1 to 9    as before                                           as before   as before
  *   10, 11    the same first entries are 0, the rest as before    all 0       as before
@@ -161,6 +165,47 @@ uint8_t lotjudge_dapc(const double *x, size_t x_len, size_t n, size_t columns, c
 
 /* The lengths of out, assigned. */
 uint8_t lotjudge_dapc_lengths(size_t n, size_t columns, size_t lengths[2]);
+
+/* The eigenpairs of a symmetric matrix, by Jacobi's rotations. n may be 0, 1 or 2 too.
+ *   a              the matrix, n * n, row by row. All of it is read, and nothing asks whether it is symmetric: lend one that is
+ *   out            output, at least n + n * n, of which so many are written: n values, falling, equal ones in the order in which they stand on
+ *                  the diagonal; then n rows of n, the vector of each value, with the sign that the rotations leave
+ *   m, v           work, at least n * n each
+ *   sweeps         the sweeps made, each a rotation for every pair; one number. They end when the squares beside the diagonal add up to less
+ *                  than 1e-22, at the latest after 100
+ */
+uint8_t lotjudge_jacobi_eigen(const double *a, size_t a_len, size_t n, double *out, size_t out_len, double *m, size_t m_len,
+                              double *v, size_t v_len, size_t *sweeps);
+
+/* The lengths of out, m, v. */
+uint8_t lotjudge_jacobi_eigen_lengths(size_t n, size_t lengths[3]);
+
+/* The eigenpairs of the k largest values of a symmetric matrix, with k = components, or n if that is less: up to n = 64 by Jacobi's rotations,
+ * above by block iteration.
+ *   a              as for lotjudge_jacobi_eigen
+ *   out            output, at least k + k * n, of which so many are written: k values, falling; then k rows of n, the vector of each value
+ *   w              work, at least n + n * n
+ *   m, v           work, at least n * n each
+ */
+uint8_t lotjudge_top_eigs(const double *a, size_t a_len, size_t n, size_t components, double *out, size_t out_len, double *w,
+                          size_t w_len, double *m, size_t m_len, double *v, size_t v_len);
+
+/* The lengths of out, w, m, v. */
+uint8_t lotjudge_top_eigs_lengths(size_t n, size_t components, size_t lengths[4]);
+
+/* The centred Gram matrix of sets of hashes, of which lotjudge_hash_pca takes the components.
+ *   hashes, offsets   as for lotjudge_hash_pca
+ *   out            output, at least n * n, of which so many are written, row by row, symmetric: for two sets the number of selected hashes that
+ *                  both have, less the sum of the means of the selected hashes of each, plus the sum of the squares of all means; the mean of
+ *                  a hash is its frequency over n
+ *   words          work, at least 64 * n
+ *   selected       as for lotjudge_hash_pca
+ */
+uint8_t lotjudge_gram_matrix(const uint64_t *hashes, size_t hashes_len, const size_t *offsets, size_t offsets_len, size_t n,
+                             double *out, size_t out_len, uint64_t *words, size_t words_len, size_t *selected);
+
+/* The lengths of out, words. */
+uint8_t lotjudge_gram_matrix_lengths(size_t n, size_t lengths[2]);
 
 /* A lot as text, judged by every way: the bytes that the program `lotjudge` prints for it (README.md). Never refuses a call: what is wrong with
  * the text or the lot is told in the output.

@@ -1,7 +1,8 @@
 #!/usr/bin/env python3
 """Writes the texts of `frames_run` and what is expected of them: its own reader of section 7, by a regular expression for each kind of line, and
 its own exhaustive test.
-    python3 oracle/frames.py > crates/frames_run/stdin
+    python3 oracle/frames.py forms > crates/frames_run/data/forms
+    python3 oracle/frames.py lots > crates/frames_run/data/lots
     python3 oracle/frames.py expected > crates/frames_run/stdout"""
 import itertools
 import math
@@ -57,7 +58,8 @@ def mixed(s):
     return "".join(c.upper() if k % 3 else c for k, c in enumerate(s))
 
 
-def texts():
+def forms():
+    """How a text is written: its bytes, its lines, n, and frames in their order."""
     random.seed(7)
     example = text(FIRST)
     yield "example", example
@@ -130,6 +132,10 @@ def texts():
     yield "af, then the lot again", example + example
     yield "af first", text(["af"] + FIRST)
     yield "two texts on one line", example.replace("\n", "")
+
+
+def lots():
+    """What a lot holds: distances, labels, strata."""
     yield "NaN", two("7ff8000000000000")
     yield "a signalling NaN", two("7ff0000000000001")
     yield "a negative NaN", two("fff8000000000001")
@@ -335,13 +341,14 @@ def verdict(kept, ways, f, hits, assigned):
 
 
 if sys.argv[1:] == ["expected"]:
-    for name, t in itertools.chain(texts(), large()):
+    for name, t in itertools.chain(forms(), lots(), large()):
         print(name + told(t))
         sys.stdout.write(judged(t))
     print(verdict(4, 6, 32.0, 2, assigned(None, [])) + verdict(32, 20000, -0.0, 10, assigned(31, [31] * 19999)) + "bf01\nbf0b\nbf0c")
 else:
-    for name, t in texts():
+    texts = list({"forms": forms, "lots": lots}[sys.argv[1]]())
+    for name, t in texts:
         assert "|" not in name + t and "#" not in name + t
-    whole = "".join(name + "|" + t + "#" for name, t in texts())
-    assert len(whole) <= 65536  # what `frames_run` reads
+    whole = "".join(name + "|" + t + "#" for name, t in texts)
+    assert len(whole.encode()) <= 65536  # what `frames_run` reads of a file
     sys.stdout.write(whole)

@@ -1,6 +1,8 @@
 //! The port against the Rust on drawn inputs, and against document 01's table on damaged ones.
 
-use crate::ops::{dapc, exhaustive, hash_pca, outcome, pcoa, test, OWED};
+use crate::ops::{
+    dapc, exhaustive, gram_matrix, hash_pca, jacobi_eigen, outcome, pcoa, test, top_eigs, OPERATIONS, OWED,
+};
 use crate::port::answers::{left, Ported};
 use crate::port::library::Library;
 use crate::port::Asked;
@@ -18,19 +20,22 @@ struct Count {
     different: usize,
 }
 
-/// So many inputs of one of the five functions, or of each; every one is also handed in damaged.
+/// So many inputs of one of the eight functions, or of each; every one is also handed in damaged.
 pub fn print(op: Option<&str>, seed: u64, count: usize) -> Result<(), String> {
-    let asks: [(&str, fn(u64, usize) -> usize); 5] = [
+    let asks: [(&str, fn(u64, usize) -> usize); 8] = [
         ("test", ask::<test::Test>),
         ("exhaustive", ask::<exhaustive::Exhaustive>),
         ("pcoa", ask::<pcoa::Pcoa>),
         ("hash_pca", ask::<hash_pca::HashPca>),
         ("dapc", ask::<dapc::Dapc>),
+        ("jacobi_eigen", ask::<jacobi_eigen::JacobiEigen>),
+        ("top_eigs", ask::<top_eigs::TopEigs>),
+        ("gram_matrix", ask::<gram_matrix::GramMatrix>),
     ];
     let wanted = asks.iter().filter(|(name, _)| op.is_none_or(|o| o == *name));
     let different: Vec<usize> = wanted.map(|(_, ask)| ask(seed, count)).collect();
     match different.iter().sum::<usize>() {
-        _ if different.is_empty() => Err("OP: test, exhaustive, pcoa, hash_pca or dapc".to_string()),
+        _ if different.is_empty() => Err(OPERATIONS.to_string()),
         0 => Ok(()),
         some => Err(format!("{some} differences")),
     }
@@ -66,7 +71,7 @@ fn alike<O: Ported>(input: &O::Input, sum: &mut Count) -> bool {
     let mut call = O::Call::new(input);
     let number = call.ask(&Library::linked()) as u64;
     let (same, counted) = match rust[0] {
-        0 => (number == 0 && O::told(&call) == O::of_the_rust(&rust[1..]), &mut sum.answers),
+        0 => (number == 0 && O::told(&call) == O::of_the_rust(&rust[1..]) && O::more(&call), &mut sum.answers),
         OWED => (number == rust[1], &mut sum.owed),
         _ => (number == rust[1], &mut sum.refusals),
     };

@@ -5,6 +5,7 @@ use crate::port;
 use crate::port::dapc::DapcCall;
 use crate::port::library::Library;
 use crate::port::lots::{ExhaustiveCall, TestCall};
+use crate::port::matrices::{GramCall, JacobiCall, TopEigsCall};
 use crate::port::ordinations::{HashPcaCall, PcoaCall};
 use popsketch::ordination;
 
@@ -24,7 +25,7 @@ pub enum Work {
     Sqrt(Vec<f64>),
 }
 
-/// A call of each build of the port, and a checksum of all that it answers; none where the port has no such call. The input is
+/// A call of each build of the port, and a checksum of all that it answers; none where one has no such call. The input is
 /// brought into the form that they take here, outside the time measured.
 pub fn of_the_port(libraries: &[Library], work: &Work) -> Vec<(Call, u64)> {
     match work {
@@ -33,6 +34,9 @@ pub fn of_the_port(libraries: &[Library], work: &Work) -> Vec<(Call, u64)> {
         Work::Pcoa(input) => port::calls::<_, PcoaCall>(libraries, input),
         Work::HashPca(input) => port::calls::<_, HashPcaCall>(libraries, input),
         Work::Dapc(input) => port::calls::<_, DapcCall>(libraries, input),
+        Work::JacobiEigen(input) => port::calls::<_, JacobiCall>(libraries, input),
+        Work::TopEigs(input) => port::calls::<_, TopEigsCall>(libraries, input),
+        Work::GramMatrix(input) => port::calls::<_, GramCall>(libraries, input),
         Work::Sqrt(values) => {
             let call = |library: &Library| {
                 let root = library.lotjudge_sqrt;
@@ -42,7 +46,6 @@ pub fn of_the_port(libraries: &[Library], work: &Work) -> Vec<(Call, u64)> {
             };
             libraries.iter().map(call).collect()
         }
-        Work::JacobiEigen(_) | Work::TopEigs(_) | Work::GramMatrix(_) => vec![],
     }
 }
 

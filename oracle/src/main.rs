@@ -14,6 +14,8 @@ mod port;
 mod replay;
 mod same;
 mod splitmix;
+#[cfg(feature = "port")]
+mod stack;
 mod times;
 mod words;
 
@@ -29,10 +31,11 @@ const USAGE: &str = "usage:
   oracle twice OP SEED COUNT     make a replay file twice and compare
   oracle time                    time the Rust's calls, and those of the linked library in turn (feature `port`)
   oracle bench LIB.so [LIB.so ..] time the Rust and shared libraries of the port in turn
-  oracle same OLD.so NEW.so [OP] SEED COUNT  two shared libraries on COUNT inputs of OP or of each of five functions, bit for bit
+  oracle same OLD.so NEW.so [OP] SEED COUNT  two shared libraries on COUNT inputs of OP or of each of eight functions, bit for bit
   oracle level SEED COUNT        every way of COUNT small lots handed in, and demand 3 counted (feature `port`)
+  oracle stack [KB]              the stack that each function takes, or each in a thread of so many KB (feature `port`)
   oracle peers DIR               lots as text, with the port's answers and times on them, for peers/run.sh (feature `port`)
-  oracle compare [OP] SEED COUNT the port against the Rust, COUNT inputs of OP or of each of five functions (feature `port`)
+  oracle compare [OP] SEED COUNT the port against the Rust, COUNT inputs of OP or of each of eight functions (feature `port`)
 OP: test, exhaustive, pcoa, hash_pca, dapc, jacobi_eigen, top_eigs or gram_matrix";
 
 fn main() -> ExitCode {
@@ -51,6 +54,14 @@ fn main() -> ExitCode {
         ["compare", op, seed, count] => compare(Some(op), seed, count),
         #[cfg(feature = "port")]
         ["level", seed, count] => level(seed, count),
+        #[cfg(feature = "port")]
+        ["stack"] => stack::print(),
+        #[cfg(feature = "port")]
+        ["stack", kilobytes] => number(kilobytes).and_then(|k| stack::print_in(k as usize)),
+        #[cfg(feature = "port")]
+        ["stack", kilobytes, place] => {
+            number(kilobytes).and_then(|k| stack::call_in(k as usize, number(place)? as usize))
+        }
         #[cfg(feature = "port")]
         ["peers", to] => peers::write(to),
         [command, op, ref rest @ ..] => match op {

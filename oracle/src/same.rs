@@ -1,9 +1,10 @@
 //! Two builds of the port on the same inputs, whole and damaged: the number returned and everything lent, bit for bit.
 
-use crate::ops::{dapc, exhaustive, hash_pca, pcoa, test, Operation};
+use crate::ops::{dapc, exhaustive, gram_matrix, hash_pca, jacobi_eigen, pcoa, test, top_eigs, Operation, OPERATIONS};
 use crate::port::dapc::DapcCall;
 use crate::port::library::Library;
 use crate::port::lots::{ExhaustiveCall, TestCall};
+use crate::port::matrices::{GramCall, JacobiCall, TopEigsCall};
 use crate::port::ordinations::{HashPcaCall, PcoaCall};
 use crate::port::Asked;
 use crate::replay::{drawn, place};
@@ -21,29 +22,37 @@ struct Run {
     count: usize,
 }
 
-/// So many inputs of one operation, or of each of the five.
+/// So many inputs of one operation, or of each of the eight.
 pub fn print(libraries: [Library; 2], op: Option<&str>, seed: u64, count: usize) -> Result<(), String> {
     let run = Run { libraries, seed, count };
-    let asks: [(&str, fn(&Run) -> usize); 5] = [
+    let asks: [(&str, fn(&Run) -> Option<usize>); 8] = [
         (test::Test::NAME, Run::of::<test::Test, TestCall>),
         (exhaustive::Exhaustive::NAME, Run::of::<exhaustive::Exhaustive, ExhaustiveCall>),
         (pcoa::Pcoa::NAME, Run::of::<pcoa::Pcoa, PcoaCall>),
         (hash_pca::HashPca::NAME, Run::of::<hash_pca::HashPca, HashPcaCall>),
         (dapc::Dapc::NAME, Run::of::<dapc::Dapc, DapcCall>),
+        (jacobi_eigen::JacobiEigen::NAME, Run::of::<jacobi_eigen::JacobiEigen, JacobiCall>),
+        (top_eigs::TopEigs::NAME, Run::of::<top_eigs::TopEigs, TopEigsCall>),
+        (gram_matrix::GramMatrix::NAME, Run::of::<gram_matrix::GramMatrix, GramCall>),
     ];
     let wanted = asks.iter().filter(|(name, _)| op.is_none_or(|o| o == *name));
-    let different: Vec<usize> = wanted.map(|(_, ask)| ask(&run)).collect();
-    match different.iter().sum::<usize>() {
-        _ if different.is_empty() => Err("OP: test, exhaustive, pcoa, hash_pca or dapc".to_string()),
+    let asked: Vec<Option<usize>> = wanted.map(|(_, ask)| ask(&run)).collect();
+    match asked.iter().flatten().sum::<usize>() {
+        _ if asked.is_empty() => Err(OPERATIONS.to_string()),
+        _ if asked.iter().all(Option::is_none) => Err("nothing was asked".to_string()),
         0 => Ok(()),
         some => Err(format!("{some} calls differ")),
     }
 }
 
 impl Run {
-    /// The number of calls that differ.
-    fn of<O: Operation, C: Asked<O::Input>>(&self) -> usize {
+    /// The number of calls that differ; None where a library lacks the function.
+    fn of<O: Operation, C: Asked<O::Input>>(&self) -> Option<usize> {
         let name = O::NAME;
+        if !self.libraries.iter().all(|library| library.has(C::FUNCTION)) {
+            println!("{name}: not asked, since not both libraries have {}", C::FUNCTION);
+            return None;
+        }
         let (mut whole, mut damaged, mut different) = ([0; NUMBERS], [0; NUMBERS], 0);
         for at in 0..self.count {
             let (kind, input) = drawn::<O>(self.seed, at);
@@ -57,7 +66,7 @@ impl Run {
             }
         }
         println!("{name}: {}; damaged: {}; {different} different", counted(&whole), counted(&damaged));
-        different
+        Some(different)
     }
 
     /// The input for both, with equal slices: on half of the inputs littered, and longer unless it is damaged. None where there

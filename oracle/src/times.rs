@@ -134,23 +134,34 @@ fn lines() -> Vec<(&'static str, Work)> {
         ("exhaustive n=16 groups=2 strata of 4 M=1296", Work::Exhaustive(within(lot(16, 2), |i| i / 4))),
         ("exhaustive n=64 groups=2 12 together M=924", Work::Exhaustive(within(lot(64, 2), |i| i.max(11)))),
         ("exhaustive n=256 groups=2 12 together M=924", Work::Exhaustive(within(lot(256, 2), |i| i.max(11)))),
+        ("pcoa n=3 components=8", Work::Pcoa(spread(3))),
+        ("pcoa n=8 components=8", Work::Pcoa(spread(8))),
         ("pcoa n=16 components=8", Work::Pcoa(spread(16))),
+        ("pcoa n=32 components=8", Work::Pcoa(spread(32))),
         ("pcoa n=64 components=8", Work::Pcoa(spread(64))),
         ("pcoa n=256 components=8", Work::Pcoa(spread(256))),
         ("hash_pca n=64 hashes=900 components=8", Work::HashPca(hashed(64, 900))),
+        ("hash_pca n=64 4096 given, 1024 selected", Work::HashPca(given(64, 4096, 1024))),
+        ("hash_pca n=64 65536 given, 4096 selected", Work::HashPca(given(64, 65536, 4096))),
         ("dapc n=256 columns=8 groups=4 in turn", Work::Dapc(scored(8, &turns(256, 4)))),
         ("dapc n=256 columns=8 groups=4 in blocks", Work::Dapc(scored(8, &blocks(256, 4)))),
         ("dapc n=64 columns=8 groups=4 in turn", Work::Dapc(scored(8, &turns(64, 4)))),
         ("dapc n=64 columns=8 groups=4 in blocks", Work::Dapc(scored(8, &blocks(64, 4)))),
+        ("jacobi_eigen n=4", Work::JacobiEigen(square(4))),
+        ("jacobi_eigen n=16", Work::JacobiEigen(square(16))),
         ("jacobi_eigen n=64", Work::JacobiEigen(square(64))),
+        ("top_eigs n=64 components=8", Work::TopEigs(leading(64))),
+        ("top_eigs n=65 components=8", Work::TopEigs(leading(65))),
         ("top_eigs n=256 components=8", Work::TopEigs(leading(256))),
+        ("gram_matrix n=4 hashes=9", Work::GramMatrix(caught(4, 9))),
         ("gram_matrix n=64 hashes=900", Work::GramMatrix(caught(64, 900))),
+        ("gram_matrix n=256 hashes=400", Work::GramMatrix(caught(256, 400))),
         ("sqrt of 4096 values", Work::Sqrt(positive(4096))),
     ]
 }
 
 /// Samples in turn in so many groups.
-fn turns(n: usize, groups: usize) -> Vec<usize> {
+pub fn turns(n: usize, groups: usize) -> Vec<usize> {
     (0..n).map(|i| i % groups).collect()
 }
 
@@ -163,14 +174,14 @@ fn labels(clusters: &[usize]) -> Vec<u16> {
     clusters.iter().map(|&c| c as u16).collect()
 }
 
-fn lot(n: usize, groups: usize) -> test::Input {
+pub fn lot(n: usize, groups: usize) -> test::Input {
     let clusters = turns(n, groups);
     let distances = Matrix::full(n, &distances::distances(1, &clusters, &mut SplitMix::new(SEED)));
     test::Input { distances, labels: labels(&clusters), strata: None, weights: None, n_perm: 999, seed: SEED }
 }
 
 /// The same in strata.
-fn within(mut lot: test::Input, stratum: fn(usize) -> usize) -> test::Input {
+pub fn within(mut lot: test::Input, stratum: fn(usize) -> usize) -> test::Input {
     lot.strata = Some((0..lot.labels.len()).map(|i| stratum(i) as u16).collect());
     lot
 }
@@ -185,11 +196,18 @@ fn hashed(n: usize, width: usize) -> hash_pca::Input {
     hash_pca::Input { sets: caught(n, width).sets, components: 8 }
 }
 
+/// So many hashes in sets of one size, so many different ones, in turn.
+fn given(n: usize, many: usize, different: u64) -> hash_pca::Input {
+    let hash = |at: usize| (at as u64 % different).wrapping_mul(0x9E37_79B9_7F4A_7C15);
+    let sets = (0..n).map(|i| (i * many / n..(i + 1) * many / n).map(hash).collect()).collect();
+    hash_pca::Input { sets, components: 8 }
+}
+
 fn caught(n: usize, width: usize) -> gram_matrix::Input {
     gram_matrix::Input { sets: sets::sets(2, n, width, &mut SplitMix::new(SEED)) }
 }
 
-fn scored(columns: usize, clusters: &[usize]) -> dapc::Input {
+pub fn scored(columns: usize, clusters: &[usize]) -> dapc::Input {
     let coordinates = coordinates::coordinates(0, clusters, columns, &mut SplitMix::new(SEED));
     dapc::Input { coordinates, columns, labels: labels(clusters) }
 }

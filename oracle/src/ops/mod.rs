@@ -42,6 +42,9 @@ pub fn large(turn: usize) -> bool {
 /// Document 01's refusal where the Rust panics on a NaN among values to be ordered.
 const NAN_AMONG_VALUES: u64 = 11;
 
+/// What OP may be.
+pub const OPERATIONS: &str = "OP: test, exhaustive, pcoa, hash_pca, dapc, jacobi_eigen, top_eigs or gram_matrix";
+
 /// The state of an input that the Rust is not asked about.
 pub const OWED: u64 = 3;
 

@@ -18,6 +18,7 @@ fn size(at: usize, draw: &mut SplitMix) -> usize {
     match at {
         0..=2 => at,
         39 => 256,
+        _ if at % 100 == 80 && at > 200 => at / 100 % 3,
         _ if at % 90 == 12 => draw.within(129, 255),
         _ if at % 10 == 4 => draw.pick(&[64, 65]),
         _ if at % 4 == 1 => draw.within(65, 90),

@@ -2,9 +2,10 @@
 
 use super::dapc::DapcCall;
 use super::lots::{ExhaustiveCall, Lot, TestCall};
+use super::matrices::{GramCall, JacobiCall, TopEigsCall};
 use super::ordinations::{HashPcaCall, PcoaCall, Room};
 use super::Asked;
-use crate::ops::{dapc, exhaustive, hash_pca, pcoa, test, Operation};
+use crate::ops::{dapc, exhaustive, gram_matrix, hash_pca, jacobi_eigen, pcoa, test, top_eigs, Operation};
 use crate::words::{bits, push_floats, push_numbers};
 
 /// An operation of the port that the Rust has too, or has the parts of.
@@ -16,13 +17,17 @@ pub trait Ported: Operation {
     fn of_the_rust(answer: &[u64]) -> Vec<u64> {
         answer.to_vec()
     }
+    /// Whether what the port tells and the Rust does not is right.
+    fn more(_: &Self::Call) -> bool {
+        true
+    }
 }
 
 /// Work: all of it is 0 after an answer.
 const WORK: [&str; 11] = ["terms", "pulls", "coords", "room", "vectors", "rows", "b", "w", "m", "v", "words"];
 
 /// Outputs that only an answer is written to.
-const FIGURES: [&str; 3] = ["values", "numbers", "selected"];
+const FIGURES: [&str; 4] = ["values", "numbers", "selected", "sweeps"];
 
 /// Whether all that is lent is as document 01 has it where this number is returned: after an answer work is 0; after 10 and 11 work and
 /// the first part of each list are 0, and the rest is untouched; after any other refusal all of it is untouched.
@@ -123,5 +128,49 @@ impl Ported for dapc::Dapc {
     fn of_the_rust(answer: &[u64]) -> Vec<u64> {
         let groups = answer[1] as usize;
         [&answer[2..5], &answer[5 + groups..]].concat()
+    }
+}
+
+impl Ported for jacobi_eigen::JacobiEigen {
+    type Call = JacobiCall;
+
+    fn told(call: &JacobiCall) -> Vec<u64> {
+        let mut words = Vec::new();
+        push_floats(&mut words, &call.out);
+        words
+    }
+
+    /// The sweeps, by a count of the oracle's own.
+    fn more(call: &JacobiCall) -> bool {
+        call.sweeps[0] == jacobi_eigen::sweeps(&call.a, &call.out[..call.n])
+    }
+}
+
+impl Ported for top_eigs::TopEigs {
+    type Call = TopEigsCall;
+
+    fn told(call: &TopEigsCall) -> Vec<u64> {
+        let mut words = vec![call.components.min(call.n) as u64];
+        push_floats(&mut words, &call.out);
+        words
+    }
+}
+
+impl Ported for gram_matrix::GramMatrix {
+    type Call = GramCall;
+
+    /// The Rust's matrix mirrors itself; its lower half is not in the answer.
+    fn told(call: &GramCall) -> Vec<u64> {
+        let n = call.n;
+        let mut words = call.selected.clone();
+        for i in 0..n {
+            push_floats(&mut words, &call.out[i * n + i..(i + 1) * n]);
+        }
+        words
+    }
+
+    fn more(call: &GramCall) -> bool {
+        let n = call.n;
+        (0..n * n).all(|at| bits(call.out[at]) == bits(call.out[at % n * n + at / n]))
     }
 }

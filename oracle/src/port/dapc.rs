@@ -15,6 +15,8 @@ pub struct DapcCall {
 }
 
 impl Asked<dapc::Input> for DapcCall {
+    const FUNCTION: &'static str = "lotjudge_dapc";
+
     fn new(input: &dapc::Input) -> Self {
         let (n, columns) = (input.labels.len(), input.columns);
         DapcCall {

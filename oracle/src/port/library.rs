@@ -3,6 +3,7 @@
 use std::ffi::{c_char, c_int, c_void, CString};
 use std::mem::transmute;
 use std::path::Path;
+use std::process::exit;
 
 macro_rules! library {
     ($(fn $name:ident($($argument:ident: $type:ty),* $(,)?) -> $result:ty;)*) => {
@@ -21,14 +22,27 @@ macro_rules! library {
                 Library { $($name,)* }
             }
 
+            /// A build from before a function was exported lacks it.
             pub fn loaded(path: &str) -> Result<Self, String> {
                 let file = opened(path)?;
+                $(let $name = found(file, stringify!($name));)*
+                if [$($name),*].iter().all(Option::is_none) {
+                    return Err(format!("{path}: none of the port's functions"));
+                }
                 unsafe {
                     Ok(Library {
                         $($name: transmute::<*mut c_void, unsafe extern "C" fn($($type),*) -> $result>(
-                            found(file, stringify!($name)).ok_or(format!("{path}: no {}", stringify!($name)))?,
+                            $name.unwrap_or(lacking as *mut c_void),
                         ),)*
                     })
+                }
+            }
+
+            /// Whether it has the function of this name.
+            pub fn has(&self, name: &str) -> bool {
+                match name {
+                    $(stringify!($name) => self.$name as *const c_void != lacking as *const c_void,)*
+                    _ => false,
                 }
             }
         }
@@ -37,6 +51,7 @@ macro_rules! library {
 
 library! {
     fn lotjudge_sqrt(x: f64) -> f64;
+    fn lotjudge_judge(text: *const u8, text_len: usize, out: *mut u8) -> usize;
     fn lotjudge_test(
         n: usize, distances: *const f64, distances_len: usize, labels: *const u16, labels_len: usize,
         strata_given: bool, strata: *const u16, strata_len: usize, weights_given: bool, weights: *const f64, weights_len: usize,
@@ -65,6 +80,24 @@ library! {
         x: *const f64, x_len: usize, n: usize, columns: usize, labels: *const u16, labels_len: usize,
         out: *mut f64, out_len: usize, assigned: *mut u16, assigned_len: usize, numbers: *mut usize,
     ) -> u8;
+    fn lotjudge_jacobi_eigen(
+        a: *const f64, a_len: usize, n: usize, out: *mut f64, out_len: usize, m: *mut f64, m_len: usize,
+        v: *mut f64, v_len: usize, sweeps: *mut usize,
+    ) -> u8;
+    fn lotjudge_top_eigs(
+        a: *const f64, a_len: usize, n: usize, components: usize, out: *mut f64, out_len: usize,
+        w: *mut f64, w_len: usize, m: *mut f64, m_len: usize, v: *mut f64, v_len: usize,
+    ) -> u8;
+    fn lotjudge_gram_matrix(
+        hashes: *const u64, hashes_len: usize, offsets: *const usize, offsets_len: usize, n: usize,
+        out: *mut f64, out_len: usize, words: *mut u64, words_len: usize, selected: *mut usize,
+    ) -> u8;
+}
+
+/// In the place of a function that a library lacks.
+extern "C" fn lacking() {
+    eprintln!("a function was called that the library does not have");
+    exit(1)
 }
 
 extern "C" {

@@ -74,6 +74,8 @@ pub struct TestCall {
 }
 
 impl Asked<test::Input> for TestCall {
+    const FUNCTION: &'static str = "lotjudge_test";
+
     fn new(input: &test::Input) -> Self {
         let (values, numbers) = (vec![BEFORE; 6], vec![BEFORE_WORD; 5]);
         TestCall { lot: Lot::new(input), seed: input.seed, n_perm: input.n_perm, values, numbers }
@@ -130,6 +132,8 @@ pub struct ExhaustiveCall {
 }
 
 impl Asked<test::Input> for ExhaustiveCall {
+    const FUNCTION: &'static str = "lotjudge_exhaustive";
+
     fn new(input: &test::Input) -> Self {
         let n = input.distances.n;
         ExhaustiveCall {

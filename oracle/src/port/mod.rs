@@ -5,6 +5,7 @@ pub mod answers;
 pub mod dapc;
 pub mod library;
 pub mod lots;
+pub mod matrices;
 pub mod ordinations;
 
 use crate::implementation::Call;
@@ -21,6 +22,8 @@ const BEFORE_WORD: u64 = 7;
 
 /// One call, with all that is lent.
 pub trait Asked<Input> {
+    /// Its name in include/lotjudge.h.
+    const FUNCTION: &'static str;
     fn new(input: &Input) -> Self;
     /// 0, or the number of the refusal.
     fn ask(&mut self, library: &Library) -> u8;
@@ -84,8 +87,11 @@ impl Lent<'_> {
 }
 
 /// A call of each library to be timed, all in the same room, and a checksum of the number that it returns and of everything that
-/// is lent to it.
+/// is lent to it; none where one of them lacks the function.
 pub fn calls<Input, C: Asked<Input> + 'static>(libraries: &[Library], input: &Input) -> Vec<(Call, u64)> {
+    if !libraries.iter().all(|library| library.has(C::FUNCTION)) {
+        return vec![];
+    }
     let room = Rc::new(RefCell::new(C::new(input)));
     let call = |&library: &Library| -> (Call, u64) {
         let mut first = C::new(input);

@@ -39,6 +39,8 @@ pub struct PcoaCall {
 }
 
 impl Asked<pcoa::Input> for PcoaCall {
+    const FUNCTION: &'static str = "lotjudge_pcoa";
+
     fn new(input: &pcoa::Input) -> Self {
         let n = input.distances.n;
         let components = input.components;
@@ -95,6 +97,8 @@ pub struct HashPcaCall {
 }
 
 impl Asked<hash_pca::Input> for HashPcaCall {
+    const FUNCTION: &'static str = "lotjudge_hash_pca";
+
     fn new(input: &hash_pca::Input) -> Self {
         let n = input.sets.len();
         let mut offsets = vec![0];
