@@ -1,2 +1,3 @@
--- The laws of the table.
+-- The laws of the table, and that no two refusals have one number.
 pub mod Table
+pub mod Names
