@@ -82,9 +82,9 @@ extern "C" {
  *   strata         n; neither they nor their length are looked at unless strata_given
  *   weights        n; neither they nor their length are looked at unless weights_given
  *   seed, n_perm   any seed; the same arguments give the same results. p is (1 + hits)/(1 + n_perm)
- *   names, counts, means   outputs, at least n each: the label, the count and the mean distance to the centroid of each group, as many
- *                  entries as there are groups
- *   terms, pulls   work, at least n * n each
+ *   group_labels, counts, means   outputs, at least n each: the label, the count and the mean distance to the centroid of each group, as
+ *                  many entries as there are groups
+ *   pair_terms, weighted_squares   work, at least n * n each: weight * weight * square and weight * square of each pair
  *   values         F, r2, p, dispersion F, dispersion p, informative fraction
  *   numbers        kept samples, groups, whether p is given, whether the dispersion p is given, warnings (bits 0 to 6)
  * Each F may be NaN (0 between groups over 0 within) or +infinity (nothing within groups, or the quotient is too large for an f64); the F of
@@ -95,18 +95,20 @@ extern "C" {
  */
 uint8_t lotjudge_test(size_t n, const double *distances, size_t distances_len, const uint16_t *labels, size_t labels_len,
                       bool strata_given, const uint16_t *strata, size_t strata_len, bool weights_given, const double *weights,
-                      size_t weights_len, uint64_t seed, uint64_t n_perm, uint16_t *names, size_t names_len, uint16_t *counts,
-                      size_t counts_len, double *means, size_t means_len, double *terms, size_t terms_len, double *pulls,
-                      size_t pulls_len, double values[6], uint64_t numbers[5]);
+                      size_t weights_len, uint64_t seed, uint64_t n_perm, uint16_t *group_labels, size_t group_labels_len,
+                      uint16_t *counts, size_t counts_len, double *means, size_t means_len, double *pair_terms, size_t pair_terms_len,
+                      double *weighted_squares, size_t weighted_squares_len, double values[6], uint64_t numbers[5]);
 
-/* The lengths of names, counts, means, terms, pulls. */
+/* The lengths of group_labels, counts, means, pair_terms, weighted_squares. */
 uint8_t lotjudge_test_lengths(size_t n, size_t lengths[5]);
 
 /* Every way to deal the labels out again within the strata: M of them, and how many are hits of each observed statistic. Hits over M is a p.
- *   distances, labels, strata, weights, names, counts, means, terms, pulls   as for lotjudge_test; the assignment reads all distances
- *   coords         work, at least 16 + 8 * n
- *   room           work, at least n + n * n
- *   vectors, rows  work, at least n * n each
+ *   distances, labels, strata, weights, group_labels, counts, means, pair_terms, weighted_squares   as for lotjudge_test; the assignment
+ *                  reads all distances
+ *   coords         work, at least 16 + 8 * n: what lotjudge_pcoa writes with 8 components
+ *   eigenpairs     work, at least n + n * n
+ *   vectors        work, at least n * n
+ *   label_counts   work, at least n * n: the labels that each stratum has left
  *   values         location F, r2, dispersion F, informative fraction
  *   numbers        kept samples, groups, M, whether the location F is finite, its hits, whether the dispersion F is finite, its hits,
  *                  whether there is an assignment, the kept samples assigned to their own group, its hits, warnings (bits 0 to 4)
@@ -115,40 +117,45 @@ uint8_t lotjudge_test_lengths(size_t n, size_t lengths[5]);
  */
 uint8_t lotjudge_exhaustive(size_t n, const double *distances, size_t distances_len, const uint16_t *labels, size_t labels_len,
                             bool strata_given, const uint16_t *strata, size_t strata_len, bool weights_given, const double *weights,
-                            size_t weights_len, uint16_t *names, size_t names_len, uint16_t *counts, size_t counts_len, double *means,
-                            size_t means_len, double *terms, size_t terms_len, double *pulls, size_t pulls_len, double *coords,
-                            size_t coords_len, double *room, size_t room_len, double *vectors, size_t vectors_len, uint16_t *rows,
-                            size_t rows_len, double values[4], uint64_t numbers[11]);
+                            size_t weights_len, uint16_t *group_labels, size_t group_labels_len, uint16_t *counts, size_t counts_len,
+                            double *means, size_t means_len, double *pair_terms, size_t pair_terms_len, double *weighted_squares,
+                            size_t weighted_squares_len, double *coords, size_t coords_len, double *eigenpairs,
+                            size_t eigenpairs_len, double *vectors, size_t vectors_len, uint16_t *label_counts,
+                            size_t label_counts_len, double values[4], uint64_t numbers[11]);
 
-/* The lengths of names, counts, means, terms, pulls, coords, room, vectors, rows. */
+/* The lengths of group_labels, counts, means, pair_terms, weighted_squares, coords, eigenpairs, vectors, label_counts. */
 uint8_t lotjudge_exhaustive_lengths(size_t n, size_t lengths[9]);
 
 /* Principal coordinates. With k = components, or n if that is less:
  *   distances      n * n, row by row; lend a symmetric matrix with a diagonal of 0
  *   out            output, at least k + k + n * k, all of which are written: k values, falling; k shares of the variance; coordinates n by k,
  *                  row by row
- *   b, m, v        work, at least n * n each
- *   w              work, at least n + n * n
+ *   centred        work, at least n * n: Gower's centred matrix
+ *   eigenpairs     work, at least n + n * n
+ *   rotated, vectors   work, at least n * n each
  * A value below 0 has the share 0 and coordinates of 0. A share may be above 1 where the distances are not Euclidean.
  */
 uint8_t lotjudge_pcoa(const double *distances, size_t distances_len, size_t n, size_t components, double *out, size_t out_len,
-                      double *b, size_t b_len, double *w, size_t w_len, double *m, size_t m_len, double *v, size_t v_len);
+                      double *centred, size_t centred_len, double *eigenpairs, size_t eigenpairs_len, double *rotated,
+                      size_t rotated_len, double *vectors, size_t vectors_len);
 
-/* The lengths of out, b, w, m, v. */
+/* The lengths of out, centred, eigenpairs, rotated, vectors. */
 uint8_t lotjudge_pcoa_lengths(size_t n, size_t components, size_t lengths[5]);
 
 /* Principal components of sets of hashes: set i has the hashes from offsets[i] to below offsets[i + 1].
  *   hashes         of all sets, one after the other
  *   offsets        n + 1: the first 0, never falling, the last hashes_len
- *   out, b, w, m, v   as for lotjudge_pcoa
- *   words          work, at least 64 * n
+ *   out, eigenpairs, rotated, vectors   as for lotjudge_pcoa
+ *   gram           work, at least n * n: the Gram matrix
+ *   words          work, at least 64 * n: each set as a row of bits
  *   selected       the number of different hashes with frequency 2 to n - 1, every occurrence counted, repeats in a set too; one number
  */
 uint8_t lotjudge_hash_pca(const uint64_t *hashes, size_t hashes_len, const size_t *offsets, size_t offsets_len, size_t n,
-                          size_t components, double *out, size_t out_len, double *b, size_t b_len, double *w, size_t w_len,
-                          double *m, size_t m_len, double *v, size_t v_len, uint64_t *words, size_t words_len, size_t *selected);
+                          size_t components, double *out, size_t out_len, double *gram, size_t gram_len, double *eigenpairs,
+                          size_t eigenpairs_len, double *rotated, size_t rotated_len, double *vectors, size_t vectors_len,
+                          uint64_t *words, size_t words_len, size_t *selected);
 
-/* The lengths of out, b, w, m, v, words. */
+/* The lengths of out, gram, eigenpairs, rotated, vectors, words. */
 uint8_t lotjudge_hash_pca_lengths(size_t n, size_t components, size_t lengths[6]);
 
 /* Discriminant scores. There are groups - 1 axes, or as many as columns used if that is fewer.
@@ -170,27 +177,28 @@ uint8_t lotjudge_dapc_lengths(size_t n, size_t columns, size_t lengths[2]);
  *   a              the matrix, n * n, row by row. All of it is read, and nothing asks whether it is symmetric: lend one that is
  *   out            output, at least n + n * n, of which so many are written: n values, falling, equal ones in the order in which they stand on
  *                  the diagonal; then n rows of n, the vector of each value, with the sign that the rotations leave
- *   m, v           work, at least n * n each
+ *   rotated, vectors   work, at least n * n each
  *   sweeps         the sweeps made, each a rotation for every pair; one number. They end when the squares beside the diagonal add up to less
  *                  than 1e-22, at the latest after 100
  */
-uint8_t lotjudge_jacobi_eigen(const double *a, size_t a_len, size_t n, double *out, size_t out_len, double *m, size_t m_len,
-                              double *v, size_t v_len, size_t *sweeps);
+uint8_t lotjudge_jacobi_eigen(const double *a, size_t a_len, size_t n, double *out, size_t out_len, double *rotated,
+                              size_t rotated_len, double *vectors, size_t vectors_len, size_t *sweeps);
 
-/* The lengths of out, m, v. */
+/* The lengths of out, rotated, vectors. */
 uint8_t lotjudge_jacobi_eigen_lengths(size_t n, size_t lengths[3]);
 
 /* The eigenpairs of the k largest values of a symmetric matrix, with k = components, or n if that is less: up to n = 64 by Jacobi's rotations,
  * above by block iteration.
  *   a              as for lotjudge_jacobi_eigen
  *   out            output, at least k + k * n, of which so many are written: k values, falling; then k rows of n, the vector of each value
- *   w              work, at least n + n * n
- *   m, v           work, at least n * n each
+ *   eigenpairs     work, at least n + n * n
+ *   rotated, vectors   work, at least n * n each
  */
-uint8_t lotjudge_top_eigs(const double *a, size_t a_len, size_t n, size_t components, double *out, size_t out_len, double *w,
-                          size_t w_len, double *m, size_t m_len, double *v, size_t v_len);
+uint8_t lotjudge_top_eigs(const double *a, size_t a_len, size_t n, size_t components, double *out, size_t out_len,
+                          double *eigenpairs, size_t eigenpairs_len, double *rotated, size_t rotated_len, double *vectors,
+                          size_t vectors_len);
 
-/* The lengths of out, w, m, v. */
+/* The lengths of out, eigenpairs, rotated, vectors. */
 uint8_t lotjudge_top_eigs_lengths(size_t n, size_t components, size_t lengths[4]);
 
 /* The centred Gram matrix of sets of hashes, of which lotjudge_hash_pca takes the components.

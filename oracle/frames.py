@@ -1,9 +1,9 @@
 #!/usr/bin/env python3
-"""Writes the texts of `frames_run` and what is expected of them: its own reader of section 7, by a regular expression for each kind of line, and
+"""Writes the texts of `run_frames` and what is expected of them: its own reader of section 7, by a regular expression for each kind of line, and
 its own exhaustive test.
-    python3 oracle/frames.py forms > crates/frames_run/data/forms
-    python3 oracle/frames.py lots > crates/frames_run/data/lots
-    python3 oracle/frames.py expected > crates/frames_run/stdout"""
+    python3 oracle/frames.py forms > crates/run_frames/data/forms
+    python3 oracle/frames.py lots > crates/run_frames/data/lots
+    python3 oracle/frames.py expected > crates/run_frames/stdout"""
 import itertools
 import math
 import random
@@ -183,7 +183,7 @@ def lots():
 
 
 def large():
-    """Texts that `frames_run` makes itself."""
+    """Texts that `run_frames` makes itself."""
     yield "1 MiB of the byte 0", "\0" * 2**20
     yield "1 MiB of the digit 0", "0" * 2**20
 
@@ -350,5 +350,5 @@ else:
     for name, t in texts:
         assert "|" not in name + t and "#" not in name + t
     whole = "".join(name + "|" + t + "#" for name, t in texts)
-    assert len(whole.encode()) <= 65536  # what `frames_run` reads of a file
+    assert len(whole.encode()) <= 65536  # what `run_frames` reads of a file
     sys.stdout.write(whole)

@@ -1,6 +1,11 @@
+-- Section 7's example.
 -- Judged samples of the trade.
-pub mod Tests
-pub mod Ordinated
-pub mod Every
-pub mod Scored
-pub mod Judged
+pub mod ExampleReading
+pub mod ExampleOrdination
+pub mod ExampleVerdict
+pub mod ExampleJudged
+pub mod TestCalls
+pub mod CaseOrdinations
+pub mod ExhaustiveCalls
+pub mod DapcCalls
+pub mod JudgedCases

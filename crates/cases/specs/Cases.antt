@@ -13,22 +13,22 @@ use Rattle.outcome.specs.Outcome.{Outcome, answered, refused, code}
 use Rattle.lot.specs.Lot.{Lot, lotOf}
 use Rattle.lot.specs.Cases.{example, zeros, three}
 use Rattle.lot.specs.Kept.{groups}
-use Rattle.statistics.specs.declared.Statistic.{Statistic}
-use Rattle.statistics.specs.declared.Statistic.the-variants.{Finite, Unbounded}
-use Rattle.statistics.specs.Statistics.{totalOf, withinOf}
-use Rattle.chances.specs.Chances.{given}
-use Rattle.sampled.specs.Call as test
-use Rattle.sampled.specs.Call.{testCall}
-use Rattle.jacobi.specs.Call as jacobi
-use Rattle.jacobi.specs.Call.{jacobiCall}
-use Rattle.gram.specs.Call as gram
-use Rattle.gram.specs.Call.{gramCall, leaves}
-use Rattle.discriminant.specs.Outputs as dapc
+use Rattle.permanova_statistics.specs.declared.Statistic.{Statistic}
+use Rattle.permanova_statistics.specs.declared.Statistic.the-variants.{Finite, Unbounded}
+use Rattle.permanova_statistics.specs.Statistics.{totalOf, withinOf}
+use Rattle.permanova_statistics.specs.PValues.{given}
+use Rattle.permanova.specs.Call as test
+use Rattle.permanova.specs.Call.{testCall}
+use Rattle.eigen_jacobi.specs.Call as jacobi
+use Rattle.eigen_jacobi.specs.Call.{jacobiCall}
+use Rattle.ordination_gram.specs.Call as gram
+use Rattle.ordination_gram.specs.Call.{gramCall, leaves}
+use Rattle.dapc_discriminant.specs.Outputs as dapc
 use Rattle.dapc.specs.Call.{dapcCall}
-use Rattle.ways.specs.Ways.{wayCount}
-use Rattle.judgement.specs.declared.Judgement.{Judgement}
-use Rattle.every_way.specs.Call as ways
-use Rattle.every_way.specs.Call.{exhaustiveCall}
+use Rattle.exhaustive_ways.specs.Ways.{wayCount}
+use Rattle.exhaustive_hits.specs.declared.judgement.Judgement.{Judgement}
+use Rattle.exhaustive_hits.specs.Call as ways
+use Rattle.exhaustive_hits.specs.Call.{exhaustiveCall}
 
 -- ---- lots
 
@@ -98,10 +98,10 @@ counted j = j .ways ∷ j .location .hits ∷ j .dispersion .hits ∷ []
 
 -- what slices hold
 abbrev pub heldTest : test.Slices → List ℕ
-heldTest s = s .labels ++ s .counts ++ map bits (s .means ++ s .terms ++ s .pulls)
+heldTest s = s .labels ++ s .counts ++ map bits (s .means ++ s .pairTerms ++ s .weightedSquares)
 
 abbrev pub heldWays : ways.Slices → List ℕ
-heldWays s = s .labels ++ s .counts ++ s .rows ++ map bits (s .means ++ s .terms ++ s .pulls ++ s .coords ++ s .room ++ s .vectors)
+heldWays s = s .labels ++ s .counts ++ s .labelCounts ++ map bits (s .means ++ s .pairTerms ++ s .weightedSquares ++ s .coords ++ s .eigenpairs ++ s .vectors)
 
 -- whole calls: which p are given, and the slices; the number of a refusal, and the slices
 abbrev pub given-p : test.Called → List ℕ

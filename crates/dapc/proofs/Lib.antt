@@ -1,3 +1,6 @@
+-- The lines of the table, and case (l).
 -- The groups that labels give, and a whole call.
-pub mod Grouping
-pub mod Whole
+pub mod Lines
+pub mod Cases
+pub mod LabelGroups
+pub mod Calls

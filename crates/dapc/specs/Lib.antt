@@ -1,3 +1,5 @@
+-- Section 5 of document 01: the lines of the table.
 -- Section 5 of document 01: a whole call of `dapc`.
+pub mod DapcLines
 pub mod Call
-pub mod Inner
+pub mod inner

@@ -1,12 +1,17 @@
 // Section 5 of document 01: discriminant scores, `dapc`.
-use designs::Design;
-use discriminant::Answer;
+pub mod checks;
+
+use dapc_discriminant::Answer;
+use dapc_discriminant::analysis;
+use lot_design::Design;
+use lot_design::kept;
 use outcome::Check;
 ghost use mathlib.Core.Path.{_≡_};
 ghost use lib.ListN.{length};
-ghost use Rattle.discriminant.specs.Outputs.{called};
-ghost use Rattle.dapc.specs.Call.{groupsCall, dapcCall};
-ghost use Rattle.dapc.specs.Inner.{scoresCall, Sized, Scorable};
+ghost use Rattle.dapc_discriminant.specs.Outputs.{called};
+ghost use Rattle.dapc.specs.Call.{dapcCall};
+ghost use Rattle.dapc.specs.inner.Call.{groupsCall};
+ghost use Rattle.dapc.specs.inner.Scores.{scoresCall, Sized, Scorable};
 
 // Each kept sample gets its group, the others none, and the scores are found on the columns that lead.
 fn assess(out: &mut [f64], assigned: &mut [u16], x: &[f64], columns: usize, d: Design) -> Answer
@@ -18,19 +23,25 @@ fn assess(out: &mut [f64], assigned: &mut [u16], x: &[f64], columns: usize, d: D
     let g = d.groups;
     let ks = d.samples;
     let gs = d.group;
-    let mut each = [65535u16; 256];
+    let mut each = [limits::NONE; limits::MOST_SAMPLES];
     kept::groups::place(&mut each[..n], &ks[..m], &gs[..m]);
-    let p = discriminant::leading_of(columns, m, g);
-    separation::discriminate(out, assigned, x, &each[..n], columns, p, m, g)
+    let p = dapc_discriminant::columns_used(columns, m, g);
+    analysis::discriminate(out, assigned, x, &each[..n], columns, p, m, g)
 }
 
 // Lines 5 and 9 by the design of the labels, and then the scores.
-fn judge(out: &mut [f64], assigned: &mut [u16], x: &[f64], columns: usize, labels: &[u16]) -> Answer
+fn analyse(
+    out: &mut [f64],
+    assigned: &mut [u16],
+    x: &[f64],
+    columns: usize,
+    labels: &[u16],
+) -> Answer
     requires { ⌜ Sized columns (now x) (now labels) (length (now out)) (length (now assigned)) ⌝ }
     ensures { λ r. ⌜ called r (now (out .exit)) (now (assigned .exit)) ≡ groupsCall (length (now (labels .entry))) columns (now (x .entry)) (now (labels .entry)) (now (out .entry)) (now (assigned .entry)) ⌝ }
 {
-    let d = designs::design_of(labels, false, labels);
-    let c = dapc_lines::check_groups(columns, d.kept, d.groups);
+    let d = lot_design::design_of(labels, false, labels);
+    let c = checks::check_groups(columns, d.kept, d.groups);
     match c {
         Check::Refused(r) => Answer::Refused(r),
         Check::Passed => assess(out, assigned, x, columns, d),
@@ -49,9 +60,9 @@ pub fn dapc(
 ) -> Answer
     ensures { λ r. ⌜ called r (now (out .exit)) (now (assigned .exit)) ≡ dapcCall n columns (now (x .entry)) (now (labels .entry)) (now (out .entry)) (now (assigned .entry)) ⌝ }
 {
-    let c = dapc_lines::check(x, n, columns, labels.len(), out.len(), assigned.len());
+    let c = checks::check(x, n, columns, labels.len(), out.len(), assigned.len());
     match c {
         Check::Refused(r) => Answer::Refused(r),
-        Check::Passed => judge(out, assigned, x, columns, labels),
+        Check::Passed => analyse(out, assigned, x, columns, labels),
     }
 }

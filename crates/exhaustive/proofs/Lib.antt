@@ -1,3 +1,4 @@
+-- Whether a slice is short.
 -- What is known of a call that the lines let pass, and a whole call.
-pub mod Passing
-pub mod Whole
+pub mod PassedLines
+pub mod Calls

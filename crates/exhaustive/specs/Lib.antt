@@ -1,2 +1,2 @@
 -- What inner functions of the exhaustive test are asked.
-pub mod Inner
+pub mod inner

@@ -10,12 +10,9 @@ use lib.Ieee.{Float, nan, inf, fin, binary64, up, size, fits, isNan, lt, eq, div
 use lib.Ieee.Digits.{size-le}
 use lib.Ieee.Fits.{up-pos, kept-lt}
 use lib.Ieee.Positive.{positive, positive-finite, above}
-use Rattle.float.specs.Floats.{zero⁺}
-use Rattle.float.specs.Value.{units}
-use Rattle.float.specs.Root.{rootOf, root}
-use Rattle.float.specs.Pattern.{unitsOf}
-use Rattle.float.proofs.Signed.{SignedEq}
-use Rattle.float.proofs.Units.{units-lt, units-pos, pattern-units, unitsOf-bits}
+use Rattle.float.specs.{Floats.zero⁺, Value.units, Root.rootOf, Root.root}
+use Rattle.float.specs.inner.Pattern.{unitsOf}
+use Rattle.float.proofs.{Signed.SignedEq, Units.units-lt, Units.units-pos, Units.pattern-units, Units.unitsOf-bits}
 use Rattle.float.proofs.Signs.{eq-zero, zero-lt, zero-is}
 
 -- ---- above zero
@@ -34,7 +31,8 @@ above-no-nan (fin s m e) t = tt
 
 -- ---- the patterns of the finite values end below the infinity's
 pub pattern-lt : (x : Float) → T (fits binary64 x) → T (positive x) → toBits binary64 x < 0x7ff0_0000_0000_0000
-pattern-lt x h p = subst (λ (b : ℕ). b < 0x7ff0_0000_0000_0000) (sym (pattern-units x p)) (go (size (units x)) (units x / 2 ^ (size (units x) - 53)) (size-le (units x) 2098 (units-lt x h (positive-finite x p))) (kept-lt 53 (units x)))
+pattern-lt x h p = subst (λ (b : ℕ). b < 0x7ff0_0000_0000_0000) (sym (pattern-units x p))
+    (go (size (units x)) (units x / 2 ^ (size (units x) - 53)) (size-le (units x) 2098 (units-lt x h (positive-finite x p))) (kept-lt 53 (units x)))
   where
     go : (z q : ℕ) → z ≤ 2098 → q < 2 ^ 53 → (z - 53) * 2 ^ 52 + q < 0x7ff0_0000_0000_0000
     go z q a b = omega arith

@@ -37,14 +37,12 @@ exact m a d b e rest t =
 half-stays : (m q rest s : ℕ) → rest + q * q ≡ m * 2 ^ 52 → IsRoot (m * 2 ^ 54) s → rest ≤ q → (s + 1) / 2 ≡ q
 half-stays m q rest s h r l =
     let at-least : 2 * q ≤ s = square-le (2 * q) s (m * 2 ^ 54) (omega arith) (r .1) in
-    let at-most : s ≤ 2 * q = square-le s (2 * q) (m * 2 ^ 54) (r .0) (omega arith) in
-    omega arith
+    let at-most : s ≤ 2 * q = square-le s (2 * q) (m * 2 ^ 54) (r .0) (omega arith) in omega arith
 
 half-goes-up : (m q rest s : ℕ) → rest + q * q ≡ m * 2 ^ 52 → IsRoot (m * 2 ^ 54) s → q < rest → rest ≤ 3 * q → (s + 1) / 2 ≡ q + 1
 half-goes-up m q rest s h r g l =
     let at-least : 2 * q + 1 ≤ s = square-le (2 * q + 1) s (m * 2 ^ 54) (omega arith) (r .1) in
-    let at-most : s ≤ 2 * q + 2 = square-le s (2 * q + 2) (m * 2 ^ 54) (r .0) (omega arith) in
-    omega arith
+    let at-most : s ≤ 2 * q + 2 = square-le s (2 * q + 2) (m * 2 ^ 54) (r .0) (omega arith) in omega arith
 
 module _ (m a d b e rest : ℕ) (t : Tested m a d b e rest) where
   pub stays : rest ≤ a * 2 ^ 25 + b → a * 2 ^ 25 + b ≡ (isqrt 54 (m * 2 ^ 54) + 1) / 2

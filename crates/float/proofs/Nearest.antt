@@ -2,7 +2,9 @@
 use mathlib.Core.Path.{_≡_, refl, sym, ap, _∙_, subst}
 use mathlib.Core.Logic.{_⊎_, inl, inr}
 use Prim.Native.Nat.{ℕ, zero, suc, _+_, _-_, _*_, _/_, _%_, _^_, _≤_, _<_}
-use native.Mathlib.Nat.{add-comm, le-antisymm, le-of-suc-le-suc, lt-of-not-le, lt-irrefl, le-of-lt, le-of-eq, le-trans, lt-of-lt-of-le, lt-of-le-of-lt, mul-assoc, mul-left-comm, two-mul, mul-mod-left, pow-succ', mul-mul-mul-comm, mul-pos, mul-le-mul, mul-le-mul-left, mul-le-mul-right, mul-lt-mul-of-pos-right, lt-of-mul-lt-mul-right, mul-div-cancel, le-of-mul-le-mul-right}
+use native.Mathlib.Nat.{add-comm, le-antisymm, le-of-suc-le-suc, lt-of-not-le, lt-irrefl, le-of-lt, le-of-eq, le-trans, lt-of-lt-of-le, lt-of-le-of-lt}
+use native.Mathlib.Nat.{mul-assoc, mul-left-comm, two-mul, mul-mod-left, pow-succ', mul-mul-mul-comm, mul-pos, mul-le-mul, mul-le-mul-left, mul-le-mul-right}
+use native.Mathlib.Nat.{mul-lt-mul-of-pos-right, lt-of-mul-lt-mul-right, mul-div-cancel, le-of-mul-le-mul-right}
 use lib.Arith.{lt-of-le-ne}
 use native.Mathlib.Omega.{arith}
 use mathlib.Core.Bool.{Bool, true, false, not}
@@ -11,9 +13,7 @@ use lib.Pow.{pow-add, pow-pos, pow-mono, shl-lt}
 use lib.Ieee.{Float, nan, inf, fin, binary64, size, odd, fits}
 use lib.Ieee.Digits.{size-lt, size-le, size-reaches, back}
 use lib.Ieee.Positive.{positive, positive-finite}
-use Rattle.float.specs.Value.{units}
-use Rattle.float.specs.Root.{isqrt, rootOf, root}
-use Rattle.float.specs.Nearest.{NearestRoot}
+use Rattle.float.specs.{Value.units, Root.isqrt, Root.rootOf, Root.root, Nearest.NearestRoot}
 use Rattle.float.proofs.Isqrt.{IsRoot, square-le, isqrt-root}
 use Rattle.float.proofs.Units.{Grid, size-gt, units-injective, units-grid, units-lt, units-pos, made-units, made-fits, made-positive}
 
@@ -25,7 +25,11 @@ multiple n k g = go (leb k (g .zeros)) (leb→le k (g .zeros)) (nleb→lt k (g .
     go : (b : Bool) → (T b → k ≤ g .zeros) → (T (not b) → g .zeros < k) → (n < 2 ^ 52 * 2 ^ k) ⊎ ((c : ℕ) × (n ≡ c * 2 ^ k))
     go true y z =
         let j = g .zeros in
-        inr (g .digits * 2 ^ (j - k), g .made ∙ ap (λ (x : ℕ). g .digits * x) (ap (λ (x : ℕ). 2 ^ x) (sym (back j k (y tt))) ∙ pow-add 2 (j - k) k) ∙ sym (mul-assoc (g .digits) (2 ^ (j - k)) (2 ^ k)))
+        inr (
+          g .digits * 2 ^ (j - k),
+          g .made ∙ ap (λ (x : ℕ). g .digits * x) (ap (λ (x : ℕ). 2 ^ x) (sym (back j k (y tt))) ∙ pow-add 2 (j - k) k)
+              ∙ sym (mul-assoc (g .digits) (2 ^ (j - k)) (2 ^ k)),
+        )
     go false y z =
         let j = g .zeros in
         inl (subst (λ (x : ℕ). x < 2 ^ 52 * 2 ^ k) (sym (g .made))
@@ -51,7 +55,8 @@ next n q k g l h = elim (multiple n k g) [
 previous : (n q k : ℕ) → Grid n → 2 ^ 52 < q → n < q * 2 ^ k → n + 2 ^ k ≤ q * 2 ^ k
 previous n q k g l h = elim (multiple n k g) [
   | inl s ↦ below (2 ^ 52 * 2 ^ k) (2 ^ k) (q * 2 ^ k) s (subst (λ (x : ℕ). x ≤ q * 2 ^ k) (plus (2 ^ 52) (2 ^ k)) (mul-le-mul-right (2 ^ k) l))
-  | inr c ↦ subst (λ (x : ℕ). x + 2 ^ k ≤ q * 2 ^ k) (sym (c .1)) (subst (λ (x : ℕ). x ≤ q * 2 ^ k) (plus (c .0) (2 ^ k)) (mul-le-mul-right (2 ^ k) (lt-of-mul-lt-mul-right (2 ^ k) (subst (λ (x : ℕ). x < q * 2 ^ k) (c .1) h))))
+  | inr c ↦ subst (λ (x : ℕ). x + 2 ^ k ≤ q * 2 ^ k) (sym (c .1)) (subst (λ (x : ℕ). x ≤ q * 2 ^ k) (plus (c .0) (2 ^ k))
+      (mul-le-mul-right (2 ^ k) (lt-of-mul-lt-mul-right (2 ^ k) (subst (λ (x : ℕ). x < q * 2 ^ k) (c .1) h))))
 ]
   where
     below : (a p b : ℕ) → n < a → a + p ≤ b → n + p ≤ b
@@ -66,8 +71,7 @@ square-parity : (s n : ℕ) → s % 2 ≡ 1 → n % 2 ≡ 0 → s * s ≡ n → 
 square-parity s n o e h =
     let t = s / 2 in
     let w : s ≡ 2 * t + 1 = omega arith in
-    let z : (2 * t + 1) * (2 * t + 1) ≡ n = subst (λ (x : ℕ). x * x ≡ n) w h in
-    omega arith
+    let z : (2 * t + 1) * (2 * t + 1) ≡ n = subst (λ (x : ℕ). x * x ≡ n) w h in omega arith
 
 pub record Rounded (n q : ℕ) : Type 0 where
   pub under : (4 * (q * q) ≤ n) ⊎ ((2 ^ 52 < q) × ((2 * q - 1) * (2 * q - 1) < n))
@@ -87,8 +91,7 @@ rounded n s r lo hi e =
     go : (d : ℕ) → s % 2 ≡ d → 2 ^ 53 ≤ s → (4 * ((s + 1) / 2 * ((s + 1) / 2)) ≤ n) ⊎ ((2 ^ 52 < (s + 1) / 2) × ((2 * ((s + 1) / 2) - 1) * (2 * ((s + 1) / 2) - 1) < n))
     go zero h a =
         let w : 2 * ((s + 1) / 2) ≡ s = omega arith in
-        let z : 2 * ((s + 1) / 2) * (2 * ((s + 1) / 2)) ≤ n = subst (λ (x : ℕ). x * x ≤ n) (sym w) (r .0) in
-        inl (omega arith)
+        let z : 2 * ((s + 1) / 2) * (2 * ((s + 1) / 2)) ≤ n = subst (λ (x : ℕ). x * x ≤ n) (sym w) (r .0) in inl (omega arith)
     go (suc d) h a =
         let o : s % 2 ≡ 1 = omega arith in
         let w : 2 * ((s + 1) / 2) - 1 ≡ s = omega arith in
@@ -101,11 +104,9 @@ square-lt a b h = lt-of-le-of-lt (mul-le-mul-left a (le-of-lt h)) (mul-lt-mul-of
 module _ (n q k : ℕ) (r : Rounded n q) (Y : ℕ) (g : Grid Y) where
   pub smaller : Y < q * 2 ^ k → (Y + q * 2 ^ k) * (Y + q * 2 ^ k) < n * (2 ^ k * 2 ^ k)
   smaller h = elim (r .under) [
-    | inl u ↦
-        lt-of-lt-of-le (square-lt (Y + q * 2 ^ k) (q * 2 ^ k + q * 2 ^ k) (omega arith))
+    | inl u ↦ lt-of-lt-of-le (square-lt (Y + q * 2 ^ k) (q * 2 ^ k + q * 2 ^ k) (omega arith))
         (le-trans (le-of-eq (twice q (2 ^ k))) (mul-le-mul-right (2 ^ k * 2 ^ k) u))
-    | inr u ↦
-        let l : Y + q * 2 ^ k ≤ (2 * q - 1) * 2 ^ k = most Y q (2 ^ k) (u .0) (previous Y q k g (u .0) h) in
+    | inr u ↦ let l : Y + q * 2 ^ k ≤ (2 * q - 1) * 2 ^ k = most Y q (2 ^ k) (u .0) (previous Y q k g (u .0) h) in
         lt-of-le-of-lt (le-trans (mul-le-mul l l) (le-of-eq (mul-mul-mul-comm (2 * q - 1) (2 ^ k) (2 * q - 1) (2 ^ k)))) (mul-lt-mul-of-pos-right (u .1) (mul-pos (pow-pos k) (pow-pos k)))
   ]
     where
@@ -159,28 +160,19 @@ scaling X g P =
     let t = j + 1076 - suc d in
     let le : suc d ≤ j + 1076 = room z j (size-le X (53 + j) (subst (λ (x : ℕ). x < 2 ^ (53 + j)) (sym (g .made)) (shl-lt 53 j (g .few)))) in
     let Z : 0 < z = size-gt X 0 P in
-    let split : X * 2 ^ 1076 ≡ m * 2 ^ t * 2 * 2 ^ d =
-    ap (λ (x : ℕ). x * 2 ^ 1076) (g .made)
-    ∙ mul-assoc m (2 ^ j) (2 ^ 1076)
+    let split : X * 2 ^ 1076 ≡ m * 2 ^ t * 2 * 2 ^ d = ap (λ (x : ℕ). x * 2 ^ 1076) (g .made) ∙ mul-assoc m (2 ^ j) (2 ^ 1076)
     ∙ ap (λ (x : ℕ). m * x) (sym (pow-add 2 j 1076) ∙ ap (λ (x : ℕ). 2 ^ x) (sym (back (j + 1076) (suc d) le)) ∙ pow-add 2 t (suc d) ∙ ap (λ (x : ℕ). 2 ^ t * x) (pow-succ' 2 d))
-    ∙ sym (mul-assoc m (2 ^ t) (2 * 2 ^ d))
-    ∙ sym (mul-assoc (m * 2 ^ t) 2 (2 ^ d)) in
+    ∙ sym (mul-assoc m (2 ^ t) (2 * 2 ^ d)) ∙ sym (mul-assoc (m * 2 ^ t) 2 (2 ^ d)) in
     let is : scaled X ≡ m * 2 ^ t * 2 = ap (λ (x : ℕ). x / 2 ^ d) split ∙ mul-div-cancel (m * 2 ^ t * 2) (pow-pos d) in
     let whole : scaled X * 2 ^ d ≡ X * 2 ^ 1076 = ap (λ (x : ℕ). x * 2 ^ d) is ∙ sym split in
     record {
       whole = whole;
       even = ap (λ (x : ℕ). x % 2) is ∙ mul-mod-left (m * 2 ^ t) 2;
-      at-least =
-          le-of-mul-le-mul-right
-          (le-trans (le-of-eq (sym (pow-add 2 106 d)))
-          (le-trans (pow-mono (least-exponent z Z))
+      at-least = le-of-mul-le-mul-right (le-trans (le-of-eq (sym (pow-add 2 106 d))) (le-trans (pow-mono (least-exponent z Z))
           (le-trans (le-of-eq (pow-add 2 (z - 1) 1076))
           (le-trans (mul-le-mul-right (2 ^ 1076) (size-reaches X (z - 1) (pred-lt z Z))) (le-of-eq (sym whole))))))
           (pow-pos d);
-      below =
-          lt-of-mul-lt-mul-right (2 ^ d)
-          (lt-of-le-of-lt (le-of-eq whole)
-          (lt-of-lt-of-le (shl-lt z 1076 (size-lt X))
+      below = lt-of-mul-lt-mul-right (2 ^ d) (lt-of-le-of-lt (le-of-eq whole) (lt-of-lt-of-le (shl-lt z 1076 (size-lt X))
           (le-trans (pow-mono (most-exponent z)) (le-of-eq (pow-add 2 108 d)))));
     }
 
@@ -191,14 +183,11 @@ rootDigits X = (isqrt 54 (scaled X) + 1) / 2
 
 pub root-rounded : (X : ℕ) → Grid X → 0 < X → Rounded (scaled X) (rootDigits X)
 root-rounded X g P =
-    let s = scaling X g P in
-    rounded (scaled X) (isqrt 54 (scaled X)) (isqrt-root 54 (scaled X) (s .below)) (s .at-least) (s .below) (s .even)
+    let s = scaling X g P in rounded (scaled X) (isqrt 54 (scaled X)) (isqrt-root 54 (scaled X) (s .below)) (s .at-least) (s .below) (s .even)
 
 -- n * 4 ^ k is 4 times X * 2 ^ 1074
 four : (X : ℕ) → Scaled X → scaled X * (2 ^ halved X * 2 ^ halved X) ≡ 4 * (X * 2 ^ 1074)
-four X s =
-    ap (λ (x : ℕ). scaled X * x) (sym (pow-add 2 (halved X) (halved X)) ∙ ap (λ (x : ℕ). 2 ^ x) (sym (two-mul (halved X))))
-    ∙ s .whole
+four X s = ap (λ (x : ℕ). scaled X * x) (sym (pow-add 2 (halved X) (halved X)) ∙ ap (λ (x : ℕ). 2 ^ x) (sym (two-mul (halved X)))) ∙ s .whole
     ∙ sym (mul-left-comm 4 X (2 ^ 1074))
 
 halved-le : (z : ℕ) → z ≤ 2098 → 484 + (z + 1) / 2 ≤ 2000
@@ -222,11 +211,9 @@ nearest x h p =
     record {
       held = made-fits q k (r .few) (halved-le (size X) (size-le X 2098 (units-lt x h (positive-finite x p))));
       above-zero = made-positive q k (lt-of-lt-of-le (lit< tt) (r .large));
-      beats-smaller = λ y f t.
-          subst (λ (c : ℕ). units y < c → (units y + c) * (units y + c) < 4 * (X * 2 ^ 1074)) (sym R)
+      beats-smaller = λ y f t. subst (λ (c : ℕ). units y < c → (units y + c) * (units y + c) < 4 * (X * 2 ^ 1074)) (sym R)
           (subst (λ (z : ℕ). units y < q * 2 ^ k → (units y + q * 2 ^ k) * (units y + q * 2 ^ k) < z) F (smaller (scaled X) q k r (units y) (units-grid y f t)));
-      beats-larger = λ y f t.
-          subst (λ (c : ℕ). c < units y → 4 * (X * 2 ^ 1074) < (units y + c) * (units y + c)) (sym R)
+      beats-larger = λ y f t. subst (λ (c : ℕ). c < units y → 4 * (X * 2 ^ 1074) < (units y + c) * (units y + c)) (sym R)
           (subst (λ (z : ℕ). q * 2 ^ k < units y → z < (units y + q * 2 ^ k) * (units y + q * 2 ^ k)) F (larger (scaled X) q k r (units y) (units-grid y f t)));
     }
 
@@ -237,8 +224,7 @@ root-nearest (inf s) h p = absurd p
 root-nearest (fin true m e) h p = absurd p
 root-nearest (fin false zero e) h p = absurd p
 root-nearest (fin false (suc m) e) h p =
-    let x = fin false (suc m) e in
-    subst (λ (r : Float). NearestRoot x r) (sym (rootOf-is (units x))) (nearest x h p)
+    let x = fin false (suc m) e in subst (λ (r : Float). NearestRoot x r) (sym (rootOf-is (units x))) (nearest x h p)
 
 -- ---- there is one nearest only: `NearestRoot` leaves nothing open
 pub nearest-unique : (x r r' : Float) → NearestRoot x r → NearestRoot x r' → r ≡ r'
@@ -249,7 +235,5 @@ nearest-unique x r r' a b = units-injective r r' (a .held) (b .held) (a .above-z
 
     -- no nearest root is above another: their midpoint would be on both sides of the exact root
     above : {s t : Float} → NearestRoot x s → NearestRoot x t → units t < units s → ⊥
-    above {s} {t} c d h =
-        lt-irrefl (4 * (units x * 2 ^ 1074))
-        (lt-of-lt-of-le (d .beats-larger s (c .held) (positive-finite s (c .above-zero)) h)
+    above {s} {t} c d h = lt-irrefl (4 * (units x * 2 ^ 1074)) (lt-of-lt-of-le (d .beats-larger s (c .held) (positive-finite s (c .above-zero)) h)
         (le-trans (le-of-eq (ap (λ (z : ℕ). z * z) (add-comm (units s) (units t)))) (le-of-lt (c .beats-smaller t (d .held) (positive-finite t (d .above-zero)) h))))

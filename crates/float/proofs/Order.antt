@@ -6,20 +6,20 @@ use mathlib.Core.Bool.{Bool, true, false, not}
 use Prim.Native.Nat.{ℕ, _+_, _*_, _^_, _≤_, _<_}
 use native.Mathlib.Nat.{mul-assoc, mul-right-comm, mul-pos}
 use native.Mathlib.Omega.{arith}
-use lib.Dec.{T, T-not}
+use lib.Dec.{T}
 use lib.Pow.{pow-pos}
 use lib.Ieee.{Float, nan, inf, fin, up, down, neg, lt, eq, le, isNan}
 use lib.Ieee.Fits.{down-pos}
 use lib.Ieee.Exact.{HasValue}
 use lib.Ieee.Scale.{finite}
 use Rattle.float.specs.Value.{SignedLe, sign}
-use Rattle.float.proofs.Tests.{or-l}
 use Rattle.float.proofs.Signed.{SignedEq, signed-refl, signed-trans, signed-way, signed-total, signed-neg, signed-over, below-iff, level-iff, either-iff}
 use Rattle.float.proofs.Value.{depth, unitsAt, value-at, value-same, crossed-left, crossed-right}
 
 -- ---- the comparisons of floats are those of their values
 -- the order of the fractions that the toolchain compares is that of the values ±a / c and ±b / c
-compared : (s' : Bool) (m : ℕ) (e : lib.IntN.ℤ) (t' : Bool) (n : ℕ) (d : lib.IntN.ℤ) (s : Bool) (a : ℕ) (t : Bool) (b c : ℕ) → 0 < c → HasValue (fin s' m e) s a c → HasValue (fin t' n d) t b c
+compared : (s' : Bool) (m : ℕ) (e : lib.IntN.ℤ) (t' : Bool) (n : ℕ) (d : lib.IntN.ℤ) (s : Bool) (a : ℕ) (t : Bool) (b c : ℕ) → 0 < c →
+    HasValue (fin s' m e) s a c → HasValue (fin t' n d) t b c
     → (SignedLe s' (m * up e * down d) t' (n * up d * down e) ↔ SignedLe s a t b) × (SignedLe t' (n * up d * down e) s' (m * up e * down d) ↔ SignedLe t b s a)
 compared s' m e t' n d s a t b c C v w =
     let D = down e * down d in
@@ -79,9 +79,6 @@ module _ (l : ℕ) (x y : Float) (p : T (finite x)) (q : T (finite y)) (h : dept
   pub le-at : T (le x y) ↔ SignedLe (sign x) (unitsAt l x) (sign y) (unitsAt l y)
   le-at = le-over x y (sign x) (unitsAt l x) (sign y) (unitsAt l y) (2 ^ l) (pow-pos l) (value-at l x p h) (value-at l y q k)
 
-  pub lt-at : T (lt x y) ↔ (SignedLe (sign y) (unitsAt l y) (sign x) (unitsAt l x) → ⊥)
-  lt-at = lt-over x y (sign x) (unitsAt l x) (sign y) (unitsAt l y) (2 ^ l) (pow-pos l) (value-at l x p h) (value-at l y q k)
-
   pub eq-at : T (eq x y) ↔ SignedEq (sign x) (unitsAt l x) (sign y) (unitsAt l y)
   eq-at = eq-over x y (sign x) (unitsAt l x) (sign y) (unitsAt l y) (2 ^ l) (pow-pos l) (value-at l x p h) (value-at l y q k)
 
@@ -107,13 +104,6 @@ top nan p = absurd p
 top (inf true) p = tt
 top (inf false) p = tt
 top (fin s m e) p = tt
-
--- no NaN has an upper bound or is one
-pub left-number : (x y : Float) → T (le x y) → T (not (isNan x))
-unfolding le isNan
-left-number nan y h = h
-left-number (inf s) y h = tt
-left-number (fin s m e) y h = tt
 
 pub right-number : (x y : Float) → T (le x y) → T (not (isNan y))
 unfolding isNan
@@ -188,60 +178,6 @@ le-antisymm (fin s m e) (fin t n d) h k =
     eq-at l x y tt tt (omega arith) (omega arith) .1 (le-at l x y tt tt (omega arith) (omega arith) .0 h, le-at l y x tt tt (omega arith) (omega arith) .0 k)
 
 -- ---- `lt` beside `le`
-pub le-of-lt : (x y : Float) → T (lt x y) → T (le x y)
-unfolding le
-le-of-lt x y h = or-l (lt x y) (eq x y) h
-
--- where `x < y` says no, of two numbers, y is no more than x
-pub le-of-not-lt : (x y : Float) → T (not (isNan x)) → T (not (isNan y)) → T (not (lt x y)) → T (le y x)
-unfolding lt
-le-of-not-lt nan y p q h = absurd (unfold isNan in p)
-le-of-not-lt (inf true) nan p q h = absurd (unfold isNan in q)
-le-of-not-lt (inf true) (inf true) p q h = bottom (inf true) p
-le-of-not-lt (inf true) (inf false) p q h = absurd h
-le-of-not-lt (inf true) (fin t n d) p q h = absurd h
-le-of-not-lt (inf false) y p q h = top y q
-le-of-not-lt (fin s m e) nan p q h = absurd (unfold isNan in q)
-le-of-not-lt (fin s m e) (inf true) p q h = bottom (fin s m e) p
-le-of-not-lt (fin s m e) (inf false) p q h = absurd h
-le-of-not-lt (fin s m e) (fin t n d) p q h =
-    let x = fin s m e in
-    let y = fin t n d in
-    let l = depth x + depth y in
-    elim (signed-way t (unitsAt l y) s (unitsAt l x)) [
-      | inl k ↦ le-at l y x tt tt (omega arith) (omega arith) .1 k
-      | inr k ↦ absurd (T-not (lt x y) h (lt-at l x y tt tt (omega arith) (omega arith) .1 k))
-    ]
-
--- and where `x < y` says yes, y is not `<= x`
-pub lt-not-le : (x y : Float) → T (lt x y) → T (le y x) → ⊥
-unfolding lt le
-lt-not-le nan y h k = absurd h
-lt-not-le (inf s) nan h k = absurd h
-lt-not-le (inf true) (inf true) h k = h
-lt-not-le (inf true) (inf false) h k = k
-lt-not-le (inf false) (inf t) h k = h
-lt-not-le (inf true) (fin t n d) h k = k
-lt-not-le (inf false) (fin t n d) h k = h
-lt-not-le (fin s m e) nan h k = h
-lt-not-le (fin s m e) (inf true) h k = h
-lt-not-le (fin s m e) (inf false) h k = k
-lt-not-le (fin s m e) (fin t n d) h k =
-    let x = fin s m e in
-    let y = fin t n d in
-    let l = depth x + depth y in
-    lt-at l x y tt tt (omega arith) (omega arith) .0 h (le-at l y x tt tt (omega arith) (omega arith) .0 k)
-
--- what is between two finite values is finite
-pub between-finite : (lo x hi : Float) → T (finite lo) → T (finite hi) → T (le lo x) → T (le x hi) → T (finite x)
-between-finite lo nan hi p q h k = not-le-nan lo h
-between-finite nan (inf t) hi p q h k = absurd p
-between-finite (inf s) (inf t) hi p q h k = absurd p
-between-finite (fin s m e) (inf true) hi p q h k = absurd (unfold le in h)
-between-finite (fin s m e) (inf false) nan p q h k = absurd q
-between-finite (fin s m e) (inf false) (inf u) p q h k = absurd q
-between-finite (fin s m e) (inf false) (fin u o g) p q h k = absurd (unfold le in k)
-between-finite lo (fin t n d) hi p q h k = tt
 
 -- `neg` turns the order round
 pub neg-le : (x y : Float) → T (le x y) → T (le (neg y) (neg x))

@@ -6,13 +6,8 @@ use lib.Dec.{T, lt→ltb}
 use lib.Ieee.{Float, nan, inf, fin, Format, binary64, fits, lt, isNan}
 use lib.Ieee.Bits.{ofBits-fits}
 use lib.Ieee.Fits.{cond-fits, nan-fits, inf-fits, neg-fits, sub-fits}
-use Rattle.float.specs.Floats.{1·0, -1·0}
-use Rattle.float.specs.Value.{sign}
-use Rattle.float.specs.Order.{magnitude, larger, signum}
-use Rattle.float.specs.Root.{root}
-use Rattle.float.specs.Tolerance.{threshold}
-use Rattle.float.proofs.Value.{sign-fits}
-use Rattle.float.proofs.Nearest.{root-nearest}
+use Rattle.float.specs.{Floats.1·0, Floats.-1·0, Value.sign, Order.magnitude, Order.larger, Order.signum, Root.root, Tolerance.threshold}
+use Rattle.float.proofs.{Value.sign-fits, Nearest.root-nearest}
 
 pub abs-fits : (f : Format) (x : Float) → T (fits f x) → T (fits f (magnitude x))
 unfolding magnitude
@@ -34,8 +29,7 @@ max-fits f (fin s m e) (fin t n d) p q =
 
 pub signum-fits : (x : Float) → T (fits binary64 (signum x))
 unfolding signum
-signum-fits x =
-    cond-fits binary64 (isNan x) nan (cond (sign x) -1·0 1·0) (nan-fits binary64)
+signum-fits x = cond-fits binary64 (isNan x) nan (cond (sign x) -1·0 1·0) (nan-fits binary64)
     (cond-fits binary64 (sign x) -1·0 1·0 (neg-fits binary64 1·0 (ofBits-fits binary64 0x3ff0_0000_0000_0000)) (ofBits-fits binary64 0x3ff0_0000_0000_0000))
 
 pub sqrt-fits : (x : Float) → T (fits binary64 x) → T (fits binary64 (root x))

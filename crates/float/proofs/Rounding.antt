@@ -3,7 +3,8 @@
 use mathlib.Core.Path.{_≡_, refl, sym, ap, _∙_, subst, subst₂}
 use mathlib.Core.Bool.{Bool, true, false, cond}
 use Prim.Native.Nat.{ℕ, zero, suc, _+_, _-_, _*_, _^_, _≤_, _<_, zero-le}
-use native.Mathlib.Nat.{le-trans as le-trans-ℕ, le-of-eq, zero-lt-suc, mul-one, one-mul, zero-mul, mul-comm, mul-assoc, mul-right-comm, mul-lt-mul-of-pos-right, lt-of-mul-lt-mul-right}
+use native.Mathlib.Nat.{le-trans as le-trans-ℕ, le-of-eq, zero-lt-suc, mul-one, one-mul, zero-mul, mul-comm}
+use native.Mathlib.Nat.{mul-assoc, mul-right-comm, mul-lt-mul-of-pos-right, lt-of-mul-lt-mul-right}
 use native.Mathlib.Omega.{arith}
 use lib.IntN.{ℤ, pos, negsuc}
 use lib.Dec.{T, ltb}
@@ -15,8 +16,7 @@ use lib.Ieee.Exact.{HasValue, round-exact}
 use lib.Ieee.Scale.{round-same}
 use lib.Ieee.Order.{drop, kept, round-mono}
 use Rattle.float.specs.Value.{SignedLe}
-use Rattle.float.proofs.Value.{depth, first-zero, fitting, unique, zeroOf, zero-fits}
-use Rattle.float.proofs.Units.{depth-le}
+use Rattle.float.proofs.{Value.depth, Value.first-zero, Value.fitting, Value.unique, Value.zeroOf, Value.zero-fits, Units.depth-le}
 use Rattle.float.proofs.Order.{le-trans, neg-le}
 
 -- ---- a value that fits is its own rounding
@@ -51,8 +51,7 @@ own-exact f s (suc m) e p =
 
 -- A value that fits is what any fraction that it equals rounds to.
 pub round-own : (f : Format) (x : Float) (s : Bool) (a c : ℕ) → 0 < c → T (fits f x) → HasValue x s a c → round f s a c ≡ x
-round-own f (fin t m e) s a c C p v =
-    round-same f s a c (m * up e) (down e) C (down-pos e) (sym (v .1))
+round-own f (fin t m e) s a c C p v = round-same f s a c (m * up e) (down e) C (down-pos e) (sym (v .1))
     ∙ ap (λ (b : Bool). round f b (m * up e) (down e)) (sym (v .0))
     ∙ unique f (round f t (m * up e) (down e)) (fin t m e) t (m * up e) (down e) (down-pos e) (round-fits f t (m * up e) (down e)) p (own-exact f t m e p) (refl, refl)
 
@@ -77,8 +76,7 @@ units-neg f q k = go (ltb (q * 2 ^ k) (2 ^ (low f + suc (emax f))))
 -- the negative of a fraction rounds to the negative of what the fraction rounds to
 pub round-neg : (f : Format) (a c : ℕ) → round f true a c ≡ neg (round f false a c)
 round-neg f a c =
-    let n = a * 2 ^ low f in
-    round-is f true a c ∙ units-neg f (kept (prec f) n c) (drop (prec f) n c) ∙ ap neg (sym (round-is f false a c))
+    let n = a * 2 ^ low f in round-is f true a c ∙ units-neg f (kept (prec f) n c) (drop (prec f) n c) ∙ ap neg (sym (round-is f false a c))
 
 -- ---- rounding keeps the order of signed fractions
 both-negative : (f : Format) (a c b d : ℕ) → 0 < c → 0 < d → b * c ≤ a * d → T (le (round f true a c) (round f true b d))
@@ -109,5 +107,4 @@ round-le f true a c false b d C D h =
     le-trans (round f true a c) (zeroOf true) (round f false b d) (round-nonpos f a c C) (le-trans (zeroOf true) (zeroOf false) (round f false b d) (zeros true false) (round-nonneg f b d D))
 round-le f false a c true b d C D h =
     let p : a * d ≡ 0 = omega arith in
-    let q : b * c ≡ 0 = omega arith in
-    rw (first-zero a d D p, first-zero b c C q, round-zero f false c C, round-zero f true d D) (zeros false true)
+    let q : b * c ≡ 0 = omega arith in rw (first-zero a d D p, first-zero b c C q, round-zero f false c C, round-zero f true d D) (zeros false true)

@@ -19,10 +19,7 @@ signed-trans s a t b u c h k = omega arith
 
 -- of two one is no more than the other, and else it is above it
 pub signed-way : (s : Bool) (a : ℕ) (t : Bool) (b : ℕ) → SignedLe s a t b ⊎ (SignedLe s a t b → ⊥)
-signed-way s a t b = elim (either-way (gain s a + gain (not t) b) (gain t b + gain (not s) a)) [
-  | inl h ↦ inl h
-  | inr h ↦ inr (λ k. not-le-of-lt h k)
-]
+signed-way s a t b = elim (either-way (gain s a + gain (not t) b) (gain t b + gain (not s) a)) [ inl h ↦ inl h | inr h ↦ inr (λ k. not-le-of-lt h k) ]
 
 pub signed-total : (s : Bool) (a : ℕ) (t : Bool) (b : ℕ) → (SignedLe t b s a → ⊥) → SignedLe s a t b
 signed-total s a t b h = le-of-lt (lt-of-not-le h)
@@ -50,7 +47,8 @@ signed-scale s a t b k K =
     )
 
 -- A : a and B : b are D : c, so their order is one
-pub signed-over : (s' s : Bool) (A a : ℕ) (t' t : Bool) (B b c D : ℕ) → 0 < c → 0 < D → s' ≡ s → t' ≡ t → A * c ≡ a * D → B * c ≡ b * D → SignedLe s' A t' B ↔ SignedLe s a t b
+pub signed-over : (s' s : Bool) (A a : ℕ) (t' t : Bool) (B b c D : ℕ) → 0 < c → 0 < D → s' ≡ s → t' ≡ t → A * c ≡ a * D → B * c ≡ b * D →
+    SignedLe s' A t' B ↔ SignedLe s a t b
 signed-over s' s A a t' t B b c D C E i j p q =
     let scaled : SignedLe s' (A * c) t' (B * c) ≡ SignedLe s (a * D) t (b * D) = λ k. SignedLe (i k) (p k) (j k) (q k) in
     (λ h. signed-scale s a t b D E .0 (transport scaled (signed-scale s' A t' B c C .1 h)), λ h. signed-scale s' A t' B c C .0 (transport (sym scaled) (signed-scale s a t b D E .1 h)))

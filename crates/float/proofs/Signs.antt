@@ -13,15 +13,10 @@ use lib.Ieee.Bits.{ofBits-toBits, cond-no}
 use lib.Ieee.Compare.{differs-from-itself, nan-differs}
 use lib.Ieee.Fits.{down-pos}
 use lib.Ieee.Exact.{HasValue}
-use Rattle.float.specs.Floats.{zero⁺, 1·0, -1·0}
-use Rattle.float.specs.Value.{sign, SignedLe}
-use Rattle.float.specs.Order.{magnitude, larger, signum}
-use Rattle.float.proofs.Tests.{fails, either-way}
-use Rattle.float.proofs.Signed.{SignedEq}
+use Rattle.float.specs.{Floats.zero⁺, Floats.1·0, Floats.-1·0, Value.sign, Value.SignedLe, Order.magnitude, Order.larger, Order.signum}
+use Rattle.float.proofs.{Tests.fails, Tests.either-way, Signed.SignedEq}
 use Rattle.float.proofs.Value.{first-zero, sign-fits, unique, zeroOf, zero-fits}
-use Rattle.float.proofs.Order.{le-over, lt-over, eq-over, lt-value}
-use Rattle.float.proofs.Rounding.{round-own}
-use Rattle.float.proofs.Sum.{add-at}
+use Rattle.float.proofs.{Order.le-over, Order.lt-over, Order.eq-over, Order.lt-value, Rounding.round-own, Sum.add-at}
 
 -- ---- a finite value beside zero: ±a / c beside 0 / c
 module _ (s : Bool) (m : ℕ) (e : ℤ) where
@@ -56,8 +51,7 @@ zero-is f (fin s m e) p h =
 -- 0 and a value with no sign
 zero-add-abs : (f : Format) (m : ℕ) (e : ℤ) → T (fits f (fin false m e)) → add f (zeroOf false) (fin false m e) ≡ fin false m e
 unfolding sum
-zero-add-abs f m e p =
-    add-at f (zeroOf false) (fin false m e) false 0 false (m * up e) (down e) (down-pos e) (refl, zero-mul (down e)) (refl, refl)
+zero-add-abs f m e p = add-at f (zeroOf false) (fin false m e) false 0 false (m * up e) (down e) (down-pos e) (refl, zero-mul (down e)) (refl, refl)
     ∙ ap (λ (z : ℕ). round f false z (down e)) (zero-add (m * up e))
     ∙ round-own f (fin false m e) false (m * up e) (down e) (down-pos e) p (refl, refl)
 
@@ -114,8 +108,7 @@ max-of-zeros false false = refl
 pub max-zeros : (x y : Float) → T (fits binary64 x) → T (fits binary64 y) → T (eq x zero⁺) → T (eq y zero⁺) → add binary64 x y ≡ larger x y
 max-zeros x y f g h k =
     let a = zero-is binary64 x f h in
-    let b = zero-is binary64 y g k in
-    ap₂ (add binary64) (a .1) (b .1) ∙ max-of-zeros (a .0) (b .0) ∙ sym (ap₂ larger (a .1) (b .1))
+    let b = zero-is binary64 y g k in ap₂ (add binary64) (a .1) (b .1) ∙ max-of-zeros (a .0) (b .0) ∙ sym (ap₂ larger (a .1) (b .1))
 
 -- x is not below y. Where x is negative and y is not, both are zeros; else the sign of x is that of the larger
 same-sign : (s t : Bool) (m : ℕ) (e : ℤ) (n : ℕ) (d : ℤ) → (T (lt (fin s m e) (fin t n d)) → ⊥) → (T (eq (fin s m e) zero⁺) → T (eq (fin t n d) zero⁺) → ⊥) → (s && t) ≡ s
@@ -125,11 +118,11 @@ same-sign true false m e n d h k =
     let a = m * up e * down d in
     let b = n * up d * down e in
     elim (either-way (a + b) 0) [
-      | inl z ↦
-          let i : m * up e ≡ 0 = first-zero (m * up e) (down d) (down-pos d) (omega arith) in
+      | inl z ↦ let i : m * up e ≡ 0 = first-zero (m * up e) (down d) (down-pos d) (omega arith) in
           let j : n * up d ≡ 0 = first-zero (n * up d) (down e) (down-pos e) (omega arith) in
           absurd (k (eq-zero true m e .1 (omega arith, omega arith)) (eq-zero false n d .1 (omega arith, omega arith)))
-      | inr z ↦ absurd (h (lt-value (fin true m e) (fin false n d) true (m * up e) (down e) false (n * up d) (down d) (down-pos e) (down-pos d) (refl, refl) (refl, refl) .1 (λ w. not-le-of-lt z (omega arith))))
+      | inr z ↦ absurd (h (lt-value (fin true m e) (fin false n d) true (m * up e) (down e) false (n * up d) (down d) (down-pos e) (down-pos d)
+          (refl, refl) (refl, refl) .1 (λ w. not-le-of-lt z (omega arith))))
     ]
 
 pub max-rest : (x y : Float) → ne x x ≡ false → lt x y ≡ false → (T (eq x zero⁺) → T (eq y zero⁺) → ⊥) → x ≡ larger x y

@@ -13,8 +13,7 @@ use lib.Ieee.Fits.{down-pos}
 use lib.Ieee.Exact.{HasValue}
 use lib.Ieee.Scale.{finite, round-same}
 use Rattle.float.specs.Value.{gain, SignedLe, sign}
-use Rattle.float.proofs.Nan.{finite-no-nan}
-use Rattle.float.proofs.Signed.{signed-scale}
+use Rattle.float.proofs.{Nan.finite-no-nan, Signed.signed-scale}
 use Rattle.float.proofs.Value.{depth, unitsAt, value-at, crossed-left, crossed-right, zeroOf}
 use Rattle.float.proofs.Order.{le-at, right-number, bottom, top, le-refl, neg-le}
 use Rattle.float.proofs.Rounding.{round-le, round-own, round-zero}
@@ -38,8 +37,16 @@ sub-mul a b k = mul-comm (a - b) k ∙ mul-sub k a b ∙ ap₂ _-_ (mul-comm k a
 -- `sum` sees only the values of its fractions
 sum-scale : (f : Format) (s : Bool) (a : ℕ) (t : Bool) (b c k : ℕ) → 0 < c → 0 < k → sum f s (a * k) t (b * k) (c * k) ≡ sum f s a t b c
 unfolding sum
-sum-scale f s a t b c k C K =
-    rw (ltb-scale a b k K, ltb-scale b a k K, ← add-mul a b k, ← sub-mul b a k, ← sub-mul a b k, round-scale f s (a + b) c k C K, round-scale f t (b - a) c k C K, round-scale f (s && ltb b a) (a - b) c k C K)
+sum-scale f s a t b c k C K = rw (
+  ltb-scale a b k K,
+  ltb-scale b a k K,
+  ← add-mul a b k,
+  ← sub-mul b a k,
+  ← sub-mul a b k,
+  round-scale f s (a + b) c k C K,
+  round-scale f t (b - a) c k C K,
+  round-scale f (s && ltb b a) (a - b) c k C K,
+)
 
 -- The sum of any two values is that of two fractions that they equal, over one denominator.
 pub add-at : (f : Format) (x y : Float) (s : Bool) (a : ℕ) (t : Bool) (b c : ℕ) → 0 < c → HasValue x s a c → HasValue y t b c → add f x y ≡ sum f s a t b c
@@ -51,9 +58,7 @@ add-at f (fin s' m e) (fin t' n d) s a t b c C v w =
     let i : A * c ≡ a * D = crossed-left (m * up e) c a (down e) (down d) (v .1) in
     let j : B * c ≡ b * D = crossed-right (n * up d) c b (down e) (down d) (w .1) in
     let pos-D : 0 < D = mul-pos (down-pos e) (down-pos d) in
-    sym (sum-scale f s' A t' B D c pos-D C)
-    ∙ (λ k. sum f (v .0 k) (i k) (w .0 k) (j k) (mul-comm D c k))
-    ∙ sum-scale f s a t b c D C pos-D
+    sym (sum-scale f s' A t' B D c pos-D C) ∙ (λ k. sum f (v .0 k) (i k) (w .0 k) (j k) (mul-comm D c k)) ∙ sum-scale f s a t b c D C pos-D
 
 -- ---- the exact sum
 -- ±q is the sum of ±a and ±b
@@ -146,10 +151,8 @@ zero-right f false a c = go (ltb a 0) (ltb→lt a 0)
 pub add-neg-zero : (f : Format) (x : Float) → T (fits f x) → add f x (zeroOf true) ≡ x
 add-neg-zero f nan p = unfold add in refl
 add-neg-zero f (inf s) p = unfold add in refl
-add-neg-zero f (fin s m e) p =
-    add-at f (fin s m e) (zeroOf true) s (m * up e) true 0 (down e) (down-pos e) (refl, refl) (refl, zero-mul (down e))
-    ∙ zero-right f s (m * up e) (down e)
-    ∙ round-own f (fin s m e) s (m * up e) (down e) (down-pos e) p (refl, refl)
+add-neg-zero f (fin s m e) p = add-at f (fin s m e) (zeroOf true) s (m * up e) true 0 (down e) (down-pos e) (refl, refl) (refl, zero-mul (down e))
+    ∙ zero-right f s (m * up e) (down e) ∙ round-own f (fin s m e) s (m * up e) (down e) (down-pos e) p (refl, refl)
 
 -- ---- the operands may change places
 swap-signs : (f : Format) (a b c : ℕ) → sum f false a true b c ≡ sum f true b false a c
@@ -193,8 +196,7 @@ neg-zero-add f x p = add-comm f (zeroOf true) x ∙ add-neg-zero f x p
 -- Less w, which is not negative, x is no more than x: where the difference is rounded, or is -∞, too.
 pub sub-le : (f : Format) (x w : Float) → T (fits f x) → T (finite x) → T (le (zeroOf false) w) → T (le (sub f x w) x)
 unfolding sub
-sub-le f x w p q h =
-    subst (λ (z : Float). T (le (add f x (neg w)) z)) (add-neg-zero f x p)
+sub-le f x w p q h = subst (λ (z : Float). T (le (add f x (neg w)) z)) (add-neg-zero f x p)
     (add-le f x x (neg w) (zeroOf true) q q (le-refl x (finite-no-nan x q)) (unfold neg in neg-le (zeroOf false) w h))
 
 -- x - x is 0 where x is finite, and a NaN elsewhere
@@ -218,7 +220,5 @@ finite-test f (fin s m e) =
     let a = m * up e in
     let c = down e in
     let z = sum-is f s a (not s) a c in
-    ap (λ (u : Float). eq u (zeroOf false))
-    (add-at f (fin s m e) (fin (not s) m e) s a (not s) a c (down-pos e) (refl, refl) (refl, refl)
-    ∙ z .2 ∙ ap (λ (q : ℕ). round f (z .0) q c) (opposites (z .0) (z .1) s a (z .3)) ∙ round-zero f (z .0) c (down-pos e))
-    ∙ zero-equals (z .0)
+    ap (λ (u : Float). eq u (zeroOf false)) (add-at f (fin s m e) (fin (not s) m e) s a (not s) a c (down-pos e) (refl, refl) (refl, refl)
+    ∙ z .2 ∙ ap (λ (q : ℕ). round f (z .0) q c) (opposites (z .0) (z .1) s a (z .3)) ∙ round-zero f (z .0) c (down-pos e)) ∙ zero-equals (z .0)

@@ -4,20 +4,12 @@ use mathlib.Core.Path.{_≡_, refl, sym, subst}
 use mathlib.Core.Bool.{true, false, true≢false}
 use Prim.Native.Nat.{_*_, _≤_}
 use native.Mathlib.Nat.{mul-pos}
-use lib.Dec.{T, not-T, le→leb}
+use lib.Dec.{T, le→leb}
 use lib.Ieee.{Float, nan, inf, fin, Format, binary64, up, down, sub, mul, le, fits, ofBits}
-use lib.Ieee.Bits.{is-false}
 use lib.Ieee.Fits.{down-pos}
 use lib.Ieee.Scale.{finite}
-use Rattle.float.specs.Floats.{1e-12}
-use Rattle.float.specs.Value.{sign, rank}
-use Rattle.float.specs.Order.{magnitude}
-use Rattle.float.specs.Tolerance.{threshold, asLarge}
-use Rattle.float.proofs.Value.{zeroOf}
-use Rattle.float.proofs.Order.{le-trans, left-number, not-le-nan, top}
-use Rattle.float.proofs.Rank.{le-rank}
-use Rattle.float.proofs.Rounding.{round-nonneg}
-use Rattle.float.proofs.Sum.{sub-le}
+use Rattle.float.specs.{Floats.1e-12, Value.sign, Value.rank, Order.magnitude, Tolerance.threshold, Tolerance.asLarge}
+use Rattle.float.proofs.{Value.zeroOf, Order.le-trans, Rank.le-rank, Rounding.round-nonneg, Sum.sub-le}
 
 -- ---- the law, for any factor c that is not negative
 mul-nonneg : (f : Format) (c x : Float) → T (finite c) → sign c ≡ false → T (finite x) → T (le (zeroOf false) (mul f c (magnitude x)))
@@ -59,10 +51,3 @@ as-large-of-rank x y t u q r h = as-large-of-le x y t q (subst T (sym (le-rank x
 -- what is no smaller than a hit is a hit
 pub as-large-trans : (x y z : Float) → T (asLarge x y) → T (le y z) → T (asLarge x z)
 as-large-trans x y z h k = le-trans (threshold x) y z h k
-
--- ---- of a value that is not finite: NaN is never as large, and +∞ is as large as any finite value
-pub as-large-nan : (x : Float) → asLarge x nan ≡ false
-as-large-nan x = is-false (asLarge x nan) (not-T (asLarge x nan) (not-le-nan (threshold x)))
-
-pub as-large-top : (x : Float) → T (fits binary64 x) → T (finite x) → T (asLarge x (inf false))
-as-large-top x t q = top (threshold x) (left-number (threshold x) x (threshold-le x t q))

@@ -1,7 +1,9 @@
 -- The units of an f64, its size in units of 2 ^ -1074: they are exact (`units-exact`), they have at most 53 digits before their zeros, and the bit pattern holds them.
 use mathlib.Core.Path.{_≡_, sym, ap, _∙_, subst}
 use Prim.Native.Nat.{ℕ, zero, suc, _+_, _-_, _*_, _/_, _%_, _^_, _≤_, _<_, zero-le}
-use native.Mathlib.Nat.{le-of-suc-le-suc, le-trans, le-of-eq, le-of-lt, le-antisymm, lt-of-lt-of-le, lt-of-le-of-lt, lt-of-not-le, not-le-of-lt, zero-add, zero-mul, mul-one, mul-assoc, mul-right-comm, mul-pos, mul-le-mul-right, mul-lt-mul-of-pos-right, lt-of-mul-lt-mul-right, mul-div-cancel, div-one, le-div-iff-mul-le}
+use native.Mathlib.Nat.{le-of-suc-le-suc, le-trans, le-of-eq, le-of-lt, le-antisymm, lt-of-lt-of-le, lt-of-le-of-lt, lt-of-not-le}
+use native.Mathlib.Nat.{not-le-of-lt, zero-add, zero-mul, mul-one, mul-assoc, mul-right-comm, mul-pos, mul-le-mul-right, mul-lt-mul-of-pos-right}
+use native.Mathlib.Nat.{lt-of-mul-lt-mul-right, mul-div-cancel, div-one, le-div-iff-mul-le}
 use native.Mathlib.Omega.{arith}
 use mathlib.Core.Bool.{Bool, true, false, not, cond}
 use lib.IntN.{ℤ, pos, negsuc}
@@ -16,7 +18,7 @@ use lib.Ieee.Scale.{finite}
 use lib.Ieee.Positive.{positive, positive-of-value, positive-finite, value-pos}
 use lib.Ieee.Bits.{ofBits-toBits}
 use Rattle.float.specs.Value.{units, sign}
-use Rattle.float.specs.Pattern.{unitsOf}
+use Rattle.float.specs.inner.Pattern.{unitsOf}
 use Rattle.float.proofs.Value.{depth, unitsAt, value-at, fitting, zero-exponent}
 
 -- ---- a number of at most 53 digits with zeros after them
@@ -138,13 +140,13 @@ unitsOf-pattern n g = go (ltb n (2 ^ 52)) (ltb→lt n (2 ^ 52)) (nltb→le n (2 
         none : (z : ℕ) → z ≤ 52 → z - 53 ≡ 0
         none z h = omega arith
 
-    normal : (k q : ℕ) → q < 2 ^ 53 → 2 ^ 52 ≤ q → cond (ltb (k * 2 ^ 52 + q) (2 ^ 52)) (k * 2 ^ 52 + q) ((2 ^ 52 + (k * 2 ^ 52 + q) % 2 ^ 52) * 2 ^ ((k * 2 ^ 52 + q) / 2 ^ 52 - 1)) ≡ q * 2 ^ k
+    normal : (k q : ℕ) → q < 2 ^ 53 → 2 ^ 52 ≤ q →
+        cond (ltb (k * 2 ^ 52 + q) (2 ^ 52)) (k * 2 ^ 52 + q) ((2 ^ 52 + (k * 2 ^ 52 + q) % 2 ^ 52) * 2 ^ ((k * 2 ^ 52 + q) / 2 ^ 52 - 1)) ≡ q * 2 ^ k
     normal k q h l =
         let e : 2 ^ 52 + (k * 2 ^ 52 + q) % 2 ^ 52 ≡ q = omega arith in
         let f : (k * 2 ^ 52 + q) / 2 ^ 52 - 1 ≡ k = omega arith in
         ap (λ (b : Bool). cond b (k * 2 ^ 52 + q) ((2 ^ 52 + (k * 2 ^ 52 + q) % 2 ^ 52) * 2 ^ ((k * 2 ^ 52 + q) / 2 ^ 52 - 1))) (le-ltb (k * 2 ^ 52 + q) (2 ^ 52) (omega arith))
-        ∙ ap (λ (z : ℕ). z * 2 ^ ((k * 2 ^ 52 + q) / 2 ^ 52 - 1)) e
-        ∙ ap (λ (z : ℕ). q * 2 ^ z) f
+        ∙ ap (λ (z : ℕ). z * 2 ^ ((k * 2 ^ 52 + q) / 2 ^ 52 - 1)) e ∙ ap (λ (z : ℕ). q * 2 ^ z) f
 
     go : (b : Bool) → (T b → n < 2 ^ 52) → (T (not b) → 2 ^ 52 ≤ n) → unitsOf (patternOf n) ≡ n
     go true y z = ap unitsOf (low (y tt)) ∙ ap (λ (b : Bool). cond b n ((2 ^ 52 + n % 2 ^ 52) * 2 ^ (n / 2 ^ 52 - 1))) (lt-ltb n (2 ^ 52) (y tt))
@@ -159,8 +161,7 @@ pattern-normal q k l h =
     let lo : 2 ^ (52 + k) ≤ q * 2 ^ k = le-trans (le-of-eq (pow-add 2 52 k)) (mul-le-mul-right (2 ^ k) l) in
     let hi : q * 2 ^ k < 2 ^ suc (52 + k) = subst (λ (z : ℕ). q * 2 ^ k < 2 ^ z) (one-more k) (shl-lt 53 k h) in
     ap (λ (z : ℕ). (z - 53) * 2 ^ 52 + q * 2 ^ k / 2 ^ (z - 53)) (size-exact (52 + k) (q * 2 ^ k) lo hi)
-    ∙ ap (λ (z : ℕ). z * 2 ^ 52 + q * 2 ^ k / 2 ^ z) (drop k)
-    ∙ ap (λ (z : ℕ). k * 2 ^ 52 + z) (mul-div-cancel q (pow-pos k))
+    ∙ ap (λ (z : ℕ). z * 2 ^ 52 + q * 2 ^ k / 2 ^ z) (drop k) ∙ ap (λ (z : ℕ). k * 2 ^ 52 + z) (mul-div-cancel q (pow-pos k))
   where
     one-more : (k : ℕ) → 53 + k ≡ suc (52 + k)
     one-more k = omega arith
@@ -176,8 +177,7 @@ pub made-positive : (q k : ℕ) → 0 < q → T (positive (odd 54 false q k 1074
 made-positive q k h = positive-of-value (odd 54 false q k 1074) (q * 2 ^ k) (2 ^ 1074) (odd-sign 54 false q k 1074) (mul-pos h (pow-pos k))
 
 pub made-fits : (q k : ℕ) → q ≤ 2 ^ 53 → k ≤ 2000 → T (fits binary64 (odd 54 false q k 1074))
-made-fits q k h l =
-    odd-fits binary64 54 false q k (lt-of-le-of-lt h (lit< tt)) h
+made-fits q k h l = odd-fits binary64 54 false q k (lt-of-le-of-lt h (lit< tt)) h
     (lt-of-le-of-lt (mul-le-mul-right (2 ^ k) h) (subst (λ (z : ℕ). z < 2 ^ 2098) (pow-add 2 53 k) (pow-lt (room k l))))
   where
     room : (k : ℕ) → k ≤ 2000 → 53 + k < 2098

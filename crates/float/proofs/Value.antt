@@ -1,20 +1,20 @@
 -- The value of a float: every finite one is a fraction with a power of two for its denominator, so any few of them have values over one denominator.
 -- A value that fits a format is written in one way (`unique`).
 use mathlib.Core.Path.{_≡_, refl, sym, ap, _∙_, subst}
-use mathlib.Core.Bool.{Bool, true, false, _&&_}
+use mathlib.Core.Bool.{Bool, _&&_}
 use Prim.Native.Nat.{ℕ, zero, suc, _-_, _*_, _%_, _^_, _≤_, _<_}
-use native.Mathlib.Nat.{lt-irrefl, sub-zero, zero-lt-suc, mul-one, one-mul, zero-mul, mul-comm, mul-assoc, mul-left-comm, mul-right-comm, mul-pos, eq-of-mul-eq-mul-right, pow-succ', pow-suc}
+use native.Mathlib.Nat.{lt-irrefl, sub-zero, zero-lt-suc, mul-one, one-mul, zero-mul, mul-comm, mul-assoc, mul-left-comm}
+use native.Mathlib.Nat.{mul-right-comm, mul-pos, eq-of-mul-eq-mul-right, pow-succ', pow-suc}
 use native.Mathlib.Omega.{arith}
 use lib.IntN.{ℤ, pos, negsuc}
 use lib.Dec.{T, leb, ltb, eqb, leb→le, ltb→lt, eqb→eq}
 use lib.Pow.{pow-add, pow-pos}
-use lib.Ieee.{Float, nan, inf, fin, Format, prec, emax, low, up, down, neg, ofBits, fits}
+use lib.Ieee.{Float, nan, inf, fin, Format, prec, emax, low, up, down, fits}
 use lib.Ieee.Digits.{back}
 use lib.Ieee.Fits.{and-l, and-r, down-pos, up-pos}
 use lib.Ieee.Exact.{HasValue}
 use lib.Ieee.Scale.{finite}
 use lib.Ieee.Positive.{num}
-use Rattle.float.specs.Floats.{zero⁺, zero⁻}
 use Rattle.float.specs.Value.{sign}
 
 -- ---- over one denominator
@@ -50,9 +50,6 @@ value-same (fin t m e) s a c b d C h v = (
   eq-of-mul-eq-mul-right c C (m * up e * d) (b * down e)
       (mul-right-comm (m * up e) d c ∙ ap (λ (z : ℕ). z * d) (v .1) ∙ mul-right-comm a (down e) d ∙ ap (λ (z : ℕ). z * down e) h ∙ mul-right-comm b c (down e)),
 )
-
-pub value-finite : (x : Float) (s : Bool) (a c : ℕ) → HasValue x s a c → T (finite x)
-value-finite (fin t m e) s a c v = tt
 
 pub first-zero : (a d : ℕ) → 0 < d → a * d ≡ 0 → a ≡ 0
 first-zero a d D h = eq-of-mul-eq-mul-right d D a 0 (h ∙ sym (zero-mul d))
@@ -105,15 +102,6 @@ pub zero-fits : (f : Format) (s : Bool) → T (fits f (zeroOf s))
 unfolding fits
 zero-fits f s = tt
 
--- 0.0 and -0.0, as the code has them
-pub zero⁺-is : zero⁺ ≡ zeroOf false
-unfolding ofBits
-zero⁺-is = refl
-
-pub zero⁻-is : zero⁻ ≡ zeroOf true
-unfolding ofBits neg
-zero⁻-is = refl
-
 -- ---- a value that fits is written in one way
 even-odd : (m t : ℕ) → m % 2 ≡ 1 → m ≡ 2 * t → ⊥
 even-odd m t o h = omega arith
@@ -129,15 +117,14 @@ odd-pow m n (suc a) (suc b) o p h =
 
 -- odd m and n with m * 2 ^ e = n * 2 ^ d
 same-exponent : (m : ℕ) (e : ℤ) (n : ℕ) (d : ℤ) → m % 2 ≡ 1 → n % 2 ≡ 1 → m * up e * down d ≡ n * up d * down e → (m ≡ n) × (e ≡ d)
-same-exponent m (pos j) n (pos k) o p h =
-    let r = odd-pow m n j k o p (sym (mul-one (m * 2 ^ j)) ∙ h ∙ mul-one (n * 2 ^ k)) in
-    (r .0, ap pos (r .1))
-same-exponent m (pos j) n (negsuc k) o p h = absurd (even-odd n (m * 2 ^ j * 2 ^ k) p (simp (mul-one) at (sym h) ∙ ap (λ (x : ℕ). m * 2 ^ j * x) (pow-succ' 2 k) ∙ mul-left-comm (m * 2 ^ j) 2 (2 ^ k)))
-same-exponent m (negsuc j) n (pos k) o p h = absurd (even-odd m (n * 2 ^ k * 2 ^ j) o (simp (mul-one) at h ∙ ap (λ (x : ℕ). n * 2 ^ k * x) (pow-succ' 2 j) ∙ mul-left-comm (n * 2 ^ k) 2 (2 ^ j)))
+same-exponent m (pos j) n (pos k) o p h = let r = odd-pow m n j k o p (sym (mul-one (m * 2 ^ j)) ∙ h ∙ mul-one (n * 2 ^ k)) in (r .0, ap pos (r .1))
+same-exponent m (pos j) n (negsuc k) o p h = absurd (even-odd n (m * 2 ^ j * 2 ^ k) p
+    (simp (mul-one) at (sym h) ∙ ap (λ (x : ℕ). m * 2 ^ j * x) (pow-succ' 2 k) ∙ mul-left-comm (m * 2 ^ j) 2 (2 ^ k)))
+same-exponent m (negsuc j) n (pos k) o p h = absurd
+    (even-odd m (n * 2 ^ k * 2 ^ j) o (simp (mul-one) at h ∙ ap (λ (x : ℕ). n * 2 ^ k * x) (pow-succ' 2 j) ∙ mul-left-comm (n * 2 ^ k) 2 (2 ^ j)))
 same-exponent m (negsuc j) n (negsuc k) o p h =
     let r = odd-pow m n (suc k) (suc j) o p (simp (mul-one) at h) in
-    let q : j ≡ k = omega (arith, r .1) in
-    (r .0, ap negsuc q)
+    let q : j ≡ k = omega (arith, r .1) in (r .0, ap negsuc q)
 
 -- a zero equals no value other than zero
 not-both : (m : ℕ) (e d : ℤ) → zero * up e * down d ≡ suc m * up d * down e → ⊥

@@ -4,6 +4,5 @@ pub mod Value
 pub mod Order
 pub mod Root
 pub mod Nearest
-pub mod Pattern
 pub mod Tolerance
-pub mod Whole
+pub mod inner

@@ -7,7 +7,7 @@ ghost use mathlib.Core.Path.{_≡_};
 ghost use Prim.Native.Nat.{_+_, _*_, _/_, _^_, _<_};
 ghost use lib.Ieee.Scale.{finite};
 ghost use Rattle.float.specs.Root.{isqrt, rootOf, root};
-ghost use Rattle.float.specs.Pattern.{unitsOf, Normal};
+ghost use Rattle.float.specs.inner.Pattern.{unitsOf, Normal};
 ghost use Rattle.float.specs.Order.{magnitude, larger};
 ghost use Rattle.float.specs.Order as Order;
 ghost use Rattle.float.specs.Tolerance.{asLarge};

@@ -3,9 +3,9 @@ use Prim.Native.Nat.{ℕ}
 use mathlib.Core.Bool.{Bool, true, false}
 use mathlib.Core.List.{List}
 use Rattle.outcome.specs.Outcome.{refused, andThen}
-use Rattle.frames.specs.Frames.{readLot}
-use Rattle.printing.specs.Printed.{printed}
-use Rattle.judged_lot.specs.Judged.{judgement}
+use Rattle.judge_frames.specs.Frames.{readLot}
+use Rattle.judge_printing.specs.Printed.{printed}
+use Rattle.judge.specs.Judged.{judgement}
 
 -- 12 precedes all; then the judgement of the lot, a verdict or a refusal
 unfoldable pub judgeText : List ℕ → List ℕ

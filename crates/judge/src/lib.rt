@@ -1,18 +1,21 @@
 // `judge` (document 01, section 7): from the whole input to the whole output.
+pub mod judged_lot;
+
 ghost use mathlib.Core.Path.{_≡_};
 ghost use Prim.Native.Nat.{_≤_};
 ghost use lib.ListN.{length};
+ghost use Rattle.limits.specs.Limits.{mostPrinted};
 ghost use Rattle.outcome.specs.Outcome.{andThen};
-ghost use Rattle.every_way.specs.Call.{answerOf};
-ghost use Rattle.frames.specs.Frames.{readLot};
-ghost use Rattle.frames.specs.Call.{fronts};
-ghost use Rattle.frames.specs.Fits.{Fits};
-ghost use Rattle.frames.specs.Reached.{Room};
-ghost use Rattle.hexadecimal.specs.Page.{page, onto};
-ghost use Rattle.judged_lot.specs.Judged.{judgement};
+ghost use Rattle.exhaustive_hits.specs.Call.{answerOf};
+ghost use Rattle.judge_frames.specs.Frames.{readLot};
+ghost use Rattle.judge_frames.specs.Call.{fronts};
+ghost use Rattle.judge_frames.specs.Fits.{Fits};
+ghost use Rattle.judge_frames.specs.inner.Stages.{Room};
+ghost use Rattle.judge_printing.specs.Page.{page, onto};
+ghost use Rattle.judge.specs.Judged.{judgement};
 ghost use Rattle.judge.specs.Judge.{judgeText};
-use every_way::Answer;
-use frames::Header;
+use exhaustive_hits::every_way::Answer;
+use judge_frames::Header;
 
 // What is found of the lot at the fronts of three slices.
 fn judge_front(h: Header, labels: &[u16], strata: &[u16], distances: &[f64]) -> Answer
@@ -36,10 +39,10 @@ fn judge_text(text: &[u8], labels: &mut [u16], strata: &mut [u16], distances: &m
     requires { ⌜ Room (now labels) (now strata) (now distances) ⌝ }
     ensures { λ r. ⌜ answerOf r ≡ andThen (readLot (now (text .entry))) judgement ⌝ }
 {
-    let a = frames::read_into(text, labels, strata, distances);
+    let a = judge_frames::read_into(text, labels, strata, distances);
     match a {
-        frames::Answer::Read(h) => judge_front(h, labels, strata, distances),
-        frames::Answer::Refused(r) => Answer::Refused(r),
+        judge_frames::Answer::Read(h) => judge_front(h, labels, strata, distances),
+        judge_frames::Answer::Refused(r) => Answer::Refused(r),
     }
 }
 
@@ -51,15 +54,15 @@ fn judge_into(
     distances: &mut [f64],
     out: &mut [u8],
 ) -> usize
-    requires { ⌜ Room (now labels) (now strata) (now distances) × (93 ≤ length (now out)) ⌝ }
+    requires { ⌜ Room (now labels) (now strata) (now distances) × (mostPrinted ≤ length (now out)) ⌝ }
     ensures { λ r. ⌜ page r (now (out .exit)) ≡ onto (judgeText (now (text .entry))) (now (out .entry)) ⌝ }
 {
     let a = judge_text(text, labels, strata, distances);
-    printing::print_into(a, out)
+    judge_printing::print_into(a, out)
 }
 
 // Prints at the front of `out` what is found of the text; the answer is the number of bytes.
-pub fn judge(text: &[u8], out: &mut [u8; 93]) -> usize
+pub fn judge(text: &[u8], out: &mut [u8; limits::MOST_PRINTED]) -> usize
     ensures { λ r. ⌜ page r (now (out .exit)) ≡ onto (judgeText (now (text .entry))) (now (out .entry)) ⌝ }
 {
     let mut labels = [0u16; 32];

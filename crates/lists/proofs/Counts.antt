@@ -1,16 +1,8 @@
 -- How many members of a list pass a test.
-use mathlib.Core.Path.{_≡_, refl, sym, ap, _∙_, ap₂}
-use mathlib.Core.Bool.{Bool, true, false, _&&_, _||_, cond, true≢false}
-use mathlib.Core.Logic.{⊎-elim}
+use Rattle.lists.proofs.Base.{_≡_, refl, sym, ap, _∙_, ap₂, Bool, true, false, _&&_, _||_, cond, true≢false, ⊎-elim, ℕ, zero, suc}
+use Rattle.lists.proofs.Base.{_+_, _<_, _≤_, not-suc-le-zero, le-of-suc-le-suc, add-zero, arith, lt-ltb, ltb, length, getD}
 use mathlib.Core.List.{List, [], _∷_, map, List·Memᴰ as Member, List·Memᴰ·head as here, List·Memᴰ·tail as there, List·Memᴰ·cases-cons as cases-cons, List·Memᴰ·not-nil as not-nil}
-use Prim.Native.Nat.{ℕ, zero, suc, _+_, _<_, _≤_}
-use native.Mathlib.Nat.{not-suc-le-zero, le-of-suc-le-suc, add-zero}
-use native.Mathlib.Omega.{arith}
-use borrow.Author.Tests.{lt-ltb}
-use lib.Dec.{ltb}
-use lib.ListN.{length, getD}
-use Rattle.lists.specs.Filters.{keep, any, countIf}
-use Rattle.lists.specs.Ranges.{upFrom, range}
+use Rattle.lists.specs.{Filters.filter, Filters.any, Filters.countIf, Ranges.upFrom, Ranges.range}
 use Rattle.lists.proofs.Ranges.{range-upFrom, table-range, table-of}
 
 one-mono : (a b : Bool) → (a ≡ true → b ≡ true) → cond a 1 0 ≤ cond b 1 0
@@ -34,10 +26,8 @@ module _ {A : Type 0} where
   pub count-member : (p : A → Bool) (xs : List A) (x : A) → Member x xs → p x ≡ true → 0 < countIf p xs
   unfolding countIf
   count-member p [] x m e = absurd (not-nil m)
-  count-member p (y ∷ ys) x m e = ⊎-elim
-      (λ q. omega (arith, ap {B = ℕ} (λ (b : Bool). cond b 1 0) (ap p (sym q) ∙ e)))
-      (λ t. omega (arith, count-member p ys x t e))
-      (cases-cons m)
+  count-member p (y ∷ ys) x m e = ⊎-elim (λ q. omega (arith, ap {B = ℕ} (λ (b : Bool). cond b 1 0) (ap p (sym q) ∙ e)))
+      (λ t. omega (arith, count-member p ys x t e)) (cases-cons m)
 
   pub count-all : (xs : List A) → countIf (λ _. true) xs ≡ length xs
   unfolding countIf
@@ -80,13 +70,13 @@ module _ {A : Type 0} where
   count-split p q r (x ∷ xs) e = omega (arith, e x, count-split p q r xs e)
 
   -- of those that another test keeps
-  pub count-keep : (p q : A → Bool) (xs : List A) → countIf p (keep q xs) ≡ countIf (λ x. p x && q x) xs
-  unfolding countIf keep
-  count-keep p q [] = refl
-  count-keep p q (x ∷ xs) = one (q x) (count-keep p q xs)
+  pub count-filter : (p q : A → Bool) (xs : List A) → countIf p (filter q xs) ≡ countIf (λ x. p x && q x) xs
+  unfolding countIf filter
+  count-filter p q [] = refl
+  count-filter p q (x ∷ xs) = one (q x) (count-filter p q xs)
     where
-      one : (b : Bool) → countIf p (keep q xs) ≡ countIf (λ x. p x && q x) xs
-          → countIf p (cond b (x ∷ keep q xs) (keep q xs)) ≡ cond (p x && b) 1 0 + countIf (λ x. p x && q x) xs
+      one : (b : Bool) → countIf p (filter q xs) ≡ countIf (λ x. p x && q x) xs
+          → countIf p (cond b (x ∷ filter q xs) (filter q xs)) ≡ cond (p x && b) 1 0 + countIf (λ x. p x && q x) xs
       one true e = omega (arith, and-yes (p x))
       one false e = omega (arith, and-no (p x))
 
@@ -112,8 +102,7 @@ any-count p (x ∷ xs) = one (p x) (any-count p xs)
 
 -- the members of a list by their places
 pub count-places : (p : ℕ → Bool) (l : List ℕ) → countIf p l ≡ countIf (λ q. p (getD l q 0)) (range 0 (length l))
-count-places p l =
-    ap (countIf p) (sym (table-of l 0) ∙ table-range (λ q. getD l q 0) (length l)) ∙ count-map p (λ q. getD l q 0) (range 0 (length l))
+count-places p l = ap (countIf p) (sym (table-of l 0) ∙ table-range (λ q. getD l q 0) (length l)) ∙ count-map p (λ q. getD l q 0) (range 0 (length l))
 
 -- tests that agree below n
 pub count-below : (p q : ℕ → Bool) (n : ℕ) → ((c : ℕ) → c < n → p c ≡ q c) → countIf p (range 0 n) ≡ countIf q (range 0 n)

@@ -1,15 +1,7 @@
 -- Filters, counts and searches: one member more, at the front (a loop that holds what is left) and at the end (a loop that holds what is done).
-use mathlib.Core.Path.{_≡_, refl, sym, ap, _∙_}
-use mathlib.Core.Bool.{Bool, true, false, _&&_, _||_, cond}
-use mathlib.Core.List.{List, [], _∷_, _++_, append-nil}
-use Prim.Native.Nat.{ℕ, zero, suc, _+_, _<_, _≤_}
-use native.Mathlib.Nat.{not-suc-le-zero, add-zero}
-use native.Mathlib.Numerals.{add-one}
-use native.Mathlib.Omega.{arith}
-use lib.ListN.{length, getD, drop, drop-of-length-le}
-use lib.Seq.{drop-cons}
-use Rattle.lists.specs.Ranges.{range}
-use Rattle.lists.specs.Filters.{keep, countIf, any, all, firstAt}
+use Rattle.lists.proofs.Base.{_≡_, refl, sym, ap, _∙_, Bool, true, false, _||_, cond, List, [], _∷_, _++_, append-nil, ℕ, suc}
+use Rattle.lists.proofs.Base.{_+_, _<_, _≤_, add-zero, add-one, arith, length, getD, drop, drop-of-length-le, drop-cons}
+use Rattle.lists.specs.{Ranges.range, Filters.filter, Filters.countIf, Filters.any, Filters.firstAt}
 use Rattle.lists.proofs.Ranges.{range-more, range-none, range-last}
 
 -- what is left of a list from place i on
@@ -18,13 +10,13 @@ drop-more l i d h = rw (add-one, drop-cons l i d)
 
 module _ {A : Type 0} (p : A → Bool) where
   -- ---- the first member passes, or not
-  pub keep-yes : (x : A) (xs : List A) → p x ≡ true → keep p (x ∷ xs) ≡ x ∷ keep p xs
-  unfolding keep
-  keep-yes x xs e = ap (λ (t : Bool). cond t (x ∷ keep p xs) (keep p xs)) e
+  pub filter-yes : (x : A) (xs : List A) → p x ≡ true → filter p (x ∷ xs) ≡ x ∷ filter p xs
+  unfolding filter
+  filter-yes x xs e = ap (λ (t : Bool). cond t (x ∷ filter p xs) (filter p xs)) e
 
-  pub keep-no : (x : A) (xs : List A) → p x ≡ false → keep p (x ∷ xs) ≡ keep p xs
-  unfolding keep
-  keep-no x xs e = ap (λ (t : Bool). cond t (x ∷ keep p xs) (keep p xs)) e
+  pub filter-no : (x : A) (xs : List A) → p x ≡ false → filter p (x ∷ xs) ≡ filter p xs
+  unfolding filter
+  filter-no x xs e = ap (λ (t : Bool). cond t (x ∷ filter p xs) (filter p xs)) e
 
   pub countIf-yes : (x : A) (xs : List A) → p x ≡ true → countIf p (x ∷ xs) ≡ 1 + countIf p xs
   unfolding countIf
@@ -35,13 +27,13 @@ module _ {A : Type 0} (p : A → Bool) where
   countIf-no x xs e = ap (λ (t : Bool). cond t 1 0 + countIf p xs) e ∙ omega arith
 
   -- ---- two lists, one after the other
-  pub keep-append : (xs ys : List A) → keep p (xs ++ ys) ≡ keep p xs ++ keep p ys
-  unfolding keep
-  keep-append [] ys = refl
-  keep-append (x ∷ xs) ys = one (p x) (keep-append xs ys)
+  pub filter-append : (xs ys : List A) → filter p (xs ++ ys) ≡ filter p xs ++ filter p ys
+  unfolding filter
+  filter-append [] ys = refl
+  filter-append (x ∷ xs) ys = one (p x) (filter-append xs ys)
     where
-      one : (b : Bool) → keep p (xs ++ ys) ≡ keep p xs ++ keep p ys
-          → cond b (x ∷ keep p (xs ++ ys)) (keep p (xs ++ ys)) ≡ cond b (x ∷ keep p xs) (keep p xs) ++ keep p ys
+      one : (b : Bool) → filter p (xs ++ ys) ≡ filter p xs ++ filter p ys
+          → cond b (x ∷ filter p (xs ++ ys)) (filter p (xs ++ ys)) ≡ cond b (x ∷ filter p xs) (filter p xs) ++ filter p ys
       one true e = ap (λ (t : List A). x ∷ t) e
       one false e = e
 
@@ -51,21 +43,21 @@ module _ {A : Type 0} (p : A → Bool) where
   countIf-append (x ∷ xs) ys = omega (arith, countIf-append xs ys)
 
   -- the last member passes, or not
-  pub keep-last-yes : (xs : List A) (x : A) → p x ≡ true → keep p (xs ++ (x ∷ [])) ≡ keep p xs ++ (x ∷ [])
-  unfolding keep
-  keep-last-yes xs x e = keep-append xs (x ∷ []) ∙ ap (λ (t : List A). keep p xs ++ t) (keep-yes x [] e)
+  pub filter-last-yes : (xs : List A) (x : A) → p x ≡ true → filter p (xs ++ (x ∷ [])) ≡ filter p xs ++ (x ∷ [])
+  unfolding filter
+  filter-last-yes xs x e = filter-append xs (x ∷ []) ∙ ap (λ (t : List A). filter p xs ++ t) (filter-yes x [] e)
 
-  pub keep-last-no : (xs : List A) (x : A) → p x ≡ false → keep p (xs ++ (x ∷ [])) ≡ keep p xs
-  unfolding keep
-  keep-last-no xs x e = keep-append xs (x ∷ []) ∙ ap (λ (t : List A). keep p xs ++ t) (keep-no x [] e) ∙ append-nil (keep p xs)
+  pub filter-last-no : (xs : List A) (x : A) → p x ≡ false → filter p (xs ++ (x ∷ [])) ≡ filter p xs
+  unfolding filter
+  filter-last-no xs x e = filter-append xs (x ∷ []) ∙ ap (λ (t : List A). filter p xs ++ t) (filter-no x [] e) ∙ append-nil (filter p xs)
 
   -- ---- a count is a length
-  pub length-keep : (xs : List A) → length (keep p xs) ≡ countIf p xs
-  unfolding keep countIf
-  length-keep [] = refl
-  length-keep (x ∷ xs) = one (p x) (length-keep xs)
+  pub length-filter : (xs : List A) → length (filter p xs) ≡ countIf p xs
+  unfolding filter countIf
+  length-filter [] = refl
+  length-filter (x ∷ xs) = one (p x) (length-filter xs)
     where
-      one : (b : Bool) → length (keep p xs) ≡ countIf p xs → length (cond b (x ∷ keep p xs) (keep p xs)) ≡ cond b 1 0 + countIf p xs
+      one : (b : Bool) → length (filter p xs) ≡ countIf p xs → length (cond b (x ∷ filter p xs) (filter p xs)) ≡ cond b 1 0 + countIf p xs
       one true e = omega arith
       one false e = omega arith
 
@@ -88,14 +80,6 @@ module _ {A : Type 0} (p : A → Bool) where
     unfolding any
     any-later h e = ap (any p) (drop-more l i d h) ∙ ap (λ (b : Bool). b || any p (drop (i + 1) l)) e
 
-    pub all-later : i < length l → p (getD l i d) ≡ true → all p (drop i l) ≡ all p (drop (i + 1) l)
-    unfolding all
-    all-later h e = ap (all p) (drop-more l i d h) ∙ ap (λ (b : Bool). b && all p (drop (i + 1) l)) e
-
-    pub all-not : i < length l → p (getD l i d) ≡ false → all p (drop i l) ≡ false
-    unfolding all
-    all-not h e = ap (all p) (drop-more l i d h) ∙ ap (λ (b : Bool). b && all p (drop (i + 1) l)) e
-
     pub count-here : i < length l → p (getD l i d) ≡ true → countIf p (drop i l) ≡ 1 + countIf p (drop (i + 1) l)
     count-here h e = ap (countIf p) (drop-more l i d h) ∙ countIf-yes (getD l i d) (drop (i + 1) l) e
 
@@ -116,10 +100,6 @@ module _ {A : Type 0} (p : A → Bool) where
     unfolding any
     any-none = ap (any p) (drop-of-length-le l h)
 
-    pub all-done : all p (drop i l) ≡ true
-    unfolding all
-    all-done = ap (all p) (drop-of-length-le l h)
-
     pub count-none : countIf p (drop i l) ≡ 0
     unfolding countIf
     count-none = ap (countIf p) (drop-of-length-le l h)
@@ -131,15 +111,15 @@ module _ {A : Type 0} (p : A → Bool) where
 -- ---- through a range
 
 module _ (p : ℕ → Bool) (i hi : ℕ) where
-  pub keep-step-yes : i < hi → p i ≡ true → keep p (range i hi) ≡ i ∷ keep p (range (i + 1) hi)
-  keep-step-yes h e = ap (keep p) (range-more i hi h) ∙ keep-yes p i (range (i + 1) hi) e
+  pub filter-step-yes : i < hi → p i ≡ true → filter p (range i hi) ≡ i ∷ filter p (range (i + 1) hi)
+  filter-step-yes h e = ap (filter p) (range-more i hi h) ∙ filter-yes p i (range (i + 1) hi) e
 
-  pub keep-step-no : i < hi → p i ≡ false → keep p (range i hi) ≡ keep p (range (i + 1) hi)
-  keep-step-no h e = ap (keep p) (range-more i hi h) ∙ keep-no p i (range (i + 1) hi) e
+  pub filter-step-no : i < hi → p i ≡ false → filter p (range i hi) ≡ filter p (range (i + 1) hi)
+  filter-step-no h e = ap (filter p) (range-more i hi h) ∙ filter-no p i (range (i + 1) hi) e
 
-  pub keep-done : hi ≤ i → keep p (range i hi) ≡ []
-  unfolding keep
-  keep-done h = ap (keep p) (range-none i hi h)
+  pub filter-done : hi ≤ i → filter p (range i hi) ≡ []
+  unfolding filter
+  filter-done h = ap (filter p) (range-none i hi h)
 
   pub range-any-here : i < hi → p i ≡ true → any p (range i hi) ≡ true
   unfolding any
@@ -165,11 +145,11 @@ module _ (p : ℕ → Bool) (i hi : ℕ) where
 
 -- what has been kept of lo, .., i - 1, with i
 module _ (p : ℕ → Bool) (lo i : ℕ) (h : lo ≤ i) where
-  pub kept-last-yes : p i ≡ true → keep p (range lo (i + 1)) ≡ keep p (range lo i) ++ (i ∷ [])
-  kept-last-yes e = ap (keep p) (range-last lo i h) ∙ keep-last-yes p (range lo i) i e
+  pub kept-last-yes : p i ≡ true → filter p (range lo (i + 1)) ≡ filter p (range lo i) ++ (i ∷ [])
+  kept-last-yes e = ap (filter p) (range-last lo i h) ∙ filter-last-yes p (range lo i) i e
 
-  pub kept-last-no : p i ≡ false → keep p (range lo (i + 1)) ≡ keep p (range lo i)
-  kept-last-no e = ap (keep p) (range-last lo i h) ∙ keep-last-no p (range lo i) i e
+  pub kept-last-no : p i ≡ false → filter p (range lo (i + 1)) ≡ filter p (range lo i)
+  kept-last-no e = ap (filter p) (range-last lo i h) ∙ filter-last-no p (range lo i) i e
 
 -- a loop that counts: a are counted, and the rest of the range brings it to t
 module _ (p : ℕ → Bool) (i hi : ℕ) {t : ℕ} where
@@ -177,8 +157,7 @@ module _ (p : ℕ → Bool) (i hi : ℕ) {t : ℕ} where
   unfolding countIf
   count-turn a {a′} {b} h e g inv =
       let here : countIf p (range i hi) ≡ cond b 1 0 + countIf p (range (i + 1) hi) =
-      ap (countIf p) (range-more i hi h) ∙ ap (λ (u : Bool). cond u 1 0 + countIf p (range (i + 1) hi)) (sym e) in
-      omega arith
+      ap (countIf p) (range-more i hi h) ∙ ap (λ (u : Bool). cond u 1 0 + countIf p (range (i + 1) hi)) (sym e) in omega arith
 
   pub count-end : (a : ℕ) → hi ≤ i → a + countIf p (range i hi) ≡ t → a ≡ t
   count-end a h inv = let none : countIf p (range i hi) ≡ 0 = range-count-none p i hi h in omega arith

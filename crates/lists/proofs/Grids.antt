@@ -1,23 +1,12 @@
 -- Rows and grids: rows put, parts put back, entries of a grid.
-use mathlib.Core.Path.{_≡_, refl, sym, ap, _∙_, subst}
-use mathlib.Core.Logic.{⊎-elim}
-use mathlib.Core.List.{List, _++_, append-assoc}
-use Prim.Native.Nat.{ℕ, zero, suc, _+_, _-_, _<_, _≤_, _*_, _/_, _%_}
+use Rattle.lists.proofs.Base.{_≡_, refl, sym, ap, _∙_, subst, ⊎-elim, List, _++_, append-assoc, ℕ, zero, suc, _+_, _-_}
+use Rattle.lists.proofs.Base.{_<_, _≤_, _*_, _/_, _%_, ℕ-discrete, decLt, arith, putMid, length, getD, take, drop, take-append-drop}
+use Rattle.lists.proofs.Base.{length-drop, set, replicate, getD-replicate, List·getD-append, Float, nan}
 use native.Mathlib.Nat.{add-sub-cancel-left, mul-zero, div-add-mod', mod-lt, div-lt-iff-lt-mul}
-use native.Mathlib.Decide.{ℕ-discrete, decLt}
-use native.Mathlib.Omega.{arith}
-use borrow.Rule.Slice.PartMut.{putMid}
-use lib.ListN.{length, getD, take, drop, take-append-drop, length-drop, set, replicate, getD-replicate, List·getD-append}
 use lib.Seq.{length-take-le, ext-getD, take-at, drop-at, take-append-le, drop-append-le, getD-set-same, getD-set-other, getD-take, getD-drop, getD-append-add}
-use lib.Ieee.{Float, nan}
-use Rattle.lists.specs.Ranges.{table, rows, grid}
-use Rattle.lists.specs.Rows.{row, putRow, entry}
-use Rattle.lists.specs.Writes.{over}
-use Rattle.lists.proofs.Parts.{take-replicate, drop-replicate}
-use Rattle.lists.proofs.Ranges.{table-ext, rows-ext, length-rows, length-grid}
-use Rattle.lists.proofs.Rows.{row-end, cell-below, entry-grid}
-use Rattle.lists.proofs.Truths.{order}
-use Rattle.lists.proofs.Writes.{drop-over, Filling}
+use Rattle.lists.specs.{Ranges.table, Ranges.rows, Ranges.grid, Rows.row, Rows.putRow, Rows.entry, Writes.over}
+use Rattle.lists.proofs.{Parts.take-replicate, Parts.drop-replicate, Ranges.table-ext, Ranges.rows-ext, Ranges.length-rows, Ranges.length-grid}
+use Rattle.lists.proofs.{Rows.row-end, Rows.cell-below, Rows.entry-grid, Truths.order, Writes.drop-over, Writes.Filling}
 
 -- ---- rows of a list that is put together
 
@@ -34,8 +23,7 @@ module _ {A : Type 0} (w : ℕ) where
   -- a row that lies in the front
   pub row-front : (i : ℕ) (p t : List A) → i * w + w ≤ length p → row w i (p ++ t) ≡ row w i p
   unfolding row
-  row-front i p t h =
-      ap (take w) (drop-append-le (i * w) p t (omega arith)) ∙ take-append-le w (drop (i * w) p) t (rw length-drop (omega arith))
+  row-front i p t h = ap (take w) (drop-append-le (i * w) p t (omega arith)) ∙ take-append-le w (drop (i * w) p) t (rw length-drop (omega arith))
 
   pub row-taken : (i m : ℕ) (l t : List A) → i * w + w ≤ m → m ≤ length l → row w i (take m l ++ t) ≡ row w i l
   row-taken i m l t h g =
@@ -64,10 +52,7 @@ module _ {A : Type 0} (w : ℕ) where
 pub row-rows : {A : Type 0} (w : ℕ) (f : ℕ → List A) → ((i : ℕ) → length (f i) ≡ w) → (k i : ℕ) (rest : List A) → i < k → row w i (rows k f ++ rest) ≡ f i
 unfolding row rows
 row-rows w f each zero i rest h = absurd (omega arith)
-row-rows w f each (suc k) i rest h =
-    ⊎-elim
-    (λ (p : k ≤ i).
-    let same : i ≡ k = omega arith in
+row-rows w f each (suc k) i rest h = ⊎-elim (λ (p : k ≤ i). let same : i ≡ k = omega arith in
     rw (same, append-assoc (rows k f) (f k) rest, drop-at (rows k f) (f k ++ rest) (k * w) (length-rows w f k (λ j _. each j))) (take-at (f k) rest w (each k)))
     (λ (p : i < k). ap (λ (l : List _). take w (drop (i * w) l)) (append-assoc (rows k f) (f k) rest) ∙ row-rows w f each k i (f k ++ rest) p)
     (order k i)
@@ -123,18 +108,14 @@ module _ {A : Type 0} (a k : ℕ) (l r : List A) (fits : a + k ≤ length l) (le
   getD-within : (t : ℕ) → t < k → getD (putMid a k l r) (a + t) d ≡ getD r t d
   getD-within t h =
       let front : length (take a l) ≡ a = length-take-le a l (omega arith) in
-      ap (λ (s : ℕ). getD (putMid a k l r) (s + t) d) (sym front)
-      ∙ getD-append-add (take a l) (r ++ drop k (drop a l)) t d
+      ap (λ (s : ℕ). getD (putMid a k l r) (s + t) d) (sym front) ∙ getD-append-add (take a l) (r ++ drop k (drop a l)) t d
       ∙ List·getD-append r (drop k (drop a l)) d t (omega arith)
 
   getD-after : (t : ℕ) → getD (putMid a k l r) (a + (k + t)) d ≡ getD l (a + (k + t)) d
   getD-after t =
       let front : length (take a l) ≡ a = length-take-le a l (omega arith) in
-      ap (λ (s : ℕ). getD (putMid a k l r) (s + (k + t)) d) (sym front)
-      ∙ getD-append-add (take a l) (r ++ drop k (drop a l)) (k + t) d
-      ∙ ap (λ (s : ℕ). getD (r ++ drop k (drop a l)) (s + t) d) (sym len)
-      ∙ getD-append-add r (drop k (drop a l)) t d
-      ∙ getD-drop k (drop a l) t d
+      ap (λ (s : ℕ). getD (putMid a k l r) (s + (k + t)) d) (sym front) ∙ getD-append-add (take a l) (r ++ drop k (drop a l)) (k + t) d
+      ∙ ap (λ (s : ℕ). getD (r ++ drop k (drop a l)) (s + t) d) (sym len) ∙ getD-append-add r (drop k (drop a l)) t d ∙ getD-drop k (drop a l) t d
       ∙ getD-drop a l (k + t) d
 
 -- row j of rows of w put back: its entries, and those of the others
@@ -147,8 +128,7 @@ module _ (w j : ℕ) (l r : List Float) (fits : j * w + w ≤ length l) (len : l
   unfolding entry
   entry-put-other i c ne h = rw add-sub-cancel-left (elim (decLt i j) [
     | yes below ↦ getD-before (j * w) w l r fits len nan (i * w + c) (omega (arith, row-end w i j below))
-    | no over ↦
-        let past : j < i = omega arith in
+    | no over ↦ let past : j < i = omega arith in
         let at : j * w + (w + (i * w + c - (j * w + w))) ≡ i * w + c = omega (arith, row-end w j i past) in
         subst (λ (t : ℕ). getD (putMid (j * w) w l r) t nan ≡ getD l t nan) at (getD-after (j * w) w l r fits len nan (i * w + c - (j * w + w)))
   ])
@@ -177,8 +157,7 @@ module _ {A : Type 0} (n w : ℕ) (f : ℕ → List A) (each : (i : ℕ) → len
   -- the row that is filled next is still the old one
   pub filling-here : (l : List A) {k : ℕ} → Filling n w f old l k → take (k * w + w - k * w) (drop (k * w) l) ≡ row w k old
   unfolding row
-  filling-here l {k} s =
-      rw add-sub-cancel-left
+  filling-here l {k} s = rw add-sub-cancel-left
       (ap (λ (t : List A). take w (drop (k * w) t)) (s .held) ∙ ap (take w) (drop-over (rows k f) old (k * w) (length-rows w f k (λ i _. each i))))
 
   -- where all held one value
@@ -186,7 +165,5 @@ module _ {A : Type 0} (n w : ℕ) (f : ℕ → List A) (each : (i : ℕ) → len
   unfolding row
   filling-blank v l {k} blank s h =
       let room : k * w + w ≤ n * w = row-end w k n h in
-      filling-here l s
-      ∙ ap (λ (t : List A). take w (drop (k * w) t)) blank
-      ∙ ap (take w) (drop-replicate (k * w) (n * w) v (omega arith))
+      filling-here l s ∙ ap (λ (t : List A). take w (drop (k * w) t)) blank ∙ ap (take w) (drop-replicate (k * w) (n * w) v (omega arith))
       ∙ take-replicate w (n * w - k * w) v (omega arith)

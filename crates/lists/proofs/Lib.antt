@@ -1,4 +1,5 @@
 -- The laws of the shared words.
+pub mod Base
 pub mod Ranges
 pub mod Loops
 pub mod Filters
@@ -9,6 +10,7 @@ pub mod Numbers
 pub mod Truths
 pub mod Searches
 pub mod Parts
+pub mod Fronts
 pub mod Zips
 pub mod Grids
 pub mod Members

@@ -1,12 +1,7 @@
 -- A loop that has made k turns makes one more.
 -- The invariant is `x ≡ inTurn step k x₀`; it begins by `refl` at 0, a turn is `inTurn-next _ _ _ inv ensures`. No induction in any function's proof.
-use mathlib.Core.Path.{_≡_, refl, sym, ap, subst, _∙_}
-use mathlib.Core.List.{List}
-use Prim.Native.Nat.{ℕ, zero, suc, _+_, _-_, _<_, _≤_}
+use Rattle.lists.proofs.Base.{_≡_, refl, sym, ap, subst, _∙_, List, ℕ, zero, suc, _+_, _-_, _<_, _≤_, add-one, arith, length}
 use native.Mathlib.Nat.{sub-self}
-use native.Mathlib.Numerals.{add-one}
-use native.Mathlib.Omega.{arith}
-use lib.ListN.{length}
 use Rattle.lists.specs.Loops.{inTurn, fromTo, downTo}
 
 module _ {A : Type 0} where
@@ -31,8 +26,7 @@ module _ {A : Type 0} where
   unfolding fromTo
   fromTo-next step lo i a {b} {r} h e f =
       let one-more : i + 1 - lo ≡ i - lo + 1 = omega arith in
-      let here : i ≡ lo + (i - lo) = omega arith in
-      rw one-more (inTurn-next (λ j. step (lo + j)) (i - lo) a e (f ∙ ap (λ (k : ℕ). step k b) here))
+      let here : i ≡ lo + (i - lo) = omega arith in rw one-more (inTurn-next (λ j. step (lo + j)) (i - lo) a e (f ∙ ap (λ (k : ℕ). step k b) here))
 
   -- From hi down: the turns made are those at i and above, with `hi - i` of them.
   pub downTo-none : (step : ℕ → A → A) (hi : ℕ) (a : A) → a ≡ inTurn (λ j. step (hi - (j + 1))) (hi - hi) a
@@ -60,8 +54,7 @@ module _ {A : Type 0} where
   pub inTurn-carries : (P : ℕ → A → Type 0) (step : ℕ → A → A) (n : ℕ) (a : A) → P 0 a → ((k : ℕ) (b : A) → k < n → P k b → P (k + 1) (step k b)) → P n (inTurn step n a)
   unfolding inTurn
   inTurn-carries P step zero a p carries = p
-  inTurn-carries P step (suc n) a p carries =
-      subst (λ (k : ℕ). P k (step n (inTurn step n a))) (add-one n)
+  inTurn-carries P step (suc n) a p carries = subst (λ (k : ℕ). P k (step n (inTurn step n a))) (add-one n)
       (carries n (inTurn step n a) (omega arith) (inTurn-carries P step n a p (λ k b h. carries k b (omega arith))))
 
   pub fromTo-carries : (P : ℕ → A → Type 0) (step : ℕ → A → A) (lo hi : ℕ) (a : A) → lo ≤ hi → P lo a

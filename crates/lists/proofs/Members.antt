@@ -1,17 +1,10 @@
 -- What is a member of a list: of a range, of rows, of those kept, and what a member does to a count or a test of the whole.
-use mathlib.Core.Path.{_≡_, refl, sym, ap, _∙_, ap₂}
-use mathlib.Core.Bool.{Bool, true, false, _||_, cond, true≢false}
-use mathlib.Core.Logic.{_⊎_, inl, inr, ⊎-elim}
-use mathlib.Core.List.{List, [], _∷_, _++_, map, List·Memᴰ as Member, List·Memᴰ·head as here, List·Memᴰ·tail as there, List·Memᴰ·cases-cons as cases-cons, List·Memᴰ·append-cases as append-cases, List·Memᴰ·not-nil as not-nil, Memᴰ·append-left, Memᴰ·append-right, Memᴰ·cast, foldl}
-use Prim.Native.Nat.{ℕ, zero, suc, _+_, _-_, _<_, _≤_, suc-le-suc}
-use native.Mathlib.Nat.{le-refl}
-use native.Mathlib.Decide.{ℕ-discrete}
-use native.Mathlib.Omega.{arith}
-use borrow.Author.Tests.{eqb-true, eq-eqb}
-use lib.Dec.{eqb}
-use lib.ListN.{length, getD}
-use Rattle.lists.specs.Filters.{keep, any, countIf}
-use Rattle.lists.specs.Numbers.{Below, stands, howMany, firsts}
+use Rattle.lists.proofs.Base.{_≡_, refl, sym, ap, _∙_, ap₂, Bool, true, false, _||_, cond, true≢false, _⊎_, inl, inr, ⊎-elim, ℕ, zero}
+use Rattle.lists.proofs.Base.{suc, _+_, _-_, _<_, _≤_, suc-le-suc, le-refl, ℕ-discrete, arith, eqb-true, eq-eqb, eqb, length, getD}
+use mathlib.Core.List.{List, [], _∷_, _++_, map, List·Memᴰ as Member, List·Memᴰ·head as here, List·Memᴰ·tail as there, List·Memᴰ·cases-cons as cases-cons}
+use mathlib.Core.List.{List·Memᴰ·append-cases as append-cases, List·Memᴰ·not-nil as not-nil, Memᴰ·append-left, Memᴰ·append-right, Memᴰ·cast, foldl}
+use Rattle.lists.specs.{Filters.filter, Filters.any, Filters.countIf, Numbers.contains, Numbers.howMany, Numbers.dedup}
+use Rattle.lists.specs.inner.Numbers.{Below}
 use Rattle.lists.specs.Ranges.{upFrom, range, rows}
 
 -- ---- ranges
@@ -44,27 +37,25 @@ member-getD (x ∷ xs) (suc i) d h = there (member-getD xs i d (omega arith))
 -- ---- tests
 
 module _ {A : Type 0} (p : A → Bool) where
-  keep-in : (b : Bool) (x y : A) (rest : List A) → (x ≡ y → b ≡ true) → (x ≡ y) ⊎ Member x rest → Member x (cond b (y ∷ rest) rest)
-  keep-in true x y rest h c = ⊎-elim (λ s. here s) (λ t. there t) c
-  keep-in false x y rest h c = ⊎-elim (λ s. absurd (true≢false (sym (h s)))) (λ t. t) c
+  filter-in : (b : Bool) (x y : A) (rest : List A) → (x ≡ y → b ≡ true) → (x ≡ y) ⊎ Member x rest → Member x (cond b (y ∷ rest) rest)
+  filter-in true x y rest h c = ⊎-elim (λ s. here s) (λ t. there t) c
+  filter-in false x y rest h c = ⊎-elim (λ s. absurd (true≢false (sym (h s)))) (λ t. t) c
 
-  keep-out : (b : Bool) (x y : A) (rest : List A) → Member x (cond b (y ∷ rest) rest) → ((x ≡ y) × (b ≡ true)) ⊎ Member x rest
-  keep-out true x y rest m = ⊎-elim (λ s. inl (s, refl)) (λ t. inr t) (cases-cons m)
-  keep-out false x y rest m = inr m
+  filter-out : (b : Bool) (x y : A) (rest : List A) → Member x (cond b (y ∷ rest) rest) → ((x ≡ y) × (b ≡ true)) ⊎ Member x rest
+  filter-out true x y rest m = ⊎-elim (λ s. inl (s, refl)) (λ t. inr t) (cases-cons m)
+  filter-out false x y rest m = inr m
 
   -- what is kept are the members that pass
-  pub member-keep : (xs : List A) (x : A) → Member x xs → p x ≡ true → Member x (keep p xs)
-  unfolding keep
-  member-keep [] x m e = absurd (not-nil m)
-  member-keep (y ∷ ys) x m e = keep-in (p y) x y (keep p ys) (λ s. ap p (sym s) ∙ e) (⊎-elim (λ s. inl s) (λ t. inr (member-keep ys x t e)) (cases-cons m))
+  pub member-filter : (xs : List A) (x : A) → Member x xs → p x ≡ true → Member x (filter p xs)
+  unfolding filter
+  member-filter [] x m e = absurd (not-nil m)
+  member-filter (y ∷ ys) x m e = filter-in (p y) x y (filter p ys) (λ s. ap p (sym s) ∙ e) (⊎-elim (λ s. inl s) (λ t. inr (member-filter ys x t e)) (cases-cons m))
 
-  pub keep-member : (xs : List A) (x : A) → Member x (keep p xs) → (p x ≡ true) × Member x xs
-  unfolding keep
-  keep-member [] x m = absurd (not-nil m)
-  keep-member (y ∷ ys) x m = ⊎-elim
-      (λ s. (ap p (s .0) ∙ s .1, here (s .0)))
-      (λ t. let r = keep-member ys x t in (r .0, there (r .1)))
-      (keep-out (p y) x y (keep p ys) m)
+  pub filter-member : (xs : List A) (x : A) → Member x (filter p xs) → (p x ≡ true) × Member x xs
+  unfolding filter
+  filter-member [] x m = absurd (not-nil m)
+  filter-member (y ∷ ys) x m = ⊎-elim (λ s. (ap p (s .0) ∙ s .1, here (s .0))) (λ t. let r = filter-member ys x t in (r .0, there (r .1)))
+      (filter-out (p y) x y (filter p ys) m)
 
   -- one passes: a member that passes, and the other way round
   any-in : (a b : Bool) → (a ≡ true) ⊎ (b ≡ true) → (a || b) ≡ true
@@ -101,10 +92,10 @@ module _ {A : Type 0} (p : A → Bool) where
 -- ---- equal tests
 
 module _ {A : Type 0} (p q : A → Bool) where
-  pub keep-cong : (xs : List A) → ((x : A) → Member x xs → p x ≡ q x) → keep p xs ≡ keep q xs
-  unfolding keep
-  keep-cong [] h = refl
-  keep-cong (x ∷ xs) h = λ i. cond (h x (here refl) i) (x ∷ keep-cong xs (λ y m. h y (there m)) i) (keep-cong xs (λ y m. h y (there m)) i)
+  pub filter-cong : (xs : List A) → ((x : A) → Member x xs → p x ≡ q x) → filter p xs ≡ filter q xs
+  unfolding filter
+  filter-cong [] h = refl
+  filter-cong (x ∷ xs) h = λ i. cond (h x (here refl) i) (x ∷ filter-cong xs (λ y m. h y (there m)) i) (filter-cong xs (λ y m. h y (there m)) i)
 
 -- ---- numbers below g
 
@@ -122,10 +113,8 @@ below-member g (x ∷ xs) j h m = ⊎-elim (λ s. omega (arith, h 0 (omega arith
 pub member-howMany : (x : ℕ) (xs : List ℕ) → Member x xs → 0 < howMany x xs
 unfolding howMany countIf
 member-howMany x [] m = absurd (not-nil m)
-member-howMany x (y ∷ ys) m = ⊎-elim
-    (λ e. omega (arith, ap {B = ℕ} (λ (b : Bool). cond b 1 0) (eq-eqb x y e)))
-    (λ t. omega (arith, member-howMany x ys t))
-    (cases-cons m)
+member-howMany x (y ∷ ys) m = ⊎-elim (λ e. omega (arith, ap {B = ℕ} (λ (b : Bool). cond b 1 0) (eq-eqb x y e)))
+    (λ t. omega (arith, member-howMany x ys t)) (cases-cons m)
 
 counted-cases : (b : Bool) (x y : ℕ) (ys : List ℕ) → eqb x y ≡ b → (0 < countIf (eqb x) ys → Member x ys) → 0 < cond b 1 0 + countIf (eqb x) ys → Member x (y ∷ ys)
 counted-cases true x y ys e f h = here (eqb-true x y e)
@@ -138,18 +127,18 @@ howMany-member x (y ∷ ys) h = counted-cases (eqb x y) x y ys refl (howMany-mem
 
 -- ---- numbers without repeats, by first appearance: every number is there
 
-stands-step : (a : Bool) (x y : ℕ) (ys : List ℕ) (b : Bool) → (a ≡ true → x ≡ y) → (b ≡ true → Member x ys) → (a || b) ≡ true → Member x (y ∷ ys)
-stands-step true x y ys b f h e = here (f refl)
-stands-step false x y ys b f h e = there (h e)
+contains-step : (a : Bool) (x y : ℕ) (ys : List ℕ) (b : Bool) → (a ≡ true → x ≡ y) → (b ≡ true → Member x ys) → (a || b) ≡ true → Member x (y ∷ ys)
+contains-step true x y ys b f h e = here (f refl)
+contains-step false x y ys b f h e = there (h e)
 
-pub stands-member : (x : ℕ) (ys : List ℕ) → stands x ys ≡ true → Member x ys
-unfolding stands any
-stands-member x [] e = absurd (true≢false (sym e))
-stands-member x (y ∷ ys) e = stands-step (eqb x y) x y ys (any (eqb x) ys) (λ f. eqb-true x y f) (λ f. stands-member x ys f) e
+pub contains-member : (x : ℕ) (ys : List ℕ) → contains x ys ≡ true → Member x ys
+unfolding contains any
+contains-member x [] e = absurd (true≢false (sym e))
+contains-member x (y ∷ ys) e = contains-step (eqb x y) x y ys (any (eqb x) ys) (λ f. eqb-true x y f) (λ f. contains-member x ys f) e
 
 -- one number more of those seen
 abbrev pub see : List ℕ → ℕ → List ℕ
-see seen x = cond (stands x seen) seen (seen ++ (x ∷ []))
+see seen x = cond (contains x seen) seen (seen ++ (x ∷ []))
 
 seen-stays : (b : Bool) (x z : ℕ) (seen : List ℕ) → Member z seen → Member z (cond b seen (seen ++ (x ∷ [])))
 seen-stays true x z seen m = m
@@ -159,20 +148,18 @@ seen-has : (b : Bool) (x : ℕ) (seen : List ℕ) → (b ≡ true → Member x s
 seen-has true x seen h = h refl
 seen-has false x seen h = Memᴰ·append-right seen (here refl)
 
-firsts-stay : (xs seen : List ℕ) (z : ℕ) → Member z seen → Member z (foldl see seen xs)
-firsts-stay [] seen z m = m
-firsts-stay (x ∷ xs) seen z m = firsts-stay xs (see seen x) z (seen-stays (stands x seen) x z seen m)
+dedup-stay : (xs seen : List ℕ) (z : ℕ) → Member z seen → Member z (foldl see seen xs)
+dedup-stay [] seen z m = m
+dedup-stay (x ∷ xs) seen z m = dedup-stay xs (see seen x) z (seen-stays (contains x seen) x z seen m)
 
-firsts-enter : (xs seen : List ℕ) (z : ℕ) → Member z xs → Member z (foldl see seen xs)
-firsts-enter [] seen z m = absurd (not-nil m)
-firsts-enter (x ∷ xs) seen z m = ⊎-elim
-    (λ s. Memᴰ·cast s (firsts-stay xs (see seen x) x (seen-has (stands x seen) x seen (stands-member x seen))))
-    (λ t. firsts-enter xs (see seen x) z t)
-    (cases-cons m)
+dedup-enter : (xs seen : List ℕ) (z : ℕ) → Member z xs → Member z (foldl see seen xs)
+dedup-enter [] seen z m = absurd (not-nil m)
+dedup-enter (x ∷ xs) seen z m = ⊎-elim (λ s. Memᴰ·cast s (dedup-stay xs (see seen x) x (seen-has (contains x seen) x seen (contains-member x seen))))
+    (λ t. dedup-enter xs (see seen x) z t) (cases-cons m)
 
-pub member-firsts : (xs : List ℕ) (z : ℕ) → Member z xs → Member z (firsts xs)
-unfolding firsts
-member-firsts xs z m = firsts-enter xs [] z m
+pub member-dedup : (xs : List ℕ) (z : ℕ) → Member z xs → Member z (dedup xs)
+unfolding dedup
+member-dedup xs z m = dedup-enter xs [] z m
 
 -- ---- rows
 
@@ -180,9 +167,7 @@ module _ {A : Type 0} where
   pub member-rows : (n : ℕ) (f : ℕ → List A) (x : A) → Member x (rows n f) → (i : ℕ) × (i < n) × Member x (f i)
   unfolding rows
   member-rows zero f x m = absurd (not-nil m)
-  member-rows (suc n) f x m = ⊎-elim
-      (λ l. let r = member-rows n f x l in (r .0, omega arith, r .2))
-      (λ r. (n, le-refl _, r))
+  member-rows (suc n) f x m = ⊎-elim (λ l. let r = member-rows n f x l in (r .0, omega arith, r .2)) (λ r. (n, le-refl _, r))
       (append-cases (rows n f) m)
 
   pub rows-member : (n : ℕ) (f : ℕ → List A) (x : A) (i : ℕ) → i < n → Member x (f i) → Member x (rows n f)
@@ -199,22 +184,22 @@ below-cons : (m a : ℕ) (l : List ℕ) → a < m → Below m l → Below m (a �
 below-cons m a l h b zero k = h
 below-cons m a l h b (suc x) k = b x (omega arith)
 
-below-upFrom : (p : ℕ → Bool) (m lo n : ℕ) → lo + n ≤ m → Below m (keep p (upFrom lo n))
-unfolding upFrom keep
+below-upFrom : (p : ℕ → Bool) (m lo n : ℕ) → lo + n ≤ m → Below m (filter p (upFrom lo n))
+unfolding upFrom filter
 below-upFrom p m lo zero h = λ x b. absurd (omega arith)
 below-upFrom p m lo (suc n) h = one (p lo) (below-upFrom p m (suc lo) n (omega arith))
   where
     rest : List ℕ
-    rest = keep p (upFrom (suc lo) n)
+    rest = filter p (upFrom (suc lo) n)
 
     one : (b : Bool) → Below m rest → Below m (cond b (lo ∷ rest) rest)
     one true r = below-cons m lo rest (omega arith) r
     one false r = r
 
 -- what is kept of a range is below its end
-pub keep-below : (p : ℕ → Bool) (m : ℕ) → Below m (keep p (range 0 m))
+pub filter-below : (p : ℕ → Bool) (m : ℕ) → Below m (filter p (range 0 m))
 unfolding range
-keep-below p m = below-upFrom p m 0 (m - 0) (omega arith)
+filter-below p m = below-upFrom p m 0 (m - 0) (omega arith)
 
 -- ---- equal rules, equal images
 

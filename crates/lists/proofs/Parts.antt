@@ -1,11 +1,6 @@
 -- Fronts, parts and images of lists, and lists written over others.
-use mathlib.Core.Path.{_≡_, refl, sym, ap, _∙_}
-use mathlib.Core.List.{List, [], _∷_, _++_, map, append-assoc, append-nil}
-use Prim.Native.Nat.{ℕ, zero, suc, _+_, _-_, _<_, _≤_}
-use native.Mathlib.Nat.{not-suc-le-zero, le-of-suc-le-suc}
-use native.Mathlib.Numerals.{add-one}
-use native.Mathlib.Omega.{arith}
-use borrow.Rule.Slice.PartMut.{putMid}
+use Rattle.lists.proofs.Base.{_≡_, refl, sym, ap, _∙_, List, [], _∷_, _++_, map, append-assoc, append-nil, ℕ, zero}
+use Rattle.lists.proofs.Base.{suc, _+_, _-_, _<_, _≤_, not-suc-le-zero, le-of-suc-le-suc, add-one, arith, putMid}
 use lib.ListN.{length, getD, take, drop, take-append-drop, length-append, length-drop, drop-of-length-le, replicate, length-replicate, replicate-append-replicate}
 use lib.Seq.{length-take-le, take-suc, drop-append-add, drop-drop, take-at, drop-at}
 use Rattle.lists.specs.Writes.{over}
@@ -28,11 +23,8 @@ module _ {A : Type 0} where
   over-over new mid old h =
       let more = length new - length mid in
       let e : length new ≡ length mid + more = omega arith in
-      ap (λ (t : List A). new ++ t)
-      (ap (λ (k : ℕ). drop k (mid ++ drop (length mid) old)) e
-      ∙ drop-append-add mid (drop (length mid) old) more
-      ∙ drop-drop more (length mid) old
-      ∙ ap (λ (k : ℕ). drop k old) (sym e))
+      ap (λ (t : List A). new ++ t) (ap (λ (k : ℕ). drop k (mid ++ drop (length mid) old)) e ∙ drop-append-add mid (drop (length mid) old) more
+      ∙ drop-drop more (length mid) old ∙ ap (λ (k : ℕ). drop k old) (sym e))
 
   -- a part of the front, put back as r
   pub over-lent : (r l : List A) {m : ℕ} → length r ≡ m → r ++ drop m l ≡ over r l
@@ -102,13 +94,11 @@ getD-map-in f (x ∷ l) (suc i) d e h = getD-map-in f l i d e (omega arith)
 pub take-replicate : {A : Type 0} (k n : ℕ) (v : A) → k ≤ n → take k (replicate n v) ≡ replicate k v
 take-replicate {A} k n v h =
     let split : k + (n - k) ≡ n = omega arith in
-    ap (λ (t : ℕ). take k (replicate t v)) (sym split)
-    ∙ ap (take k) (sym (replicate-append-replicate k (n - k) v))
+    ap (λ (t : ℕ). take k (replicate t v)) (sym split) ∙ ap (take k) (sym (replicate-append-replicate k (n - k) v))
     ∙ take-at (replicate k v) (replicate (n - k) v) k (length-replicate k v)
 
 pub drop-replicate : {A : Type 0} (k n : ℕ) (v : A) → k ≤ n → drop k (replicate n v) ≡ replicate (n - k) v
 drop-replicate {A} k n v h =
     let split : k + (n - k) ≡ n = omega arith in
-    ap (λ (t : ℕ). drop k (replicate t v)) (sym split)
-    ∙ ap (drop k) (sym (replicate-append-replicate k (n - k) v))
+    ap (λ (t : ℕ). drop k (replicate t v)) (sym split) ∙ ap (drop k) (sym (replicate-append-replicate k (n - k) v))
     ∙ drop-at (replicate k v) (replicate (n - k) v) k (length-replicate k v)

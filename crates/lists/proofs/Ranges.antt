@@ -1,12 +1,7 @@
 -- Ranges, tables and rows: their first member, their last, their length and their entries.
-use mathlib.Core.Path.{_≡_, refl, sym, ap, ap₂, _∙_, subst}
-use mathlib.Core.List.{List, [], _∷_, _++_, map, append-assoc}
-use Prim.Native.Nat.{ℕ, zero, suc, _+_, _-_, _*_, _<_, _≤_}
+use Rattle.lists.proofs.Base.{_≡_, refl, sym, ap, ap₂, _∙_, subst, List, [], _∷_, _++_, map, ℕ, zero, suc, _+_, _-_, _*_, _<_, _≤_, add-one, arith, ext-getD}
 use native.Mathlib.Nat.{not-suc-le-zero, le-of-suc-le-suc, sub-zero, zero-add, add-zero, add-suc, suc-add, suc-mul, zero-mul}
-use native.Mathlib.Numerals.{add-one}
-use native.Mathlib.Omega.{arith}
 use lib.ListN.{length, getD, length-map, length-append, List·getD-map}
-use lib.Seq.{ext-getD}
 use Rattle.lists.specs.Ranges.{upFrom, range, table, rows, grid}
 
 -- ---- a range by its first member
@@ -32,8 +27,7 @@ pub range-last : (lo hi : ℕ) → lo ≤ hi → range lo (hi + 1) ≡ range lo 
 unfolding range
 range-last lo hi h =
     let more : hi + 1 - lo ≡ suc (hi - lo) = omega arith in
-    let last : lo + (hi - lo) ≡ hi = omega arith in
-    rw (more, upFrom-last, last)
+    let last : lo + (hi - lo) ≡ hi = omega arith in rw (more, upFrom-last, last)
 
 -- ---- its length and entries
 
@@ -45,12 +39,6 @@ length-upFrom lo (suc n) = ap suc (length-upFrom (suc lo) n)
 pub length-range : (lo hi : ℕ) → length (range lo hi) ≡ hi - lo
 unfolding range
 length-range lo hi = length-upFrom lo (hi - lo)
-
-pub getD-upFrom : (lo n i d : ℕ) → i < n → getD (upFrom lo n) i d ≡ lo + i
-unfolding upFrom
-getD-upFrom lo zero i d h = absurd (not-suc-le-zero h)
-getD-upFrom lo (suc n) zero d h = sym (add-zero lo)
-getD-upFrom lo (suc n) (suc i) d h = getD-upFrom (suc lo) n i d (le-of-suc-le-suc h) ∙ suc-add lo i ∙ sym (add-suc lo i)
 
 -- a table is over the range from 0
 pub range-upFrom : (n : ℕ) → range 0 n ≡ upFrom 0 n
@@ -101,8 +89,7 @@ table-ext f h (suc n) e =
 
 -- a list is the table of its entries, and its image the table of theirs
 pub table-of : {A : Type 0} (l : List A) (d : A) → table (length l) (λ i. getD l i d) ≡ l
-table-of l d =
-    ext-getD d (table (length l) (λ i. getD l i d)) l (length-table (λ i. getD l i d) (length l))
+table-of l d = ext-getD d (table (length l) (λ i. getD l i d)) l (length-table (λ i. getD l i d) (length l))
     (λ i h. getD-table (λ i. getD l i d) (length l) i d (subst (λ (n : ℕ). i < n) (length-table (λ i. getD l i d) (length l)) h))
 
 pub map-table : {A B : Type 0} (f : A → B) (l : List A) (d : A) → map f l ≡ table (length l) (λ i. f (getD l i d))
@@ -121,8 +108,7 @@ unfolding rows
 rows-ext f h zero e = refl
 rows-ext f h (suc n) e =
     let before : rows n f ≡ rows n h = rows-ext f h n (λ i g. e i (omega arith)) in
-    let last : f n ≡ h n = e n (omega arith) in
-    cc
+    let last : f n ≡ h n = e n (omega arith) in cc
 
 pub length-rows : {A : Type 0} (w : ℕ) (f : ℕ → List A) (n : ℕ) → ((i : ℕ) → i < n → length (f i) ≡ w) → length (rows n f) ≡ n * w
 unfolding rows

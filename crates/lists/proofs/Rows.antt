@@ -1,18 +1,10 @@
 -- Rows of a matrix as parts of one list. The part `&m[i * w..i * w + w]` as the check has it is row i, and the part put back is row i put back.
-use mathlib.Core.Path.{_≡_, refl, sym, ap, _∙_}
-use mathlib.Core.Bool.{Bool, true, false}
-use mathlib.Core.List.{List, _++_}
-use Prim.Native.Nat.{ℕ, zero, suc, _+_, _-_, _*_, _<_, _≤_}
+use Rattle.lists.proofs.Base.{_≡_, refl, sym, ap, _∙_, Bool, true, false, List, _++_, ℕ, zero, suc, _+_, _-_, _*_, _<_}
+use Rattle.lists.proofs.Base.{_≤_, arith, ltb, length, getD, take, drop, length-drop, List·getD-append, length-take-le}
+use Rattle.lists.proofs.Base.{take-all, getD-take, getD-drop, getD-append-add, nan, Float, ltb-true, ltb-false}
 use native.Mathlib.Nat.{add-sub-cancel-left, mul-le-mul-right, suc-mul, not-suc-le-zero}
-use native.Mathlib.Omega.{arith}
-use lib.Dec.{ltb}
-use lib.ListN.{length, getD, take, drop, length-drop, List·getD-append}
-use lib.Seq.{length-take-le, take-all, getD-take, getD-drop, getD-append-add}
-use lib.Ieee.{nan, Float}
-use borrow.Author.Tests.{ltb-true, ltb-false}
 use borrow.Rule.Slice.PartMut.{putMid, same-len-mid}
-use Rattle.lists.specs.Ranges.{table, rows, grid}
-use Rattle.lists.specs.Rows.{entry, row, putRow, onRow}
+use Rattle.lists.specs.{Ranges.table, Ranges.rows, Ranges.grid, Rows.entry, Rows.row, Rows.putRow, Rows.onRow}
 use Rattle.lists.proofs.Ranges.{length-table, getD-table, length-rows}
 
 -- row i of n ends within the n rows, and so does each of its entries

@@ -1,16 +1,7 @@
 -- Searches through a list: whether one passes, all do, and the first that does.
-use mathlib.Core.Path.{_≡_, refl, sym, ap, _∙_, ap₂}
-use mathlib.Core.Bool.{Bool, true, false, _&&_, _||_, cond}
-use mathlib.Core.Logic.{_⊎_, inl, inr, ⊎-elim}
-use mathlib.Core.List.{List, [], _∷_, _++_}
-use Prim.Native.Nat.{ℕ, zero, suc, _+_, _<_, _≤_}
-use native.Mathlib.Numerals.{add-one}
-use native.Mathlib.Omega.{arith}
-use borrow.Author.Tests.{ltb-true, ltb-false}
-use lib.Dec.{ltb}
-use lib.ListN.{length, getD}
-use Rattle.lists.specs.Filters.{any, firstAt, all}
-use Rattle.lists.specs.Ranges.{upFrom, range}
+use Rattle.lists.proofs.Base.{_≡_, refl, sym, ap, _∙_, ap₂, Bool, true, false, _&&_, _||_, cond, _⊎_, inl, inr, ⊎-elim, List, []}
+use Rattle.lists.proofs.Base.{_∷_, _++_, ℕ, zero, suc, _+_, _<_, _≤_, add-one, arith, ltb-true, ltb-false, ltb, length, getD}
+use Rattle.lists.specs.{Filters.any, Filters.firstAt, Filters.all, Ranges.upFrom, Ranges.range}
 use Rattle.lists.proofs.Ranges.{range-none, range-last, range-upFrom}
 use Rattle.lists.proofs.Truths.{or-neither, or-false, order, same-or-not}
 
@@ -97,10 +88,8 @@ unfolding any
 any-same p q zero e = ap (any p) (range-none 0 0 (omega arith)) ∙ ap (any q) (sym (range-none 0 0 (omega arith)))
 any-same p q (suc n) e =
     let one : n + 1 ≡ suc n = add-one n in
-    ap (λ (k : ℕ). any p (range 0 k)) (sym one)
-    ∙ any-more p n refl
-    ∙ ap₂ (λ (a b : Bool). a || b) (any-same p q n (λ i h. e i (omega arith))) (e n (omega arith))
-    ∙ sym (any-more q n refl)
+    ap (λ (k : ℕ). any p (range 0 k)) (sym one) ∙ any-more p n refl
+    ∙ ap₂ (λ (a b : Bool). a || b) (any-same p q n (λ i h. e i (omega arith))) (e n (omega arith)) ∙ sym (any-more q n refl)
     ∙ ap (λ (k : ℕ). any q (range 0 k)) one
 
 pub any-from : (p : ℕ → Bool) (k lo : ℕ) → any p (upFrom lo k) ≡ false → (i : ℕ) → lo ≤ i → i < lo + k → p i ≡ false
@@ -111,7 +100,8 @@ any-from p (suc k) lo e i g h = one (same-or-not lo i) (or-neither (p lo) (any p
     later : (lo ≡ i → ⊥) → suc lo ≤ i
     later d = ⊎-elim (λ (q : suc lo ≤ i). q) (λ (q : i < suc lo). absurd (d (omega arith))) (order (suc lo) i)
 
-    one : (lo ≡ i) ⊎ (lo ≡ i → ⊥) → (p lo ≡ false) × (any p (upFrom (suc lo) k) ≡ false) → ((lo ≡ i → ⊥) → any p (upFrom (suc lo) k) ≡ false → p i ≡ false) → p i ≡ false
+    one : (lo ≡ i) ⊎ (lo ≡ i → ⊥) → (p lo ≡ false) × (any p (upFrom (suc lo) k) ≡ false) →
+        ((lo ≡ i → ⊥) → any p (upFrom (suc lo) k) ≡ false → p i ≡ false) → p i ≡ false
     one (inl q) b r = ap p (sym q) ∙ b .0
     one (inr d) b r = r d (b .1)
 

@@ -2,18 +2,11 @@
 -- A loop `for i in lo..hi { s = s + f(i); }` has the invariant "the sum of what is left, from s, is the whole sum":
 --     sumFrom s (map f (range i hi)) ≡ sumFrom s₀ (map f (range lo hi))
 -- It begins by `refl`; `sum-turn` and `sum-end` take the invariant and hand it on. The same over a list by its places, and over pairs.
-use mathlib.Core.Path.{_≡_, refl, sym, ap, _∙_}
-use mathlib.Core.Bool.{Bool, true, false}
-use mathlib.Core.List.{List, [], _∷_, _++_, map}
-use Prim.Native.Nat.{ℕ, _+_, _<_, _≤_}
-use lib.ListN.{length, getD, drop, drop-of-length-le}
-use lib.Ieee.{Float}
+use Rattle.lists.proofs.Base.{_≡_, refl, sym, ap, _∙_, Bool, true, false, List, [], _∷_, _++_, map, ℕ, _+_, _<_, _≤_, length, getD, drop, drop-of-length-le, Float}
 use Rattle.float.specs.Floats.{_⊕_}
-use Rattle.lists.specs.Ranges.{range, table, rows}
-use Rattle.lists.specs.Filters.{keep, pairs, orderedPairs}
-use Rattle.lists.specs.Sums.{sumFrom}
+use Rattle.lists.specs.{Ranges.range, Ranges.table, Ranges.rows, Filters.filter, Filters.pairs, Filters.orderedPairs, Sums.sumFrom}
 use Rattle.lists.proofs.Ranges.{range-more, range-none, table-range, rows-last}
-use Rattle.lists.proofs.Filters.{drop-more, keep-step-yes, keep-step-no, keep-done}
+use Rattle.lists.proofs.Filters.{drop-more, filter-step-yes, filter-step-no, filter-done}
 
 pub sum-append : (s : Float) (xs ys : List Float) → sumFrom s (xs ++ ys) ≡ sumFrom (sumFrom s xs) ys
 unfolding sumFrom
@@ -41,14 +34,14 @@ module _ (f : ℕ → Float) (s : Float) {t : Float} (i hi : ℕ) where
   sum-end h inv = left-end f s (range-none i hi h) inv
 
   pub kept-turn : {x s′ : Float} (p : ℕ → Bool) → i < hi → p i ≡ true → x ≡ f i → s′ ≡ s ⊕ x
-      → sumFrom s (map f (keep p (range i hi))) ≡ t → sumFrom s′ (map f (keep p (range (i + 1) hi))) ≡ t
-  kept-turn p h b e g inv = left-turn f s (keep-step-yes p i hi h b) e g inv
+      → sumFrom s (map f (filter p (range i hi))) ≡ t → sumFrom s′ (map f (filter p (range (i + 1) hi))) ≡ t
+  kept-turn p h b e g inv = left-turn f s (filter-step-yes p i hi h b) e g inv
 
-  pub kept-pass : (p : ℕ → Bool) → i < hi → p i ≡ false → sumFrom s (map f (keep p (range i hi))) ≡ t → sumFrom s (map f (keep p (range (i + 1) hi))) ≡ t
-  kept-pass p h b inv = ap (λ (l : List ℕ). sumFrom s (map f l)) (sym (keep-step-no p i hi h b)) ∙ inv
+  pub kept-pass : (p : ℕ → Bool) → i < hi → p i ≡ false → sumFrom s (map f (filter p (range i hi))) ≡ t → sumFrom s (map f (filter p (range (i + 1) hi))) ≡ t
+  kept-pass p h b inv = ap (λ (l : List ℕ). sumFrom s (map f l)) (sym (filter-step-no p i hi h b)) ∙ inv
 
-  pub kept-end : (p : ℕ → Bool) → hi ≤ i → sumFrom s (map f (keep p (range i hi))) ≡ t → s ≡ t
-  kept-end p h inv = left-end f s (keep-done p i hi h) inv
+  pub kept-end : (p : ℕ → Bool) → hi ≤ i → sumFrom s (map f (filter p (range i hi))) ≡ t → s ≡ t
+  kept-end p h inv = left-end f s (filter-done p i hi h) inv
 
 -- a table's sum, as the sum over the range that it is
 pub sum-table : (s : Float) (n : ℕ) (f : ℕ → Float) → sumFrom s (table n f) ≡ sumFrom s (map f (range 0 n))
@@ -82,10 +75,8 @@ module _ {A : Type 0} (f : A → A → Float) (s : Float) {t : Float} (l : List 
   unfolding pairs
   pairs-turn d h g inv =
       let rest = drop (i + 1) l in
-      ap (λ (y : Float). sumFrom y (pairs f rest)) g
-      ∙ sym (sum-append s (map (f (getD l i d)) rest) (pairs f rest))
-      ∙ ap (λ (ks : List A). sumFrom s (pairs f ks)) (sym (drop-more l i d h))
-      ∙ inv
+      ap (λ (y : Float). sumFrom y (pairs f rest)) g ∙ sym (sum-append s (map (f (getD l i d)) rest) (pairs f rest))
+      ∙ ap (λ (ks : List A). sumFrom s (pairs f ks)) (sym (drop-more l i d h)) ∙ inv
 
   pub pairs-end : length l ≤ i → sumFrom s (pairs f (drop i l)) ≡ t → s ≡ t
   unfolding sumFrom pairs
@@ -95,11 +86,9 @@ module _ {A B : Type 0} (f : A → B → Float) (s : Float) {t : Float} (l : Lis
   pub ordered-turn : {s′ : Float} (d : A) → i < length l → s′ ≡ sumFrom s (map (f (getD l i d)) ys)
       → sumFrom s (orderedPairs f (drop i l) ys) ≡ t → sumFrom s′ (orderedPairs f (drop (i + 1) l) ys) ≡ t
   unfolding orderedPairs
-  ordered-turn d h g inv =
-      ap (λ (y : Float). sumFrom y (orderedPairs f (drop (i + 1) l) ys)) g
+  ordered-turn d h g inv = ap (λ (y : Float). sumFrom y (orderedPairs f (drop (i + 1) l) ys)) g
       ∙ sym (sum-append s (map (f (getD l i d)) ys) (orderedPairs f (drop (i + 1) l) ys))
-      ∙ ap (λ (ks : List A). sumFrom s (orderedPairs f ks ys)) (sym (drop-more l i d h))
-      ∙ inv
+      ∙ ap (λ (ks : List A). sumFrom s (orderedPairs f ks ys)) (sym (drop-more l i d h)) ∙ inv
 
   pub ordered-end : length l ≤ i → sumFrom s (orderedPairs f (drop i l) ys) ≡ t → s ≡ t
   unfolding sumFrom orderedPairs
@@ -112,5 +101,4 @@ unfolding sumFrom rows
 sum-rows-none s f = refl
 
 pub sum-rows-next : (s : Float) (f : ℕ → List Float) (k : ℕ) {t t′ : Float} → t ≡ sumFrom s (rows k f) → t′ ≡ sumFrom t (f k) → t′ ≡ sumFrom s (rows (k + 1) f)
-sum-rows-next s f k e h =
-    h ∙ ap (λ (x : Float). sumFrom x (f k)) e ∙ sym (sum-append s (rows k f) (f k)) ∙ ap (sumFrom s) (sym (rows-last f k))
+sum-rows-next s f k e h = h ∙ ap (λ (x : Float). sumFrom x (f k)) e ∙ sym (sum-append s (rows k f) (f k)) ∙ ap (sumFrom s) (sym (rows-last f k))

@@ -1,9 +1,6 @@
 -- Truths joined, and two numbers compared.
-use mathlib.Core.Path.{_≡_, refl, sym, ap}
-use mathlib.Core.Bool.{Bool, true, false, _&&_, _||_, cond, true≢false}
-use mathlib.Core.Logic.{_⊎_, inl, inr, ⊎-elim}
+use Rattle.lists.proofs.Base.{_≡_, refl, sym, ap, Bool, true, false, _&&_, _||_, cond, true≢false, _⊎_, inl, inr, ⊎-elim, arith}
 use Prim.Native.Nat.{ℕ, zero, suc, _<_, _≤_, zero-le, suc-le-suc}
-use native.Mathlib.Omega.{arith}
 
 pub and-both : (a b : Bool) → (a && b) ≡ true → (a ≡ true) × (b ≡ true)
 and-both true b e = (refl, e)

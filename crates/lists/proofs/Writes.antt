@@ -1,16 +1,11 @@
 -- A list written over the front of a slice, one entry or one part more at a time.
 -- A loop `for i in 0..n { l[i] = f(i); }` has the invariant `l ≡ over (table i f) l₀`: it begins by `refl`, a turn is `table-next`, the end `over-all`.
-use mathlib.Core.Path.{_≡_, refl, sym, ap, ap₂, _∙_, subst}
-use mathlib.Core.List.{List, [], _∷_, _++_, append-assoc, append-nil}
-use Prim.Native.Nat.{ℕ, zero, suc, _+_, _-_, _*_, _<_, _≤_}
+use Rattle.lists.proofs.Base.{_≡_, refl, sym, ap, _∙_, subst, List, [], _∷_, _++_, append-assoc, append-nil, ℕ, suc, _+_, _-_}
+use Rattle.lists.proofs.Base.{_*_, _<_, _≤_, add-one, arith, length, getD, take, drop, set, replicate, length-append, length-drop}
+use Rattle.lists.proofs.Base.{length-replicate, getD-replicate, length-set, drop-of-length-le, List·getD-append, putMid}
 use native.Mathlib.Nat.{add-sub-cancel-left, mul-le-mul-right, suc-mul}
-use native.Mathlib.Numerals.{add-one}
-use native.Mathlib.Omega.{arith}
-use lib.ListN.{length, getD, take, drop, set, replicate, length-append, length-drop, length-replicate, getD-replicate, length-set, drop-of-length-le, List·getD-append}
 use lib.Seq.{drop-cons, append-snoc, set-at, take-at, drop-at, drop-drop, getD-append-add, getD-drop, ext-getD}
-use borrow.Rule.Slice.PartMut.{putMid}
-use Rattle.lists.specs.Ranges.{upFrom, table, rows}
-use Rattle.lists.specs.Writes.{over, cleared}
+use Rattle.lists.specs.{Ranges.upFrom, Ranges.table, Ranges.rows, Writes.over, Writes.cleared}
 use Rattle.lists.proofs.Ranges.{table-last, length-table, rows-last, length-rows, getD-table, table-of}
 
 module _ {A : Type 0} where
@@ -52,16 +47,13 @@ module _ {A : Type 0} where
   unfolding over
   over-one new old x h =
       let n = length new in
-      ap (λ (t : List A). set (new ++ t) n x) (drop-cons old n x h)
-      ∙ set-at new (getD old n x) (drop (suc n) old) x n refl
-      ∙ sym (append-snoc new x (drop (suc n) old))
-      ∙ ap (λ (k : ℕ). (new ++ (x ∷ [])) ++ drop k old) (sym (length-append new (x ∷ []) ∙ add-one n))
+      ap (λ (t : List A). set (new ++ t) n x) (drop-cons old n x h) ∙ set-at new (getD old n x) (drop (suc n) old) x n refl
+      ∙ sym (append-snoc new x (drop (suc n) old)) ∙ ap (λ (k : ℕ). (new ++ (x ∷ [])) ++ drop k old) (sym (length-append new (x ∷ []) ∙ add-one n))
 
   pub over-next : (new old : List A) {l : List A} {i : ℕ} {x y : A} → l ≡ over new old → length new ≡ i → x ≡ y → i < length old
       → set l i x ≡ over (new ++ (y ∷ [])) old
   over-next new old {l} {i} {x} {y} e at f h =
-      let here : length new < length old = subst (λ (k : ℕ). k < length old) (sym at) h in
-      rw (e, f, ← at) (over-one new old y here)
+      let here : length new < length old = subst (λ (k : ℕ). k < length old) (sym at) h in rw (e, f, ← at) (over-one new old y here)
 
   -- one part more
   over-some : (new old r : List A) → length new + length r ≤ length old → putMid (length new) (length r) (over new old) r ≡ over (new ++ r) old
@@ -74,8 +66,7 @@ module _ {A : Type 0} where
   pub over-part : (new old : List A) {l r s : List A} {i k : ℕ} → l ≡ over new old → length new ≡ i → r ≡ s → length s ≡ k → i + k ≤ length old
       → putMid i k l r ≡ over (new ++ s) old
   over-part new old {l} {r} {s} {i} {k} e at f len h =
-      let fits : length new + length s ≤ length old = omega arith in
-      rw (e, f, ← at, ← len) (over-some new old s fits)
+      let fits : length new + length s ≤ length old = omega arith in rw (e, f, ← at, ← len) (over-some new old s fits)
 
   -- ---- entry after entry by a rule
 
@@ -95,8 +86,7 @@ module _ {A : Type 0} where
   pub replicate-table : (n : ℕ) (x : A) → table n (λ i. x) ≡ replicate n x
   replicate-table n x =
       let same : length (table n (λ i. x)) ≡ length (replicate n x) = length-table (λ i. x) n ∙ sym (length-replicate n x) in
-      ext-getD x (table n (λ i. x)) (replicate n x) same
-      (λ i h. let len = length-table (λ i. x) n in constant n i (omega arith))
+      ext-getD x (table n (λ i. x)) (replicate n x) same (λ i h. let len = length-table (λ i. x) n in constant n i (omega arith))
     where
       constant : (n i : ℕ) → i < n → getD (table n (λ i. x)) i x ≡ getD (replicate n x) i x
       constant n i h = getD-table (λ i. x) n i x h ∙ sym (getD-replicate n i x x h)
@@ -110,8 +100,7 @@ module _ {A : Type 0} where
 
     pub rows-next : (k : ℕ) {l r : List A} → l ≡ over (rows k f) old → r ≡ f k → k * w + w ≤ length old
         → putMid (k * w) (k * w + w - k * w) l r ≡ over (rows (k + 1) f) old
-    rows-next k e g h =
-        rw add-sub-cancel-left
+    rows-next k e g h = rw add-sub-cancel-left
         (over-part (rows k f) old e (length-rows w f k (λ i _. each i)) g (each k) h ∙ ap (λ (t : List A). over t old) (sym (rows-last f k)))
 
     pub rows-all : (n : ℕ) {l : List A} → l ≡ over (rows n f) old → length old ≤ n * w → l ≡ rows n f
@@ -138,9 +127,7 @@ module _ {A : Type 0} (f : ℕ → A) (old : List A) where
 
   -- the entry that is written next is still the old one
   pub writing-here : {l : List A} {i : ℕ} (d : A) → Writing f old l i → getD l i d ≡ getD old i d
-  writing-here {l} {i} d w =
-      let len = length-table f i in
-      ap (λ (t : List A). getD t i d) (w .held) ∙ getD-behind (table i f) old i d (omega arith)
+  writing-here {l} {i} d w = let len = length-table f i in ap (λ (t : List A). getD t i d) (w .held) ∙ getD-behind (table i f) old i d (omega arith)
 
   -- only the front is written
   pub writing-front : {l : List A} {i n : ℕ} → Writing f old l i → i ≡ n → l ≡ over (table n f) old
@@ -179,8 +166,7 @@ module _ {A : Type 0} (n w : ℕ) (f : ℕ → List A) (each : (i : ℕ) → len
 
   pub filling-all : {l : List A} {k : ℕ} → Filling n w f old l k → n ≤ k → l ≡ rows n f
   filling-all {l} {k} s h =
-      let done : k ≡ n = omega (arith, s .most) in
-      rows-all w f each old n (s .held ∙ ap (λ (j : ℕ). over (rows j f) old) done) (omega arith)
+      let done : k ≡ n = omega (arith, s .most) in rows-all w f each old n (s .held ∙ ap (λ (j : ℕ). over (rows j f) old) done) (omega arith)
 
 -- a list of the same length is the same once it is cleared
 pub cleared-same : {A : Type 0} (x : A) (l l′ : List A) → length l′ ≡ length l → cleared x l′ ≡ cleared x l

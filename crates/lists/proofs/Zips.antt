@@ -1,10 +1,7 @@
 -- Two lists of one length, entry by entry.
-use mathlib.Core.Path.{_≡_, refl, sym, ap, _∙_, subst}
+use Rattle.lists.proofs.Base.{_≡_, refl, sym, ap, _∙_, subst, ℕ, zero, suc, _<_, length, getD, ext-getD}
 use mathlib.Core.List.{List, [], _∷_, zipWith}
-use Prim.Native.Nat.{ℕ, zero, suc, _<_}
 use native.Mathlib.Nat.{not-suc-le-zero, le-of-suc-le-suc, suc-inj}
-use lib.ListN.{length, getD}
-use lib.Seq.{ext-getD}
 use Rattle.lists.specs.Ranges.{table}
 use Rattle.lists.proofs.Ranges.{length-table, getD-table}
 
@@ -30,6 +27,5 @@ module _ {A B C : Type 0} (f : A → B → C) where
       (λ i h. at i (subst (λ (n : ℕ). i < n) len h))
     where
       at : (i : ℕ) → i < length xs → getD (table (length xs) (λ i. f (getD xs i a) (getD ys i b))) i (f a b) ≡ getD (zipWith f xs ys) i (f a b)
-      at i h =
-          getD-table (λ i. f (getD xs i a) (getD ys i b)) (length xs) i (f a b) h
+      at i h = getD-table (λ i. f (getD xs i a) (getD ys i b)) (length xs) i (f a b) h
           ∙ sym (getD-zipWith xs ys i a b (f a b) h (subst (λ (n : ℕ). i < n) e h))

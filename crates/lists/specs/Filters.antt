@@ -4,9 +4,9 @@ use mathlib.Core.Bool.{Bool, true, false, _&&_, _||_, cond}
 use mathlib.Core.List.{List, [], _∷_, _++_, map}
 
 -- the members that pass the test p, in order
-unfoldable pub keep : {A : Type 0} → (A → Bool) → List A → List A
-keep p [] = []
-keep p (x ∷ xs) = let rest = keep p xs in cond (p x) (x ∷ rest) rest
+unfoldable pub filter : {A : Type 0} → (A → Bool) → List A → List A
+filter p [] = []
+filter p (x ∷ xs) = let rest = filter p xs in cond (p x) (x ∷ rest) rest
 
 -- how many pass
 unfoldable pub countIf : {A : Type 0} → (A → Bool) → List A → ℕ

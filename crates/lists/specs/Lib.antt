@@ -6,3 +6,4 @@ pub mod Numbers
 pub mod Sums
 pub mod Rows
 pub mod Writes
+pub mod inner

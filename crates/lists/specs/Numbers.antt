@@ -1,19 +1,19 @@
 -- Lists of whole numbers: sums, products, counts, places, order. Definitions only.
-use Prim.Native.Nat.{ℕ, zero, suc, _+_, _*_, _<_}
+use Prim.Native.Nat.{ℕ, zero, suc, _+_, _*_}
 use mathlib.Core.Bool.{Bool, cond}
 use mathlib.Core.List.{List, [], _∷_, _++_, foldl, foldr}
 use lib.Dec.{eqb, ltb}
-use lib.ListN.{length, getD}
+use lib.ListN.{getD}
 use Rattle.lists.specs.Ranges.{range}
-use Rattle.lists.specs.Filters.{keep, countIf, any, firstAt}
+use Rattle.lists.specs.Filters.{filter, countIf, any, firstAt}
 
-unfoldable pub addUp : List ℕ → ℕ
-addUp [] = 0
-addUp (x ∷ xs) = x + addUp xs
+unfoldable pub sumℕ : List ℕ → ℕ
+sumℕ [] = 0
+sumℕ (x ∷ xs) = x + sumℕ xs
 
-unfoldable pub multiply : List ℕ → ℕ
-multiply [] = 1
-multiply (x ∷ xs) = x * multiply xs
+unfoldable pub productℕ : List ℕ → ℕ
+productℕ [] = 1
+productℕ (x ∷ xs) = x * productℕ xs
 
 unfoldable pub factorial : ℕ → ℕ
 factorial zero = 1
@@ -23,15 +23,15 @@ factorial (suc n) = suc n * factorial n
 unfoldable pub howMany : ℕ → List ℕ → ℕ
 howMany x xs = countIf (eqb x) xs
 
-unfoldable pub stands : ℕ → List ℕ → Bool
-stands x xs = any (eqb x) xs
+unfoldable pub contains : ℕ → List ℕ → Bool
+contains x xs = any (eqb x) xs
 
 unfoldable pub position : ℕ → List ℕ → ℕ
 position x xs = firstAt (eqb x) xs
 
 -- the numbers of the list without repeats, by first appearance
-unfoldable pub firsts : List ℕ → List ℕ
-firsts xs = foldl (λ seen x. cond (stands x seen) seen (seen ++ (x ∷ []))) [] xs
+unfoldable pub dedup : List ℕ → List ℕ
+dedup xs = foldl (λ seen x. cond (contains x seen) seen (seen ++ (x ∷ []))) [] xs
 
 -- x put into an upward list without repeats, and the numbers of the list without repeats, upward
 unfoldable pub insertUp : ℕ → List ℕ → List ℕ
@@ -47,8 +47,4 @@ inGroup numbers j a = eqb (getD numbers a 0) j
 
 -- the members of the group j: the places below m where the number j stands, in order
 unfoldable pub members : List ℕ → ℕ → ℕ → List ℕ
-members numbers m j = keep (inGroup numbers j) (range 0 m)
-
--- each number of the list is below m
-abbrev pub Below : ℕ → List ℕ → Type 0
-Below m l = (x : ℕ) → x < length l → getD l x 0 < m
+members numbers m j = filter (inGroup numbers j) (range 0 m)

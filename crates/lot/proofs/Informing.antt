@@ -1,22 +1,13 @@
 -- A stratum informs if one of its samples is in another group than a given one of them.
-use mathlib.Core.Path.{_≡_, refl, sym, ap, _∙_}
-use mathlib.Core.Bool.{Bool, true, false, not, _&&_}
+use Rattle.lists.proofs.Base.{_≡_, refl, sym, ap, _∙_, Bool, true, false, not, _&&_, ℕ, _<_, _≤_, arith, eqb-true}
+use Rattle.lists.proofs.Base.{eqb-false, eq-eqb, ne-eqb, not-true, not-false, eqb, length, getD}
 use mathlib.Core.List.{List, List·Memᴰ as Member}
-use Prim.Native.Nat.{ℕ, _<_, _≤_}
-use native.Mathlib.Omega.{arith}
-use borrow.Author.Tests.{eqb-true, eqb-false, eq-eqb, ne-eqb, not-true, not-false}
-use lib.Dec.{eqb}
-use lib.ListN.{length, getD}
-use Rattle.lists.specs.Ranges.{range}
-use Rattle.lists.specs.Filters.{any}
-use Rattle.lists.specs.Numbers.{inGroup, members}
-use Rattle.lot.specs.Strata.{informs, informative}
-use Rattle.lot.specs.Way.{tally}
+use Rattle.lists.specs.{Ranges.range, Filters.any, Numbers.inGroup, Numbers.members}
+use Rattle.lot.specs.{Strata.informs, Strata.informative, Way.tally}
 use Rattle.lot.proofs.Tallies.{Counted, tally-own, tally-some}
 use Rattle.lists.proofs.Truths.{and-both}
-use Rattle.lists.proofs.Members.{member-range, range-member, member-keep, keep-member, member-any, any-member, none-any, any-fails}
-use Rattle.lists.proofs.Filters.{countIf-below}
-use Rattle.lists.proofs.Ranges.{length-range}
+use Rattle.lists.proofs.Members.{member-range, range-member, member-filter, filter-member, member-any, any-member, none-any, any-fails}
+use Rattle.lists.proofs.{Filters.countIf-below, Ranges.length-range}
 
 -- the sample b is of stratum s and not in group g
 abbrev pub other : List ℕ → List ℕ → ℕ → ℕ → ℕ → Bool
@@ -32,11 +23,11 @@ module _ (ss gs : List ℕ) (m k : ℕ) (h : k < m) where
 
   in-stratum : (b : ℕ) → b < m → eqb (getD ss b 0) s ≡ true → Member b (members ss m s)
   unfolding members
-  in-stratum b l e = member-keep (inGroup ss s) (range 0 m) b (range-member m b l) e
+  in-stratum b l e = member-filter (inGroup ss s) (range 0 m) b (range-member m b l) e
 
   of-stratum : (b : ℕ) → Member b (members ss m s) → (b < m) × (eqb (getD ss b 0) s ≡ true)
   unfolding members
-  of-stratum b l = let r = keep-member (inGroup ss s) (range 0 m) b l in (member-range m b (r .1), r .0)
+  of-stratum b l = let r = filter-member (inGroup ss s) (range 0 m) b l in (member-range m b (r .1), r .0)
 
   -- some sample of the stratum is in another group than k
   some-other : any (other ss gs s g) (range 0 m) ≡ true → informs ss gs m s ≡ true
@@ -58,8 +49,7 @@ module _ (ss gs : List ℕ) (m k : ℕ) (h : k < m) where
 
   no-other : any (other ss gs s g) (range 0 m) ≡ false → informs ss gs m s ≡ false
   unfolding informs
-  no-other e =
-      none-any _ (members ss m s) (λ a l. none-any _ (members ss m s) (λ b n.
+  no-other e = none-any _ (members ss m s) (λ a l. none-any _ (members ss m s) (λ b n.
       ap not (eq-eqb (getD gs a 0) (getD gs b 0) (same-group e a l ∙ sym (same-group e b n)))))
 
   pub informs-other : any (other ss gs s g) (range 0 m) ≡ informs ss gs m s
@@ -84,17 +74,17 @@ record Differing (ss gs : List ℕ) (m s : ℕ) : Type 0 where
 differing-informs : (ss gs : List ℕ) (m s : ℕ) → Differing ss gs m s → informs ss gs m s ≡ true
 unfolding informs members
 differing-informs ss gs m s d =
-    member-any _ (members ss m s) (d .a) (member-keep (inGroup ss s) (range 0 m) (d .a) (range-member m (d .a) (d .a-there)) (eq-eqb _ _ (d .a-in)))
+    member-any _ (members ss m s) (d .a) (member-filter (inGroup ss s) (range 0 m) (d .a) (range-member m (d .a) (d .a-there)) (eq-eqb _ _ (d .a-in)))
     (member-any (λ b. not (eqb (getD gs (d .a) 0) (getD gs b 0))) (members ss m s) (d .b)
-    (member-keep (inGroup ss s) (range 0 m) (d .b) (range-member m (d .b) (d .b-there)) (eq-eqb _ _ (d .b-in))) (ap not (ne-eqb _ _ (d .apart))))
+    (member-filter (inGroup ss s) (range 0 m) (d .b) (range-member m (d .b) (d .b-there)) (eq-eqb _ _ (d .b-in))) (ap not (ne-eqb _ _ (d .apart))))
 
 informs-differing : (ss gs : List ℕ) (m s : ℕ) → informs ss gs m s ≡ true → Differing ss gs m s
 unfolding informs members
 informs-differing ss gs m s e =
     let v = any-member _ (members ss m s) e in
     let w = any-member (λ b. not (eqb (getD gs (v .0) 0) (getD gs b 0))) (members ss m s) (v .2) in
-    let p = keep-member (inGroup ss s) (range 0 m) (v .0) (v .1) in
-    let q = keep-member (inGroup ss s) (range 0 m) (w .0) (w .1) in
+    let p = filter-member (inGroup ss s) (range 0 m) (v .0) (v .1) in
+    let q = filter-member (inGroup ss s) (range 0 m) (w .0) (w .1) in
     record {
       a = v .0;
       b = w .0;

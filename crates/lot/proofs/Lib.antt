@@ -1,14 +1,14 @@
 -- The laws of a lot.
-pub mod Fills
+pub mod FilledFronts
 pub mod Inserts
 pub mod Samples
 pub mod Numbering
 pub mod Informing
 pub mod Places
-pub mod Few
-pub mod Checks
+pub mod FewGroups
+pub mod AcceptedLots
 pub mod Tallies
-pub mod Within
-pub mod OnKept
+pub mod GroupsAndStrata
+pub mod WaysOnSamples
 pub mod Relabelled
 pub mod Cases

@@ -1,29 +1,18 @@
 -- Strata are named by first appearance, and numbered: one sample more.
-use mathlib.Core.Path.{_≡_, refl, sym, ap, ap₂, _∙_}
-use mathlib.Core.Bool.{Bool, true, false, not, cond}
+use Rattle.lists.proofs.Base.{_≡_, refl, sym, ap, ap₂, _∙_, Bool, true, false, not, cond, ℕ, zero, _+_, _<_, _≤_, add-zero, arith, eq-eqb, ne-eqb, eqb-true}
+use Rattle.lists.proofs.Base.{eqb-false, eqb, length, getD, take, drop, set, replicate, length-append, length-map, length-take-le, take-all}
 use mathlib.Core.List.{List, [], _∷_, _++_, map, foldl}
-use Prim.Native.Nat.{ℕ, zero, _+_, _<_, _≤_}
-use native.Mathlib.Nat.{add-zero}
-use native.Mathlib.Omega.{arith}
-use borrow.Author.Tests.{eq-eqb, ne-eqb, eqb-true, eqb-false}
-use lib.Dec.{eqb}
-use lib.ListN.{length, getD, take, drop, set, replicate, length-append, length-map}
-use lib.Seq.{length-take-le, take-all}
-use Rattle.lists.specs.Ranges.{table}
-use Rattle.lists.specs.Filters.{keep, countIf}
-use Rattle.lists.specs.Numbers.{howMany, stands, position, firsts}
+use Rattle.lists.specs.{Ranges.table, Filters.filter, Filters.countIf, Numbers.howMany, Numbers.contains, Numbers.position, Numbers.dedup}
 use Rattle.lists.specs.Writes.{over, cleared}
 use Rattle.lists.proofs.Ranges.{length-table}
-use Rattle.lists.proofs.Filters.{keep-last-yes, keep-last-no, length-keep, countIf-below, countIf-append, countIf-yes, countIf-no}
+use Rattle.lists.proofs.Filters.{filter-last-yes, filter-last-no, length-filter, countIf-below, countIf-append, countIf-yes, countIf-no}
 use Rattle.lists.proofs.Writes.{Writing, writing-none, writing-next, writing-here, writing-all}
-use Rattle.lot.specs.Lot.{none, Lot}
-use Rattle.lot.specs.Filled.{Filled}
-use Rattle.lot.specs.Kept.{gathered, kept, keptCount}
-use Rattle.lot.specs.Strata.{named, noted, numbered, heldStrata, strataCount}
-use Rattle.lot.specs.Described.{Stratified}
+use Rattle.limits.specs.Limits.{none}
+use Rattle.lot.specs.{Lot.Lot, Kept.gathered, Kept.kept, Kept.keptCount, Strata.named, Strata.numbered, Strata.heldStrata, Strata.strataCount}
+use Rattle.lot.specs.inner.{Filled.Filled, Strata.noted, Description.Stratified}
 use Rattle.lists.proofs.Parts.{over-lent, over-back, getD-either, take-more}
-use Rattle.lists.proofs.Members.{see, keep-member, keep-cong}
-use Rattle.lot.proofs.Fills.{filled-none, filled-take, filled-as, filled-more, filled-over, filled-front}
+use Rattle.lists.proofs.Members.{see, filter-member, filter-cong}
+use Rattle.lot.proofs.FilledFronts.{filled-none, filled-take, filled-as, filled-more, filled-over, filled-front}
 use Rattle.lot.proofs.Samples.{front-gathered, length-gathered}
 
 -- ---- named strata, one sample more
@@ -33,10 +22,10 @@ see-last [] seen x = refl
 see-last (y ∷ xs) seen x = see-last xs (see seen y) x
 
 named-last : (held : List ℕ) (s : ℕ) (b : Bool) → eqb s none ≡ b → named (held ++ (s ∷ [])) ≡ cond b (named held) (see (named held) s)
-unfolding named firsts
-named-last held s true e = ap (foldl see []) (keep-last-no (λ t. not (eqb t none)) held s (ap not e))
+unfolding named dedup
+named-last held s true e = ap (foldl see []) (filter-last-no (λ t. not (eqb t none)) held s (ap not e))
 named-last held s false e =
-    ap (foldl see []) (keep-last-yes (λ t. not (eqb t none)) held s (ap not e)) ∙ see-last (keep (λ t. not (eqb t none)) held) [] s
+    ap (foldl see []) (filter-last-yes (λ t. not (eqb t none)) held s (ap not e)) ∙ see-last (filter (λ t. not (eqb t none)) held) [] s
 
 pub named-more : (held : List ℕ) (i : ℕ) → i < length held → named (take (i + 1) held) ≡ noted (named (take i held)) (getD held i 0)
 unfolding noted
@@ -50,17 +39,15 @@ see-longer seen x false = let e = length-append seen (x ∷ []) in (omega arith,
 
 seen-few : (xs seen : List ℕ) → length (foldl see seen xs) ≤ length seen + length xs
 seen-few [] seen = omega arith
-seen-few (x ∷ xs) seen = omega (arith, seen-few xs (see seen x), see-longer seen x (stands x seen))
+seen-few (x ∷ xs) seen = omega (arith, seen-few xs (see seen x), see-longer seen x (contains x seen))
 
 pub length-named : (held : List ℕ) → length (named held) ≤ length held
-unfolding named firsts
-length-named held =
-    let p : ℕ → Bool = λ s. not (eqb s none) in
-    omega (arith, seen-few (keep p held) [], length-keep p held, countIf-below p held)
+unfolding named dedup
+length-named held = let p : ℕ → Bool = λ s. not (eqb s none) in omega (arith, seen-few (filter p held) [], length-filter p held, countIf-below p held)
 
 noted-longer : (ns : List ℕ) (s : ℕ) (b : Bool) → length ns ≤ length (cond b ns (see ns s))
 noted-longer ns s true = omega arith
-noted-longer ns s false = see-longer ns s (stands s ns) .0
+noted-longer ns s false = see-longer ns s (contains s ns) .0
 
 length-noted : (ns : List ℕ) (s : ℕ) → length ns ≤ length (noted ns s)
 unfolding noted
@@ -73,18 +60,18 @@ module _ (l : List ℕ) (k s : ℕ) (h : k < length l) where
   unfolding noted
   note-none e = rw (eq-eqb s none e) (filled-take l k (omega arith))
 
-  pub note-seen : (s ≡ none → ⊥) → stands s (take k l) ≡ true → Filled (noted (take k l) s) l l k
+  pub note-seen : (s ≡ none → ⊥) → contains s (take k l) ≡ true → Filled (noted (take k l) s) l l k
   unfolding noted
   note-seen d e = rw (ne-eqb s none d, e) (filled-take l k (omega arith))
 
-  pub note-new : (s ≡ none → ⊥) → stands s (take k l) ≡ false → Filled (noted (take k l) s) l (set l k s) (k + 1)
+  pub note-new : (s ≡ none → ⊥) → contains s (take k l) ≡ false → Filled (noted (take k l) s) l (set l k s) (k + 1)
   unfolding noted
   note-new d e = rw (ne-eqb s none d, e) (filled-more l (filled-take l k (omega arith)) refl h)
 
 -- ---- the loop that names them
 
 pub naming-none : (held old : List ℕ) → Filled (named (take 0 held)) old old 0
-unfolding named firsts keep
+unfolding named dedup filter
 naming-none held old = filled-none old
 
 module _ (held old : List ℕ) (i : ℕ) (h : i < length held) {ns : List ℕ} {k : ℕ} (f : Filled (named (take i held)) old ns k) where
@@ -119,9 +106,7 @@ module _ (held ns : List ℕ) where
 
     counted : (b : Bool) → eqb none (getD held k none) ≡ b → howMany none (take (k + 1) held) ≡ howMany none (take k held) + cond b 1 0
     unfolding howMany countIf
-    counted b e =
-        ap (countIf (eqb none)) (take-more held k none h)
-        ∙ countIf-append (eqb none) (take k held) (getD held k none ∷ [])
+    counted b e = ap (countIf (eqb none)) (take-more held k none h) ∙ countIf-append (eqb none) (take k held) (getD held k none ∷ [])
         ∙ ap (λ (m : ℕ). countIf (eqb none) (take k held) + m) (one b e)
       where
         one : (b : Bool) → eqb none (getD held k none) ≡ b → countIf (eqb none) (getD held k none ∷ []) ≡ cond b 1 0
@@ -136,15 +121,18 @@ module _ (held ns : List ℕ) where
     numbering-alone is at one =
         let e : getD held k none ≡ none = sym stood ∙ is in
         rw (at, one) (record {
-          written = writing-next (numberAt held ns) held (n .written) h (n .upto ∙ sym (ap (λ (b : Bool). cond b (length ns + howMany none (take k held)) (position (getD held k none) ns)) (eq-eqb _ _ e)));
+          written = writing-next (numberAt held ns) held (n .written) h
+              (n .upto ∙ sym (ap (λ (b : Bool). cond b (length ns + howMany none (take k held)) (position (getD held k none) ns)) (eq-eqb _ _ e)));
           upto = omega (arith, n .upto, counted true (eq-eqb _ _ (sym e)));
         })
 
-    pub numbering-named : {now′ : List ℕ} {next′ p : ℕ} → (getD now k 0 ≡ none → ⊥) → p ≡ position (getD now k 0) ns → now′ ≡ set now k p → next′ ≡ next → Numbering held ns now′ next′ (k + 1)
+    pub numbering-named : {now′ : List ℕ} {next′ p : ℕ} → (getD now k 0 ≡ none → ⊥) → p ≡ position (getD now k 0) ns → now′ ≡ set now k p →
+        next′ ≡ next → Numbering held ns now′ next′ (k + 1)
     numbering-named other is at one =
         let d : getD held k none ≡ none → ⊥ = λ e. other (stood ∙ e) in
         rw (at, one) (record {
-          written = writing-next (numberAt held ns) held (n .written) h (is ∙ ap (λ (s : ℕ). position s ns) stood ∙ sym (ap (λ (b : Bool). cond b (length ns + howMany none (take k held)) (position (getD held k none) ns)) (ne-eqb _ _ d)));
+          written = writing-next (numberAt held ns) held (n .written) h (is ∙ ap (λ (s : ℕ). position s ns) stood
+              ∙ sym (ap (λ (b : Bool). cond b (length ns + howMany none (take k held)) (position (getD held k none) ns)) (ne-eqb _ _ d)));
           upto = omega (arith, n .upto, counted false (ne-eqb _ _ (λ e. d (sym e))));
         })
 
@@ -188,10 +176,10 @@ module _ (given ks out : List ℕ) {stratified : Bool} {r : List ℕ} where
 
 -- ---- strata are at most as many as the samples
 
-keep-all : {A : Type 0} (xs : List A) → keep (λ x. true) xs ≡ xs
-unfolding keep
-keep-all [] = refl
-keep-all (x ∷ xs) = ap (λ t. x ∷ t) (keep-all xs)
+filter-all : {A : Type 0} (xs : List A) → filter (λ x. true) xs ≡ xs
+unfolding filter
+filter-all [] = refl
+filter-all (x ∷ xs) = ap (λ t. x ∷ t) (filter-all xs)
 
 -- those that are named and those that are none are all
 named-none : (held : List ℕ) → countIf (λ s. not (eqb s none)) held + howMany none held ≡ length held
@@ -208,8 +196,8 @@ pub named-few : (held : List ℕ) → length (named held) + howMany none held �
 unfolding named
 named-few held =
     let p : ℕ → Bool = λ s. not (eqb s none) in
-    let again : keep p (keep p held) ≡ keep p held = keep-cong p (λ s. true) (keep p held) (λ s m. keep-member p held s m .0) ∙ keep-all (keep p held) in
-    omega (arith, length-named (keep p held), ap (λ l. length (firsts l)) again, length-keep p held, named-none held)
+    let again : filter p (filter p held) ≡ filter p held = filter-cong p (λ s. true) (filter p held) (λ s m. filter-member p held s m .0) ∙ filter-all (filter p held) in
+    omega (arith, length-named (filter p held), ap (λ l. length (dedup l)) again, length-filter p held, named-none held)
 
 pub strata-few : (lot : Lot) → keptCount (lot .labels) ≤ 256 → strataCount lot ≤ 256
 unfolding strataCount heldStrata keptCount

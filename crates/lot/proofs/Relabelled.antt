@@ -1,28 +1,21 @@
 -- A way handed in as the observed one: every label is held by as many samples as before, so the same samples are kept, their labels are numbered alike,
 -- the strata and those that inform are the same, and the groups are the way.
 use mathlib.Core.Path.{_≡_, sym, ap, ap₂, _∙_, fun-ext}
-use mathlib.Core.Bool.{Bool, true, not, _&&_, cond}
+use Rattle.lists.proofs.Base.{Bool, true, not, _&&_, cond, ℕ, _+_, _<_, arith, eqb, leb}
 use mathlib.Core.List.{List, map, List·Memᴰ as Member}
-use Prim.Native.Nat.{ℕ, _+_, _<_}
-use native.Mathlib.Omega.{arith}
-use lib.Dec.{eqb, leb}
 use lib.ListN.{length, getD, length-map, List·getD-map}
-use Rattle.lists.specs.Ranges.{range}
-use Rattle.lists.specs.Filters.{keep, countIf}
-use Rattle.lists.specs.Numbers.{howMany, position, Below}
-use Rattle.lot.specs.Lot.{Lot, none}
-use Rattle.lot.specs.Kept.{twice, kept, gathered, keptLabels, names, groups, keptCount}
+use Rattle.lists.specs.{Ranges.range, Filters.filter, Filters.countIf, Numbers.howMany, Numbers.position}
+use Rattle.lists.specs.inner.Numbers.{Below}
+use Rattle.limits.specs.Limits.{none}
+use Rattle.lot.specs.{Lot.Lot, Kept.twice, Kept.kept, Kept.gathered, Kept.keptLabels, Kept.groupLabels, Kept.groups, Kept.keptCount}
 use Rattle.lot.specs.Strata.{named, numbered, heldStrata, strata, strataCount, informative, informativeCount}
 use Rattle.lot.specs.Way.{IsWay, relabelled, SameLot}
-use Rattle.lists.proofs.Members.{below-member, member-howMany, howMany-member, keep-cong}
-use Rattle.lists.proofs.Counts.{count-cong, count-map}
-use Rattle.lists.proofs.Upward.{upward-same}
-use Rattle.lot.proofs.Places.{kept-labels}
-use Rattle.lot.proofs.Samples.{length-groups}
-use Rattle.lot.proofs.Within.{name, map-back, kept-twice, twice-kept, groups-below, name-twice, position-name, groups-named, strata-below, length-strata}
+use Rattle.lists.proofs.Members.{below-member, member-howMany, howMany-member, filter-cong}
+use Rattle.lists.proofs.{Counts.count-cong, Counts.count-map, Upward.upward-same}
+use Rattle.lot.proofs.{Places.kept-labels, Samples.length-groups}
+use Rattle.lot.proofs.GroupsAndStrata.{name, map-back, kept-twice, twice-kept, groups-below, name-twice, position-name, groups-named, strata-below, length-strata}
 use Rattle.lot.proofs.Tallies.{tally-keeps, tally-below, count-same}
-use Rattle.lot.proofs.OnKept.{length-onKept, keep-onKept, tests-onKept, count-onKept}
-use Rattle.lot.proofs.Informing.{informs-same}
+use Rattle.lot.proofs.{WaysOnSamples.length-onKept, WaysOnSamples.filter-onKept, WaysOnSamples.tests-onKept, WaysOnSamples.count-onKept, Informing.informs-same}
 
 module _ (lot : Lot) (way : List ℕ) (is-way : IsWay lot way) where
   abbrev old : List ℕ
@@ -40,17 +33,17 @@ module _ (lot : Lot) (way : List ℕ) (is-way : IsWay lot way) where
   way-fits : length way ≡ length (strata lot)
   way-fits = is-way .labelsAll ∙ sym (length-strata lot)
 
-  pub way-below : Below (length (names old)) way
-  way-below = tally-below (strata lot) (groups old) way (is-way .keepsCounts) (length (names old)) (groups-below old) way-fits
+  pub way-below : Below (length (groupLabels old)) way
+  way-below = tally-below (strata lot) (groups old) way (is-way .keepsCounts) (length (groupLabels old)) (groups-below old) way-fits
 
-  below : (j : ℕ) → Member j way → j < length (names old)
-  below j m = below-member (length (names old)) way j way-below m
+  below : (j : ℕ) → Member j way → j < length (groupLabels old)
+  below j m = below-member (length (groupLabels old)) way j way-below m
 
   -- and a kept label for each label that is kept
   names-pass : (j : ℕ) → Member j way → twice old (name old j) ≡ true
   names-pass j m = name-twice old j (below j m)
 
-  as-many : length way ≡ length (keep (twice old) old)
+  as-many : length way ≡ length (filter (twice old) old)
   as-many = way-fits ∙ sym groups-fit ∙ sym (length-map (groups old) (name old)) ∙ ap length (groups-named old ∙ kept-labels old)
 
   -- ---- every label is held by as many samples as before
@@ -66,7 +59,7 @@ module _ (lot : Lot) (way : List ℕ) (is-way : IsWay lot way) where
     ap (countIf q) (groups-named old ∙ kept-labels old),
     count-map q (name old) way,
     count-map q (name old) (groups old),
-    count-same (λ j. q (name old j)) (groups old) way same-groups (length (names old)) (groups-below old) way-below,
+    count-same (λ j. q (name old j)) (groups old) way same-groups (length (groupLabels old)) (groups-below old) way-below,
   )
 
   same-howMany : (l : ℕ) → howMany l new ≡ howMany l old
@@ -88,17 +81,13 @@ module _ (lot : Lot) (way : List ℕ) (is-way : IsWay lot way) where
   same-tests = tests-onKept (twice old) (name old) old way names-pass as-many
 
   same-test-at : (i : ℕ) → twice new (getD new i none) ≡ twice old (getD old i none)
-  same-test-at i =
-      ap (λ (t : ℕ → Bool). t (getD new i none)) same-twice
-      ∙ sym (List·getD-map (twice old) new i none)
-      ∙ ap (λ (bs : List Bool). getD bs i (twice old none)) same-tests
-      ∙ List·getD-map (twice old) old i none
+  same-test-at i = ap (λ (t : ℕ → Bool). t (getD new i none)) same-twice ∙ sym (List·getD-map (twice old) new i none)
+      ∙ ap (λ (bs : List Bool). getD bs i (twice old none)) same-tests ∙ List·getD-map (twice old) old i none
 
   same-kept : kept new ≡ kept old
   unfolding kept
-  same-kept =
-      ap (λ (n : ℕ). keep (λ i. twice new (getD new i none)) (range 0 n)) same-length
-      ∙ keep-cong _ _ (range 0 (length old)) (λ i m. same-test-at i)
+  same-kept = ap (λ (n : ℕ). filter (λ i. twice new (getD new i none)) (range 0 n)) same-length
+      ∙ filter-cong _ _ (range 0 (length old)) (λ i m. same-test-at i)
 
   -- ---- the same labels, numbered alike
 
@@ -114,8 +103,8 @@ module _ (lot : Lot) (way : List ℕ) (is-way : IsWay lot way) where
   kept-comes : (l : ℕ) → Member l (keptLabels old) → Member l (keptLabels new)
   kept-comes l m = let r = kept-twice old l m in twice-kept new l (ap (λ (t : ℕ → Bool). t l) same-twice ∙ r .0) (none-gone l (r .1))
 
-  same-names : names new ≡ names old
-  unfolding names
+  same-names : groupLabels new ≡ groupLabels old
+  unfolding groupLabels
   same-names = upward-same (keptLabels new) (keptLabels old) kept-stays kept-comes
 
   -- ---- the observed groups are the way
@@ -123,13 +112,12 @@ module _ (lot : Lot) (way : List ℕ) (is-way : IsWay lot way) where
   -- the kept samples have its labels
   pub kept-way : keptLabels new ≡ map (name old) way
   unfolding relabelled
-  kept-way = kept-labels new ∙ ap (λ (t : ℕ → Bool). keep t new) same-twice ∙ keep-onKept (twice old) (name old) old way names-pass as-many
+  kept-way = kept-labels new ∙ ap (λ (t : ℕ → Bool). filter t new) same-twice ∙ filter-onKept (twice old) (name old) old way names-pass as-many
 
   groups-way : groups new ≡ way
   unfolding groups
-  groups-way =
-      ap₂ (λ (ns ls : List ℕ). map (λ l. position l ns) ls) same-names kept-way
-      ∙ map-back (λ l. position l (names old)) (name old) way (λ j m. position-name old j (below j m))
+  groups-way = ap₂ (λ (ns ls : List ℕ). map (λ l. position l ns) ls) same-names kept-way
+      ∙ map-back (λ l. position l (groupLabels old)) (name old) way (λ j m. position-name old j (below j m))
 
   -- ---- the same strata, and as many samples in those that inform
 
@@ -143,8 +131,7 @@ module _ (lot : Lot) (way : List ℕ) (is-way : IsWay lot way) where
 
   same-informative : informativeCount (relabelled lot way) ≡ informativeCount lot
   unfolding informativeCount informative keptCount
-  same-informative =
-      (λ i. informative (same-strata i) (groups-way i) (length (same-kept i)))
+  same-informative = (λ i. informative (same-strata i) (groups-way i) (length (same-kept i)))
       ∙ count-cong _ _ (range 0 (length (kept old))) (λ k m. informs-same (strata lot) (groups old) way (length (kept old))
       (length-strata lot) (length-groups old) (is-way .labelsAll) (is-way .keepsCounts) (getD (strata lot) k 0))
 

@@ -1,27 +1,14 @@
 -- Kept samples and their groups: how many there are, and that each has its place.
-use mathlib.Core.Path.{_≡_, refl, sym, ap, _∙_, subst}
-use mathlib.Core.Bool.{Bool, true, cond}
-use mathlib.Core.List.{List, _++_, map}
-use Prim.Native.Nat.{ℕ, _+_, _≤_}
-use native.Mathlib.Omega.{arith}
-use lib.ListN.{length, getD, take, drop, length-map}
-use lib.Ieee.{Float}
-use Rattle.lists.specs.Ranges.{range, table}
-use Rattle.lists.specs.Numbers.{howMany, position, upward, Below, members}
-use Rattle.lists.specs.Writes.{over}
-use Rattle.lists.proofs.Ranges.{length-range, length-table}
-use Rattle.lists.proofs.Filters.{length-keep, countIf-below}
-use Rattle.lists.proofs.Writes.{take-over}
-use Rattle.lot.specs.Lot.{none, lotOf}
-use Rattle.lot.specs.Filled.{Filled}
-use Rattle.lot.specs.Kept.{twice, kept, gathered, keptLabels, names, groups, sizes}
+use Rattle.lists.proofs.Base.{_≡_, sym, ap, _∙_, subst, Bool, true, cond, List, _++_, map, ℕ, _+_, _≤_, arith, length, getD, take, drop, length-map}
+use Rattle.lists.specs.{Ranges.range, Numbers.howMany, Numbers.position, Numbers.upward, Writes.over}
+use Rattle.lists.specs.inner.Numbers.{Below}
+use Rattle.lists.proofs.{Ranges.length-range, Filters.length-filter, Filters.countIf-below, Writes.take-over, Members.filter-below, Parts.over-back}
+use Rattle.limits.specs.Limits.{none}
+use Rattle.lot.specs.inner.{Filled.Filled, Description.samplesOf, Description.Grouped, Description.Stratified, Description.Described}
+use Rattle.lot.specs.Kept.{twice, kept, gathered, keptLabels, groupLabels, groups, sizes}
 use Rattle.lot.specs.Strata.{named, numbered, heldStrata, strata, strataCount}
 use Rattle.lot.specs.declared.Sizes.{Sizes}
-use Rattle.lot.specs.Described.{samplesOf, Grouped, Stratified, Described}
-use Rattle.lists.proofs.Members.{keep-below}
-use Rattle.lists.proofs.Parts.{over-back}
-use Rattle.lot.proofs.Fills.{filled-as, filled-front, filled-long}
-use Rattle.lot.proofs.Inserts.{length-upward}
+use Rattle.lot.proofs.{FilledFronts.filled-as, FilledFronts.filled-front, FilledFronts.filled-long, Inserts.length-upward}
 
 -- ---- what is gathered stands at the front
 
@@ -39,13 +26,13 @@ module _ (labels : List ℕ) where
   -- kept samples are samples
   pub kept-below : Below (length labels) (kept labels)
   unfolding kept
-  kept-below = keep-below (λ i. twice labels (getD labels i none)) (length labels)
+  kept-below = filter-below (λ i. twice labels (getD labels i none)) (length labels)
 
   pub kept-few : length (kept labels) ≤ length labels
   unfolding kept
   kept-few =
       let p : ℕ → Bool = λ i. twice labels (getD labels i none) in
-      omega (arith, length-keep p (range 0 (length labels)), countIf-below p (range 0 (length labels)), length-range 0 (length labels))
+      omega (arith, length-filter p (range 0 (length labels)), countIf-below p (range 0 (length labels)), length-range 0 (length labels))
 
   pub length-keptLabels : length (keptLabels labels) ≡ length (kept labels)
   unfolding keptLabels
@@ -53,10 +40,10 @@ module _ (labels : List ℕ) where
 
   pub length-groups : length (groups labels) ≡ length (kept labels)
   unfolding groups
-  length-groups = length-map (keptLabels labels) (λ l. position l (names labels)) ∙ length-keptLabels
+  length-groups = length-map (keptLabels labels) (λ l. position l (groupLabels labels)) ∙ length-keptLabels
 
-  pub names-few : length (names labels) ≤ length labels
-  unfolding names
+  pub names-few : length (groupLabels labels) ≤ length labels
+  unfolding groupLabels
   names-few = omega (arith, length-upward (keptLabels labels), length-keptLabels, kept-few)
 
 -- ---- labels of kept samples, gathered, give way to their groups
@@ -69,12 +56,12 @@ module _ (labels ks gs gs′ : List ℕ) (are : ks ≡ kept labels) (gathers : g
   pub front-few : length (take (length ks) gs′) ≤ length labels
   front-few = omega (arith, ap length front-labels, length-keptLabels labels, kept-few labels)
 
-  pub named-groups : {ns ns′ : List ℕ} {g : ℕ} → Filled (upward (take (length ks) gs′)) ns ns′ g → Filled (names labels) ns ns′ g
-  unfolding names
+  pub named-groups : {ns ns′ : List ℕ} {g : ℕ} → Filled (upward (take (length ks) gs′)) ns ns′ g → Filled (groupLabels labels) ns ns′ g
+  unfolding groupLabels
   named-groups f = filled-as _ (ap upward front-labels) f
 
   pub numbered-groups : {r : List ℕ} → r ≡ map (λ l. position l (upward (take (length ks) gs′))) (take (length ks) gs′) → r ++ drop (length ks) gs′ ≡ over (groups labels) gs
-  unfolding names groups
+  unfolding groupLabels groups
   numbered-groups {r} e =
       let whole : r ≡ groups labels = e ∙ ap (λ (ls : List ℕ). map (λ l. position l (upward ls)) ls) front-labels in
       let many : length r ≡ length ks = ap length whole ∙ length-groups labels ∙ sym (ap length are) in
@@ -89,12 +76,10 @@ module _ (labels given : List ℕ) (stratified : Bool) {sizes : Sizes} {ks ns gs
 
   pub front-within : length labels ≤ length ks → sizes .kept ≤ length ks′
   front-within room =
-      let few : sizes .kept ≤ length ks = omega (arith, g .samples .many, kept-few labels) in
-      omega (arith, filled-long ks (g .samples) few)
+      let few : sizes .kept ≤ length ks = omega (arith, g .samples .many, kept-few labels) in omega (arith, filled-long ks (g .samples) few)
 
   pub front-below : (stratified ≡ true → length given ≡ length labels) → stratified ≡ true → Below (length given) (take (sizes .kept) ks′)
-  front-below fit is =
-      subst (Below (length given)) (sym front-kept) (subst (λ (n : ℕ). Below n (kept labels)) (sym (fit is)) (kept-below labels))
+  front-below fit is = subst (Below (length given)) (sym front-kept) (subst (λ (n : ℕ). Below n (kept labels)) (sym (fit is)) (kept-below labels))
 
   pub described : {ss ss′ : List ℕ} {s : ℕ} → Stratified stratified given (take (sizes .kept) ks′) ss ss′ s
       → Described (samplesOf labels stratified given) (record { kept = sizes .kept; groups = sizes .groups; strata = s }) ks ns gs ss ks′ ns′ gs′ ss′
@@ -107,19 +92,4 @@ module _ (labels given : List ℕ) (stratified : Bool) {sizes : Sizes} {ks ns gs
     strataMany = t .count ∙ ap (λ (l : List ℕ). cond stratified (length (named (gathered given l)) + howMany none (gathered given l)) 1) front-kept;
   }
 
--- ---- the front of the counts
-
-pub front-sizes : (gs old : List ℕ) (m g : ℕ) {l : List ℕ} → l ≡ over (sizes gs m g) old → take g l ≡ sizes gs m g
-unfolding sizes
-front-sizes gs old m g e = ap (take g) e ∙ take-over (table g (λ j. length (members gs m j))) old g (length-table (λ j. length (members gs m j)) g)
-
 -- ---- what is told of the samples is told of the lot
-
-module _ (n : ℕ) (d : List Float) (labels : List ℕ) (stratified : Bool) (given : List ℕ) (weighted : Bool) (w : List Float) where
-  pub told-strata : strata (samplesOf labels stratified given) ≡ strata (lotOf n d labels stratified given weighted w)
-  unfolding strata heldStrata
-  told-strata = refl
-
-  pub told-strataCount : strataCount (samplesOf labels stratified given) ≡ strataCount (lotOf n d labels stratified given weighted w)
-  unfolding strataCount heldStrata
-  told-strataCount = refl

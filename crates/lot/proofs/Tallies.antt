@@ -1,17 +1,9 @@
 -- Counts of labels within strata: what a sample adds, which sample there is for a count, and that a way keeps every count of the whole.
-use mathlib.Core.Path.{_≡_, refl, sym, ap, ap₂, _∙_}
-use mathlib.Core.Bool.{Bool, true, false, _&&_, cond}
-use mathlib.Core.Logic.{_⊎_, inl, inr, ⊎-elim}
-use mathlib.Core.List.{List, [], _∷_}
-use Prim.Native.Nat.{ℕ, zero, suc, _+_, _*_, _<_, suc-le-suc}
+use Rattle.lists.proofs.Base.{_≡_, refl, sym, ap, ap₂, _∙_, Bool, true, false, _&&_, cond, _⊎_, inl, inr, ⊎-elim, List, [], _∷_, ℕ, zero, suc}
+use Rattle.lists.proofs.Base.{_+_, _*_, _<_, suc-le-suc, arith, ℕ-discrete, decLt, eq-eqb, ne-eqb, lt-ltb, le-ltb, eqb, ltb, length, getD}
 use native.Mathlib.Nat.{zero-mul, mul-zero, mul-one, one-mul, mul-add}
-use native.Mathlib.Omega.{arith}
-use native.Mathlib.Decide.{ℕ-discrete, decLt}
-use borrow.Author.Tests.{eq-eqb, ne-eqb, lt-ltb, le-ltb}
-use lib.Dec.{eqb, ltb}
-use lib.ListN.{length, getD}
-use Rattle.lists.specs.Filters.{countIf}
-use Rattle.lists.specs.Numbers.{howMany, Below}
+use Rattle.lists.specs.{Filters.countIf, Numbers.howMany}
+use Rattle.lists.specs.inner.Numbers.{Below}
 use Rattle.lot.specs.Way.{δ, mark, tally}
 
 -- ---- one sample
@@ -70,8 +62,10 @@ tally-some [] labels s j h = absurd (omega arith)
 tally-some (s₀ ∷ ss) [] s j h = absurd (omega arith)
 tally-some (s₀ ∷ ss) (j₀ ∷ l) s j h = ⊎-elim
     (λ w. (0, record { inStrata = omega arith; inLabels = omega arith; stratum = sym (w .0); label = sym (w .1) }))
-    (λ z. let r = tally-some ss l s j (omega arith) in (suc (r .0), record { inStrata = suc-le-suc (r .1 .inStrata); inLabels = suc-le-suc (r .1 .inLabels); stratum = r .1 .stratum; label = r .1 .label }))
-    (mark-cases s₀ j₀ s j)
+    (λ z. let r = tally-some ss l s j (omega arith) in (
+      suc (r .0),
+      record { inStrata = suc-le-suc (r .1 .inStrata); inLabels = suc-le-suc (r .1 .inLabels); stratum = r .1 .stratum; label = r .1 .label },
+    )) (mark-cases s₀ j₀ s j)
 
 -- ---- the count of a label in the whole: stratum after stratum
 
@@ -160,8 +154,7 @@ one-passing q n x =
 passing-more : (q : ℕ → Bool) (n : ℕ) (xs : List ℕ) → passing q (suc n) xs ≡ passing q n xs + bit (q n) * howMany n xs
 unfolding passing howMany countIf δ
 passing-more q n [] = omega (arith, mul-zero (bit (q n)))
-passing-more q n (x ∷ xs) =
-    omega (arith, one-passing q n x, passing-more q n xs, mul-add (bit (q n)) (bit (eqb n x)) (countIf (eqb n) xs))
+passing-more q n (x ∷ xs) = omega (arith, one-passing q n x, passing-more q n xs, mul-add (bit (q n)) (bit (eqb n x)) (countIf (eqb n) xs))
 
 passing-all : (q : ℕ → Bool) (n : ℕ) (xs : List ℕ) → Below n xs → passing q n xs ≡ countIf q xs
 unfolding passing countIf

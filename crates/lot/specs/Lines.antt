@@ -4,6 +4,7 @@ use mathlib.Core.Bool.{Bool, not, _&&_, _||_}
 use mathlib.Core.List.{List, [], _∷_, _++_}
 use lib.Dec.{ltb}
 use lib.Ieee.{Float, le}
+use Rattle.limits.specs.Limits.{mostSamples}
 use Rattle.float.specs.Floats.{zero⁺, 2^-20, 2^20}
 use Rattle.lists.specs.Filters.{any}
 use Rattle.outcome.specs.Refusals.{Line, _when_, unfit}
@@ -27,7 +28,7 @@ misfits lot =
 
 -- 1 and 2: `misfit` says that a length does not fit n or a lent slice is short, `beyond` that an argument other than n is beyond its limit
 abbrev pub sizeLines : Bool → ℕ → Bool → List Line
-sizeLines misfit n beyond = (1 when misfit) ∷ (2 when ltb 256 n || beyond) ∷ []
+sizeLines misfit n beyond = (1 when misfit) ∷ (2 when ltb mostSamples n || beyond) ∷ []
 
 -- 3, of distances alone
 abbrev pub matrixLines : List Float → List Line

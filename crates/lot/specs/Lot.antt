@@ -4,10 +4,6 @@ use mathlib.Core.Bool.{Bool}
 use mathlib.Core.List.{List}
 use lib.Ieee.{Float}
 
--- no label, no stratum, no group
-abbrev pub none : ℕ
-none = 65535
-
 -- n samples: n by n distances row by row, a label for each, a stratum for each where strata are given, a weight for each where weights are
 pub record Lot : Type 0 where
   pub n : ℕ

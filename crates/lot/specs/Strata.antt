@@ -1,24 +1,21 @@
 -- Section 2: strata of the kept samples, and which of them inform. Definitions only.
 use Prim.Native.Nat.{ℕ, _+_}
 use mathlib.Core.Bool.{Bool, not, cond}
-use mathlib.Core.List.{List, [], _∷_, _++_, map}
+use mathlib.Core.List.{List, map}
 use lib.Dec.{eqb}
 use lib.ListN.{length, getD, take}
 use lib.Ieee.{Float}
 use Rattle.float.specs.Floats.{_⊘_, num}
 use Rattle.lists.specs.Ranges.{range, table}
-use Rattle.lists.specs.Filters.{keep, countIf, any}
-use Rattle.lists.specs.Numbers.{howMany, stands, position, firsts, members}
-use Rattle.lot.specs.Lot.{Lot, none}
+use Rattle.lists.specs.Filters.{filter, countIf, any}
+use Rattle.lists.specs.Numbers.{howMany, position, dedup, members}
+use Rattle.limits.specs.Limits.{none}
+use Rattle.lot.specs.Lot.{Lot}
 use Rattle.lot.specs.Kept.{kept, gathered, groups, keptCount}
 
 -- the strata that these samples name, by first appearance
 unfoldable pub named : List ℕ → List ℕ
-named held = firsts (keep (λ s. not (eqb s none)) held)
-
--- one sample more: its stratum joins those named, unless it is none or stands there
-unfoldable pub noted : List ℕ → ℕ → List ℕ
-noted ns s = cond (eqb s none) ns (cond (stands s ns) ns (ns ++ (s ∷ [])))
+named held = dedup (filter (λ s. not (eqb s none)) held)
 
 -- Numbers are given by first appearance; a sample with none stands alone, after all named ones.
 unfoldable pub numbered : List ℕ → List ℕ

@@ -6,8 +6,9 @@ use mathlib.Core.List.{List, [], _∷_}
 use lib.Dec.{eqb}
 use lib.ListN.{length, getD, drop}
 use Rattle.lists.specs.Numbers.{howMany}
-use Rattle.lot.specs.Lot.{Lot, none}
-use Rattle.lot.specs.Kept.{twice, kept, names, groups, keptCount}
+use Rattle.limits.specs.Limits.{none}
+use Rattle.lot.specs.Lot.{Lot}
+use Rattle.lot.specs.Kept.{twice, kept, groupLabels, groups, keptCount}
 use Rattle.lot.specs.Strata.{strata, strataCount, informativeCount}
 
 -- Kronecker's delta: 1 where a is b, and 0 elsewhere
@@ -40,7 +41,7 @@ onKept p f h (l ∷ ls) way =
 -- The lot with a way's labels on the kept samples. Samples outside stay.
 unfoldable pub relabelled : Lot → List ℕ → Lot
 relabelled lot way =
-    let ns = names (lot .labels) in
+    let ns = groupLabels (lot .labels) in
     record {
       n = lot .n;
       distances = lot .distances;
@@ -57,7 +58,7 @@ pub record SameLot (lot : Lot) (way : List ℕ) : Type 0 where
   pub sameLength : length (relabelled lot way .labels) ≡ length (lot .labels)
   pub sameCounts : (l : ℕ) → howMany l (relabelled lot way .labels) ≡ howMany l (lot .labels)
   pub sameKept : kept (relabelled lot way .labels) ≡ kept (lot .labels)
-  pub sameNames : names (relabelled lot way .labels) ≡ names (lot .labels)
+  pub sameNames : groupLabels (relabelled lot way .labels) ≡ groupLabels (lot .labels)
   pub sameStrata : strata (relabelled lot way) ≡ strata lot
   pub sameStrataCount : strataCount (relabelled lot way) ≡ strataCount lot
   pub sameInformative : informativeCount (relabelled lot way) ≡ informativeCount lot

@@ -4,9 +4,6 @@ ghost use Prim.Native.Nat.{_<_};
 ghost use lib.ListN.{length};
 ghost use Rattle.lists.specs.Numbers.{howMany};
 
-// No label, no stratum, no group.
-pub const NONE: u16 = 65535;
-
 // How many samples have the label l.
 pub fn how_many(labels: &[u16], l: u16) -> u16
     requires { ⌜ length (now labels) < 65536 ⌝ }

@@ -4,8 +4,7 @@ use mathlib.Core.Path.{_≡_, sym, ap, _∙_}
 use mathlib.Core.Bool.{Bool, true, false}
 use mathlib.Core.List.{List}
 use Rattle.outcome.specs.Outcome.{refused}
-use Rattle.hexadecimal.specs.Page.{Page, page, onto}
-use Rattle.printing.specs.Printed.{printed}
+use Rattle.judge_printing.specs.{Page.Page, Page.onto, Printed.printed}
 use Rattle.judge.specs.Judge.{judgeText, judgeInput}
 
 module _ (text out : List ℕ) {failed : Bool} {p : Page} where

@@ -6,10 +6,10 @@ ghost use mathlib.Core.Path.{_≡_};
 ghost use Prim.Native.Nat.{_≤_};
 ghost use lib.ListN.{length};
 ghost use Rattle.io.specs.Counts.{Counts};
-ghost use Rattle.hexadecimal.specs.Page.{page, onto};
+ghost use Rattle.judge_printing.specs.Page.{page, onto};
 ghost use Rattle.judge.specs.Judge.{judgeInput};
 ghost use Rattle.lotjudge.specs.Reading.{readOf, Fits};
-use every_way::Answer;
+use exhaustive_hits::every_way::Answer;
 use libc::STDERR_FILENO;
 use libc::STDIN_FILENO;
 use libc::STDOUT_FILENO;
@@ -76,12 +76,12 @@ fn read_input(buffer: &mut [u8]) -> Input
 // ---- judging and writing
 
 // Prints at the front of `out` what is found of an input; the answer is the number of bytes.
-fn print_input(failed: bool, text: &[u8], out: &mut [u8; 93]) -> usize
+fn print_input(failed: bool, text: &[u8], out: &mut [u8; limits::MOST_PRINTED]) -> usize
     ensures { λ r. ⌜ page r (now (out .exit)) ≡ onto (judgeInput failed (now (text .entry))) (now (out .entry)) ⌝ }
 {
     if failed {
         io::write_all(STDERR_FILENO, b"lotjudge: reading standard input failed\n");
-        return printing::print(Answer::Refused(Refusal::Frame), out);
+        return judge_printing::print(Answer::Refused(Refusal::Frame), out);
     }
     judge::judge(text, out)
 }
@@ -95,14 +95,14 @@ fn write_front(out: &[u8], n: usize)
     }
 }
 
-fn judge_and_write(failed: bool, text: &[u8], out: &mut [u8; 93]) {
+fn judge_and_write(failed: bool, text: &[u8], out: &mut [u8; limits::MOST_PRINTED]) {
     let n = print_input(failed, text, out);
     write_front(out, n);
 }
 
 fn main() {
-    let mut buffer = [0u8; 11835];
-    let mut out = [0u8; 93];
+    let mut buffer = [0u8; limits::MOST_TEXT + 1];
+    let mut out = [0u8; limits::MOST_PRINTED];
     let input = read_input(&mut buffer);
     let n = input.n;
     judge_and_write(input.failed, &buffer[..n], &mut out);

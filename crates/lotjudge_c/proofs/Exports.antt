@@ -1,28 +1,24 @@
 -- What the functions for other languages return and write, by what the operations answer and how it is laid out.
-use mathlib.Core.Path.{_≡_, ap, _∙_}
-use mathlib.Core.List.{List}
-use Prim.Native.Nat.{ℕ}
-use lib.Ieee.{Float}
+use Rattle.lists.proofs.Base.{_≡_, ap, _∙_, List, ℕ, Float}
 use Rattle.outcome.specs.declared.Check.{Check}
-use Rattle.sampled.specs.declared.Answer as test-answer
-use Rattle.sampled.specs.Call as test
-use Rattle.every_way.specs.declared.Answer as ways-answer
-use Rattle.every_way.specs.Call as ways
-use Rattle.pcoa.specs.Call as pcoa
-use Rattle.gram.specs.declared.Answer as gram-answer
-use Rattle.gram.specs.Call as gram
-use Rattle.hash_pca.specs.Call as hashes
-use Rattle.discriminant.specs.declared.Answer as dapc-answer
-use Rattle.discriminant.specs.Outputs as dapc
-use Rattle.jacobi.specs.declared.Answer as jacobi-answer
-use Rattle.jacobi.specs.Call as jacobi
-use Rattle.topeigs.specs.Call as top
-use Rattle.layouts.specs.Coded.{Coded, coded, codedAs, Arrays}
-use Rattle.layouts.specs.Layouts.{testArrays, wayArrays, countOf, dapcNumbers}
-use Rattle.lotjudge_c.specs.Exported.{exportTest, testExport, exportWays, waysExport, exportPcoa, pcoaExport, exportHashPca, hashPcaExport, exportDapc, dapcExport}
-use Rattle.outcome.specs.Numbers.{told}
-use Rattle.outcome.specs.Outcome.{code}
-use Rattle.lotjudge_c.specs.Exported.{JacobiEigen, exportJacobi, jacobiExport, exportTop, topExport, GramMatrix, exportGram, gramExport}
+use Rattle.permanova.specs.declared.checks.Answer as test-answer
+use Rattle.permanova.specs.Call as test
+use Rattle.exhaustive_hits.specs.declared.every_way.Answer as ways-answer
+use Rattle.exhaustive_hits.specs.Call as ways
+use Rattle.ordination_pcoa.specs.Call as pcoa
+use Rattle.ordination_gram.specs.declared.Answer as gram-answer
+use Rattle.ordination_gram.specs.Call as gram
+use Rattle.ordination_hash_pca.specs.Call as hashes
+use Rattle.dapc_discriminant.specs.declared.Answer as dapc-answer
+use Rattle.dapc_discriminant.specs.Outputs as dapc
+use Rattle.eigen_jacobi.specs.declared.Answer as jacobi-answer
+use Rattle.eigen_jacobi.specs.Call as jacobi
+use Rattle.eigen_top.specs.Call as top
+use Rattle.c_layouts.specs.Coded.{Coded, coded, codedAs, Arrays}
+use Rattle.c_layouts.specs.Layouts.{testArrays, wayArrays, countOf, dapcNumbers}
+use Rattle.lotjudge_c.specs.Exported.{exportTest, testExport, exportWays, waysExport, exportPcoa, pcoaExport, exportHashPca, hashPcaExport}
+use Rattle.lotjudge_c.specs.Exported.{exportDapc, dapcExport, exportJacobi, jacobiExport, exportTop, topExport, exportGram, gramExport}
+use Rattle.outcome.specs.{Numbers.told, Outcome.code}
 
 pub test-returns : (a : test-answer.Answer) {s : test.Slices} {c : test.Called} {code : ℕ} {parts : Arrays} (before : Arrays)
     → test.called a s ≡ c → codedAs code parts ≡ coded testArrays (test.answerOf a) before → testExport code parts s ≡ exportTest c before

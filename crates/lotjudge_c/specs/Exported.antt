@@ -3,16 +3,16 @@
 use Prim.Native.Nat.{ℕ}
 use mathlib.Core.List.{List}
 use lib.Ieee.{Float}
-use Rattle.layouts.specs.Coded.{Coded, coded, codedAs, Arrays}
-use Rattle.layouts.specs.Layouts.{testArrays, wayArrays, countOf, dapcNumbers}
-use Rattle.sampled.specs.Call as test
-use Rattle.every_way.specs.Call as ways
-use Rattle.pcoa.specs.Call as pcoa
-use Rattle.hash_pca.specs.Call as hashes
-use Rattle.discriminant.specs.Outputs as dapc
-use Rattle.jacobi.specs.Call as jacobi
-use Rattle.topeigs.specs.Call as top
-use Rattle.gram.specs.Call as gram
+use Rattle.c_layouts.specs.Coded.{Coded, coded, codedAs, Arrays}
+use Rattle.c_layouts.specs.Layouts.{testArrays, wayArrays, countOf, dapcNumbers}
+use Rattle.permanova.specs.Call as test
+use Rattle.exhaustive_hits.specs.Call as ways
+use Rattle.ordination_pcoa.specs.Call as pcoa
+use Rattle.ordination_hash_pca.specs.Call as hashes
+use Rattle.dapc_discriminant.specs.Outputs as dapc
+use Rattle.eigen_jacobi.specs.Call as jacobi
+use Rattle.eigen_top.specs.Call as top
+use Rattle.ordination_gram.specs.Call as gram
 use Rattle.outcome.specs.Outcome.{code}
 
 -- ---- `test`

@@ -1,8 +1,5 @@
 -- No two names of the code's enum have one number: a contract that fixes the number fixes the name.
-use Prim.Native.Nat.{ℕ}
-use mathlib.Core.Path.{_≡_, refl, sym, ap, _∙_}
-use mathlib.Core.List.{List, [], _∷_}
-use lib.ListN.{getD}
+use Rattle.lists.proofs.Base.{ℕ, _≡_, refl, sym, ap, _∙_, List, [], _∷_, getD}
 use Rattle.outcome.specs.declared.Refusal.{Refusal}
 use Rattle.outcome.specs.declared.Refusal.the-variants.{Length, Limit, Value, Weight, Labels, Ordination, Hashes, Ways, Columns, Pivot, Unordered, Frame}
 use Rattle.outcome.specs.Numbers.{number}

@@ -1,16 +1,10 @@
 -- The table goes line by line and group by group: a line that holds is returned, and what does not hold leaves it to the rest.
-use Prim.Native.Nat.{ℕ}
-use mathlib.Core.Path.{_≡_, refl, sym, ap, _∙_}
-use mathlib.Core.Bool.{Bool, true, false, _&&_, cond}
-use mathlib.Core.List.{List, [], _∷_, _++_}
+use Rattle.lists.proofs.Base.{ℕ, _≡_, refl, sym, ap, _∙_, Bool, true, false, _&&_, cond, List, [], _∷_, _++_}
 use Rattle.lists.specs.Filters.{all}
-use Rattle.outcome.specs.declared.Refusal.{Refusal}
-use Rattle.outcome.specs.declared.Check.{Check}
+use Rattle.outcome.specs.declared.{Refusal.Refusal, Check.Check}
 use Rattle.outcome.specs.declared.Check.the-variants.{Passed, Refused}
-use Rattle.outcome.specs.Outcome.{Told, answered, refused, passed}
-use Rattle.outcome.specs.Numbers.{number, told}
-use Rattle.outcome.specs.Refusals.{Line, _when_, first}
-use Rattle.outcome.specs.Slices.{untouched}
+use Rattle.outcome.specs.{Outcome.Outcome, Outcome.Told, Outcome.judged, Outcome.answered, Outcome.refused, Outcome.passed, Numbers.number, Numbers.told}
+use Rattle.outcome.specs.{Refusals.Line, Refusals._when_, Refusals.first, Slices.untouched}
 
 module _ (k : ℕ) (lines : List Line) {b : Bool} where
   pub first-holds : b ≡ true → first ((k when b) ∷ lines) ≡ refused k
@@ -70,6 +64,20 @@ first-untouched (l ∷ lines) {k} h e = by (l .holds) (untouched (l .returned)) 
     by true true u h e more = let same : k ≡ l .returned = cc in ap untouched same ∙ u
     by false true u h e more = more h e
     by b false u h e more = cc
+
+-- ---- what comes out tells what the lines say: an answer where they pass, and else a refusal of theirs
+
+module _ {A : Type 0} where
+  pub judged-answers : (t : Told) (out : Outcome A) (a : A) → judged t out ≡ answered a → (t ≡ passed) × (out ≡ answered a)
+  judged-answers (answered _) out a e = (refl, e)
+  judged-answers (refused k) out a e = (cc, cc)
+
+  pub judged-passes : (t : Told) (a b : A) → answered a ≡ judged t (answered b) → (t ≡ passed) × (a ≡ b)
+  judged-passes t a b e = let told = judged-answers t (answered b) a (sym e) in (told .0, cc)
+
+  pub judged-refused : (t : Told) (r : ℕ) (a : A) → refused r ≡ judged t (answered a) → refused r ≡ t
+  judged-refused (answered _) r a e = cc
+  judged-refused (refused q) r a e = let same : r ≡ q = cc in cc
 
 -- ---- what a check that the code returns says
 

@@ -1,11 +1,10 @@
 -- The table of refusals (document 01, "What a turned-away lot returns"): its lines, and which line wins. Definitions only.
 -- All lengths are judged on naturals, so nothing wraps: an n near 2 ^ 64 whose slices do not fit it is 1.
 use Prim.Native.Nat.{ℕ}
-use mathlib.Core.Bool.{Bool, not, cond}
+use mathlib.Core.Bool.{Bool, false, not, _||_, cond}
 use mathlib.Core.List.{List, [], _∷_}
 use lib.Dec.{eqb, ltb}
 use lib.ListN.{length}
-use Rattle.lists.specs.Filters.{any}
 use Rattle.outcome.specs.Outcome.{Told, passed, refused}
 
 -- a line: the number that is returned when its condition holds
@@ -28,15 +27,8 @@ first (line ∷ lines) = let rest = first lines in cond (line .holds) (refused (
 abbrev pub unfit : {A : Type 0} → List A → ℕ → Bool
 unfit l n = not (eqb (length l) n)
 
--- a lent slice: its length, and the length asked of it
-pub record Lent : Type 0 where
-  pub has : ℕ
-  pub asked : ℕ
-
-infix 20 _of_
-abbrev pub _of_ : ℕ → ℕ → Lent
-h of a = record { has = h; asked = a }
-
--- some slice is shorter than asked
-unfoldable pub short : List Lent → Bool
-short lent = any (λ l. ltb (l .has) (l .asked)) lent
+-- of slices of these lengths, of which those are asked one by one, some is shorter than asked
+unfoldable pub short : List ℕ → List ℕ → Bool
+short [] asked = false
+short (has ∷ lent) [] = false
+short (has ∷ lent) (least ∷ asked) = ltb has least || short lent asked

@@ -1,19 +1,22 @@
 // The sampled test (document 01, section 8): PERMANOVA and PERMDISP with shuffles within strata.
-use designs::Design;
-use measurement::TestResult;
+pub mod checks;
+
+use crate::checks::Answer;
+use lot_design::Design;
 use outcome::Check;
-use sampled::Answer;
-use sampled_hits::Draws;
+use permanova_sampling::TestResult;
+use permanova_sampling::hits::Draws;
+use permanova_statistics::observation;
 ghost use mathlib.Core.Path.{_≡_};
 ghost use mathlib.Core.Bool.{Bool};
 ghost use mathlib.Core.List.{List, []};
 ghost use Prim.Native.Nat.{ℕ};
 ghost use Rattle.lot.specs.Lot.{lotOf};
-ghost use Rattle.designs.specs.Designs.{Describes};
-ghost use Rattle.sampled.specs.Call.{slicesOf, testCall, called};
-ghost use Rattle.sampled.specs.Runs.{Runs, Ran};
+ghost use Rattle.lot_design.specs.inner.Designs.{Describes};
+ghost use Rattle.permanova.specs.Call.{slicesOf, testCall, called};
+ghost use Rattle.permanova.specs.inner.Runs.{Runs, Ran};
 
-// The test of the lot that a design describes. `terms` and `pulls` are work, and are cleared.
+// The test of the lot that a design describes. `pair_terms` and `weighted_squares` are work, and are cleared.
 fn run(
     d: Design,
     distances: &[f64],
@@ -22,36 +25,44 @@ fn run(
     draws: Draws,
     counts: &mut [u16],
     means: &mut [f64],
-    terms: &mut [f64],
-    pulls: &mut [f64],
+    pair_terms: &mut [f64],
+    weighted_squares: &mut [f64],
 ) -> TestResult
-    requires { ⌜ Runs d (now distances) weighted (now weights) draws (slicesOf [] (now counts) (now means) (now terms) (now pulls)) ⌝ }
+    requires { ⌜ Runs d (now distances) weighted (now weights) draws (slicesOf [] (now counts) (now means) (now «pair_terms») (now «weighted_squares»)) ⌝ }
     ensures { λ r. ⌜ ((labels : List ℕ) (stratified : Bool) (strata : List ℕ) → Describes (lotOf (d .n) (now (distances .entry)) labels stratified strata weighted (now (weights .entry))) d
         → Ran (lotOf (d .n) (now (distances .entry)) labels stratified strata weighted (now (weights .entry))) draws
-        (slicesOf [] (now (counts .entry)) (now (means .entry)) (now (terms .entry)) (now (pulls .entry)))
-        (slicesOf [] (now (counts .exit)) (now (means .exit)) (now (terms .exit)) (now (pulls .exit))) r) ⌝ }
+        (slicesOf [] (now (counts .entry)) (now (means .entry)) (now («pair_terms» .entry)) (now («weighted_squares» .entry)))
+        (slicesOf [] (now (counts .exit)) (now (means .exit)) (now («pair_terms» .exit)) (now («weighted_squares» .exit))) r) ⌝ }
 {
     let m = d.kept;
     let k = m * m;
-    let mut w = [0.0f64; 256];
-    observation::weigh(d, distances, weighted, weights, &mut w, terms, pulls);
-    let r = measurement::answer(
+    let mut w = [0.0f64; limits::MOST_SAMPLES];
+    observation::weigh(
+        d,
+        distances,
+        weighted,
+        weights,
+        &mut w,
+        pair_terms,
+        weighted_squares,
+    );
+    let r = permanova_sampling::answer(
         d,
         weighted,
-        &pulls[..k],
-        &terms[..k],
+        &weighted_squares[..k],
+        &pair_terms[..k],
         &w[..m],
         draws,
         counts,
         means,
     );
-    lists::clear(terms);
-    lists::clear(pulls);
+    lists::clear(pair_terms);
+    lists::clear(weighted_squares);
     r
 }
 
-// PERMANOVA and PERMDISP of n samples by their labels, with n_perm shuffles within strata. `names`, `counts` and `means` get each group's label, count and
-// mean z; `terms` and `pulls` are work.
+// PERMANOVA and PERMDISP of n samples by their labels, with n_perm shuffles within strata. `group_labels`, `counts` and `means` get each group's label, count and
+// mean z; `pair_terms` and `weighted_squares` are work.
 pub fn test(
     n: usize,
     distances: &[f64],
@@ -62,25 +73,25 @@ pub fn test(
     weights: &[f64],
     seed: u64,
     n_perm: u64,
-    names: &mut [u16],
+    group_labels: &mut [u16],
     counts: &mut [u16],
     means: &mut [f64],
-    terms: &mut [f64],
-    pulls: &mut [f64],
+    pair_terms: &mut [f64],
+    weighted_squares: &mut [f64],
 ) -> Answer
-    ensures { λ r. ⌜ called r (slicesOf (now (names .exit)) (now (counts .exit)) (now (means .exit)) (now (terms .exit)) (now (pulls .exit)))
-        ≡ testCall (lotOf n (now (distances .entry)) (now (labels .entry)) stratified (now (strata .entry)) weighted (now (weights .entry))) seed «n_perm» (slicesOf (now (names .entry)) (now (counts .entry)) (now (means .entry)) (now (terms .entry)) (now (pulls .entry))) ⌝ }
+    ensures { λ r. ⌜ called r (slicesOf (now («group_labels» .exit)) (now (counts .exit)) (now (means .exit)) (now («pair_terms» .exit)) (now («weighted_squares» .exit)))
+        ≡ testCall (lotOf n (now (distances .entry)) (now (labels .entry)) stratified (now (strata .entry)) weighted (now (weights .entry))) seed «n_perm» (slicesOf (now («group_labels» .entry)) (now (counts .entry)) (now (means .entry)) (now («pair_terms» .entry)) (now («weighted_squares» .entry))) ⌝ }
 {
-    let short = sampled::too_short(
+    let short = checks::too_short(
         n,
-        names.len(),
+        group_labels.len(),
         counts.len(),
         means.len(),
-        terms.len(),
-        pulls.len(),
+        pair_terms.len(),
+        weighted_squares.len(),
     );
-    let beyond = sampled::too_many(n_perm);
-    let c = lines::check_lot(
+    let beyond = checks::too_many(n_perm);
+    let c = lot_checks::check_lot(
         n,
         distances,
         labels,
@@ -94,8 +105,8 @@ pub fn test(
     match c {
         Check::Refused(r) => Answer::Refused(r),
         Check::Passed => {
-            let d = designs::design_of(labels, stratified, strata);
-            designs::fill_names(d, names);
+            let d = lot_design::design_of(labels, stratified, strata);
+            lot_design::fill_group_labels(d, group_labels);
             let draws = Draws { seed, many: n_perm };
             let r = run(
                 d,
@@ -105,8 +116,8 @@ pub fn test(
                 draws,
                 counts,
                 means,
-                terms,
-                pulls,
+                pair_terms,
+                weighted_squares,
             );
             Answer::Tested(r)
         }

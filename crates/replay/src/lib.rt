@@ -1,5 +1,4 @@
 // Reads replay files (oracle/README.md): words of 64 bits, little endian, and holds answers against them.
-ghost use mathlib.Core.Path.{_≡_};
 ghost use Prim.Native.Nat.{_+_, _*_, _≤_};
 ghost use lib.ListN.{length};
 use libc::STDOUT_FILENO;

@@ -1,5 +1,13 @@
 // Replays the Rust's answers (oracle/README.md): asks for every record of the files under data/ again, and tells how many answers
 // are alike to the bit.
+mod replay_dapc;
+mod replay_gram_matrix;
+mod replay_hash_pca;
+mod replay_jacobi_eigen;
+mod replay_pcoa;
+mod replay_test;
+mod replay_top_eigs;
+
 use replay::Held;
 
 // A record of an operation.
@@ -17,13 +25,13 @@ fn hold(op: u64, b: &[u8]) -> Held {
         return replay_dapc::hold(b);
     }
     if op == 5 {
-        return replay_jacobi::hold(b);
+        return replay_jacobi_eigen::hold(b);
     }
     if op == 6 {
-        return replay_topeigs::hold(b);
+        return replay_top_eigs::hold(b);
     }
     if op == 7 {
-        return replay_gram::hold(b);
+        return replay_gram_matrix::hold(b);
     }
     Held::Difference
 }

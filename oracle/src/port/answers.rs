@@ -24,7 +24,18 @@ pub trait Ported: Operation {
 }
 
 /// Work: all of it is 0 after an answer.
-const WORK: [&str; 11] = ["terms", "pulls", "coords", "room", "vectors", "rows", "b", "w", "m", "v", "words"];
+const WORK: [&str; 10] = [
+    "pair_terms",
+    "weighted_squares",
+    "coords",
+    "eigenpairs",
+    "vectors",
+    "label_counts",
+    "centred",
+    "gram",
+    "rotated",
+    "words",
+];
 
 /// Outputs that only an answer is written to.
 const FIGURES: [&str; 4] = ["values", "numbers", "selected", "sweeps"];
@@ -86,7 +97,7 @@ impl Ported for exhaustive::Exhaustive {
 
 fn push_groups(words: &mut Vec<u64>, lot: &Lot, groups: usize) {
     for k in 0..groups {
-        words.extend([lot.names[k] as u64, lot.counts[k] as u64, bits(lot.means[k])]);
+        words.extend([lot.group_labels[k] as u64, lot.counts[k] as u64, bits(lot.means[k])]);
     }
 }
 

@@ -55,38 +55,42 @@ library! {
     fn lotjudge_test(
         n: usize, distances: *const f64, distances_len: usize, labels: *const u16, labels_len: usize,
         strata_given: bool, strata: *const u16, strata_len: usize, weights_given: bool, weights: *const f64, weights_len: usize,
-        seed: u64, n_perm: u64, names: *mut u16, names_len: usize, counts: *mut u16, counts_len: usize,
-        means: *mut f64, means_len: usize, terms: *mut f64, terms_len: usize, pulls: *mut f64, pulls_len: usize,
+        seed: u64, n_perm: u64, group_labels: *mut u16, group_labels_len: usize, counts: *mut u16, counts_len: usize,
+        means: *mut f64, means_len: usize, pair_terms: *mut f64, pair_terms_len: usize,
+        weighted_squares: *mut f64, weighted_squares_len: usize,
         values: *mut f64, numbers: *mut u64,
     ) -> u8;
     fn lotjudge_exhaustive(
         n: usize, distances: *const f64, distances_len: usize, labels: *const u16, labels_len: usize,
         strata_given: bool, strata: *const u16, strata_len: usize, weights_given: bool, weights: *const f64, weights_len: usize,
-        names: *mut u16, names_len: usize, counts: *mut u16, counts_len: usize, means: *mut f64, means_len: usize,
-        terms: *mut f64, terms_len: usize, pulls: *mut f64, pulls_len: usize, coords: *mut f64, coords_len: usize,
-        room: *mut f64, room_len: usize, vectors: *mut f64, vectors_len: usize, rows: *mut u16, rows_len: usize,
+        group_labels: *mut u16, group_labels_len: usize, counts: *mut u16, counts_len: usize, means: *mut f64, means_len: usize,
+        pair_terms: *mut f64, pair_terms_len: usize, weighted_squares: *mut f64, weighted_squares_len: usize,
+        coords: *mut f64, coords_len: usize, eigenpairs: *mut f64, eigenpairs_len: usize,
+        vectors: *mut f64, vectors_len: usize, label_counts: *mut u16, label_counts_len: usize,
         values: *mut f64, numbers: *mut u64,
     ) -> u8;
     fn lotjudge_pcoa(
         distances: *const f64, distances_len: usize, n: usize, components: usize, out: *mut f64, out_len: usize,
-        b: *mut f64, b_len: usize, w: *mut f64, w_len: usize, m: *mut f64, m_len: usize, v: *mut f64, v_len: usize,
+        centred: *mut f64, centred_len: usize, eigenpairs: *mut f64, eigenpairs_len: usize,
+        rotated: *mut f64, rotated_len: usize, vectors: *mut f64, vectors_len: usize,
     ) -> u8;
     fn lotjudge_hash_pca(
         hashes: *const u64, hashes_len: usize, offsets: *const usize, offsets_len: usize, n: usize, components: usize,
-        out: *mut f64, out_len: usize, b: *mut f64, b_len: usize, w: *mut f64, w_len: usize, m: *mut f64, m_len: usize,
-        v: *mut f64, v_len: usize, words: *mut u64, words_len: usize, selected: *mut usize,
+        out: *mut f64, out_len: usize, gram: *mut f64, gram_len: usize, eigenpairs: *mut f64, eigenpairs_len: usize,
+        rotated: *mut f64, rotated_len: usize, vectors: *mut f64, vectors_len: usize,
+        words: *mut u64, words_len: usize, selected: *mut usize,
     ) -> u8;
     fn lotjudge_dapc(
         x: *const f64, x_len: usize, n: usize, columns: usize, labels: *const u16, labels_len: usize,
         out: *mut f64, out_len: usize, assigned: *mut u16, assigned_len: usize, numbers: *mut usize,
     ) -> u8;
     fn lotjudge_jacobi_eigen(
-        a: *const f64, a_len: usize, n: usize, out: *mut f64, out_len: usize, m: *mut f64, m_len: usize,
-        v: *mut f64, v_len: usize, sweeps: *mut usize,
+        a: *const f64, a_len: usize, n: usize, out: *mut f64, out_len: usize, rotated: *mut f64, rotated_len: usize,
+        vectors: *mut f64, vectors_len: usize, sweeps: *mut usize,
     ) -> u8;
     fn lotjudge_top_eigs(
         a: *const f64, a_len: usize, n: usize, components: usize, out: *mut f64, out_len: usize,
-        w: *mut f64, w_len: usize, m: *mut f64, m_len: usize, v: *mut f64, v_len: usize,
+        eigenpairs: *mut f64, eigenpairs_len: usize, rotated: *mut f64, rotated_len: usize, vectors: *mut f64, vectors_len: usize,
     ) -> u8;
     fn lotjudge_gram_matrix(
         hashes: *const u64, hashes_len: usize, offsets: *const usize, offsets_len: usize, n: usize,

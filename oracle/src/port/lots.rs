@@ -11,11 +11,11 @@ pub struct Lot {
     pub labels: Vec<u16>,
     pub strata: Option<Vec<u16>>,
     pub weights: Option<Vec<f64>>,
-    pub names: Vec<u16>,
+    pub group_labels: Vec<u16>,
     pub counts: Vec<u16>,
     pub means: Vec<f64>,
-    pub terms: Vec<f64>,
-    pub pulls: Vec<f64>,
+    pub pair_terms: Vec<f64>,
+    pub weighted_squares: Vec<f64>,
 }
 
 impl Lot {
@@ -27,21 +27,21 @@ impl Lot {
             labels: input.labels.clone(),
             strata: input.strata.clone(),
             weights: input.weights.clone(),
-            names: vec![BEFORE_NUMBER; n],
+            group_labels: vec![BEFORE_NUMBER; n],
             counts: vec![BEFORE_NUMBER; n],
             means: vec![BEFORE; n],
-            terms: vec![BEFORE; n * n],
-            pulls: vec![BEFORE; n * n],
+            pair_terms: vec![BEFORE; n * n],
+            weighted_squares: vec![BEFORE; n * n],
         }
     }
 
     fn lent(&mut self) -> Vec<(&'static str, Lent<'_>)> {
         vec![
-            ("names", Lent::Numbers(&mut self.names)),
+            ("group_labels", Lent::Numbers(&mut self.group_labels)),
             ("counts", Lent::Numbers(&mut self.counts)),
             ("means", Lent::Floats(&mut self.means)),
-            ("terms", Lent::Floats(&mut self.terms)),
-            ("pulls", Lent::Floats(&mut self.pulls)),
+            ("pair_terms", Lent::Floats(&mut self.pair_terms)),
+            ("weighted_squares", Lent::Floats(&mut self.weighted_squares)),
         ]
     }
 
@@ -57,7 +57,7 @@ impl Lot {
             5 => self.weights.as_mut()?[0] = f64::from_bits(1048576f64.to_bits() + 1),
             6 => self.distances.push(0.0),
             7 => drop(self.labels.pop()),
-            8 => drop(self.pulls.pop()),
+            8 => drop(self.weighted_squares.pop()),
             9 => drop(self.means.pop()),
             _ => self.n = 1 << 63,
         }
@@ -90,8 +90,9 @@ impl Asked<test::Input> for TestCall {
             (library.lotjudge_test)(
                 l.n, l.distances.as_ptr(), l.distances.len(), l.labels.as_ptr(), l.labels.len(),
                 l.strata.is_some(), strata.as_ptr(), strata.len(), l.weights.is_some(), weights.as_ptr(), weights.len(),
-                self.seed, self.n_perm, l.names.as_mut_ptr(), l.names.len(), l.counts.as_mut_ptr(), l.counts.len(),
-                l.means.as_mut_ptr(), l.means.len(), l.terms.as_mut_ptr(), l.terms.len(), l.pulls.as_mut_ptr(), l.pulls.len(),
+                self.seed, self.n_perm, l.group_labels.as_mut_ptr(), l.group_labels.len(), l.counts.as_mut_ptr(), l.counts.len(),
+                l.means.as_mut_ptr(), l.means.len(), l.pair_terms.as_mut_ptr(), l.pair_terms.len(),
+                l.weighted_squares.as_mut_ptr(), l.weighted_squares.len(),
                 self.values.as_mut_ptr(), self.numbers.as_mut_ptr(),
             )
         }
@@ -124,9 +125,9 @@ impl Asked<test::Input> for TestCall {
 pub struct ExhaustiveCall {
     pub lot: Lot,
     coords: Vec<f64>,
-    room: Vec<f64>,
+    eigenpairs: Vec<f64>,
     vectors: Vec<f64>,
-    rows: Vec<u16>,
+    label_counts: Vec<u16>,
     pub values: Vec<f64>,
     pub numbers: Vec<u64>,
 }
@@ -139,9 +140,9 @@ impl Asked<test::Input> for ExhaustiveCall {
         ExhaustiveCall {
             lot: Lot::new(input),
             coords: vec![BEFORE; 16 + 8 * n],
-            room: vec![BEFORE; n + n * n],
+            eigenpairs: vec![BEFORE; n + n * n],
             vectors: vec![BEFORE; n * n],
-            rows: vec![BEFORE_NUMBER; n * n],
+            label_counts: vec![BEFORE_NUMBER; n * n],
             values: vec![BEFORE; 4],
             numbers: vec![BEFORE_WORD; 11],
         }
@@ -156,10 +157,11 @@ impl Asked<test::Input> for ExhaustiveCall {
             (library.lotjudge_exhaustive)(
                 l.n, l.distances.as_ptr(), l.distances.len(), l.labels.as_ptr(), l.labels.len(),
                 l.strata.is_some(), strata.as_ptr(), strata.len(), l.weights.is_some(), weights.as_ptr(), weights.len(),
-                l.names.as_mut_ptr(), l.names.len(), l.counts.as_mut_ptr(), l.counts.len(),
-                l.means.as_mut_ptr(), l.means.len(), l.terms.as_mut_ptr(), l.terms.len(), l.pulls.as_mut_ptr(), l.pulls.len(),
-                self.coords.as_mut_ptr(), self.coords.len(), self.room.as_mut_ptr(), self.room.len(),
-                self.vectors.as_mut_ptr(), self.vectors.len(), self.rows.as_mut_ptr(), self.rows.len(),
+                l.group_labels.as_mut_ptr(), l.group_labels.len(), l.counts.as_mut_ptr(), l.counts.len(),
+                l.means.as_mut_ptr(), l.means.len(), l.pair_terms.as_mut_ptr(), l.pair_terms.len(),
+                l.weighted_squares.as_mut_ptr(), l.weighted_squares.len(),
+                self.coords.as_mut_ptr(), self.coords.len(), self.eigenpairs.as_mut_ptr(), self.eigenpairs.len(),
+                self.vectors.as_mut_ptr(), self.vectors.len(), self.label_counts.as_mut_ptr(), self.label_counts.len(),
                 self.values.as_mut_ptr(), self.numbers.as_mut_ptr(),
             )
         }
@@ -168,9 +170,9 @@ impl Asked<test::Input> for ExhaustiveCall {
     fn lent(&mut self) -> Vec<(&'static str, Lent<'_>)> {
         let mut all = self.lot.lent();
         all.push(("coords", Lent::Floats(&mut self.coords)));
-        all.push(("room", Lent::Floats(&mut self.room)));
+        all.push(("eigenpairs", Lent::Floats(&mut self.eigenpairs)));
         all.push(("vectors", Lent::Floats(&mut self.vectors)));
-        all.push(("rows", Lent::Numbers(&mut self.rows)));
+        all.push(("label_counts", Lent::Numbers(&mut self.label_counts)));
         all.push(("values", Lent::Floats(&mut self.values)));
         all.push(("numbers", Lent::Words(&mut self.numbers)));
         all
@@ -185,9 +187,9 @@ impl Asked<test::Input> for ExhaustiveCall {
             _ if self.lot.distances.is_empty() => return None,
             way if way < 11 => return self.lot.damage(way),
             11 => drop(self.coords.pop()),
-            12 => drop(self.room.pop()),
+            12 => drop(self.eigenpairs.pop()),
             13 => drop(self.vectors.pop()),
-            _ => drop(self.rows.pop()),
+            _ => drop(self.label_counts.pop()),
         }
         Some(1)
     }

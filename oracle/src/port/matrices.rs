@@ -25,15 +25,16 @@ pub struct JacobiCall {
     pub n: usize,
     pub a: Vec<f64>,
     pub out: Vec<f64>,
-    m: Vec<f64>,
-    v: Vec<f64>,
+    rotated: Vec<f64>,
+    vectors: Vec<f64>,
     /// One number.
     pub sweeps: Vec<u64>,
 }
 
 impl JacobiCall {
     fn of(n: usize, a: Vec<f64>) -> Self {
-        JacobiCall { n, a, out: room(n + n * n), m: room(n * n), v: room(n * n), sweeps: vec![BEFORE_WORD] }
+        let (rotated, vectors) = (room(n * n), room(n * n));
+        JacobiCall { n, a, out: room(n + n * n), rotated, vectors, sweeps: vec![BEFORE_WORD] }
     }
 }
 
@@ -48,8 +49,8 @@ impl Asked<jacobi_eigen::Input> for JacobiCall {
     fn ask(&mut self, library: &Library) -> u8 {
         unsafe {
             (library.lotjudge_jacobi_eigen)(
-                self.a.as_ptr(), self.a.len(), self.n, self.out.as_mut_ptr(), self.out.len(), self.m.as_mut_ptr(), self.m.len(),
-                self.v.as_mut_ptr(), self.v.len(), self.sweeps.as_mut_ptr().cast(),
+                self.a.as_ptr(), self.a.len(), self.n, self.out.as_mut_ptr(), self.out.len(), self.rotated.as_mut_ptr(), self.rotated.len(),
+                self.vectors.as_mut_ptr(), self.vectors.len(), self.sweeps.as_mut_ptr().cast(),
             )
         }
     }
@@ -57,8 +58,8 @@ impl Asked<jacobi_eigen::Input> for JacobiCall {
     fn lent(&mut self) -> Vec<(&'static str, Lent<'_>)> {
         vec![
             ("out", Lent::Floats(&mut self.out)),
-            ("m", Lent::Floats(&mut self.m)),
-            ("v", Lent::Floats(&mut self.v)),
+            ("rotated", Lent::Floats(&mut self.rotated)),
+            ("vectors", Lent::Floats(&mut self.vectors)),
             ("sweeps", Lent::Words(&mut self.sweeps)),
         ]
     }
@@ -76,8 +77,8 @@ impl Asked<jacobi_eigen::Input> for JacobiCall {
             4 => drop(self.a.pop()),
             5 => self.a.push(0.0),
             6 => drop(self.out.pop()),
-            7 => drop(self.m.pop()),
-            8 => drop(self.v.pop()),
+            7 => drop(self.rotated.pop()),
+            8 => drop(self.vectors.pop()),
             _ => self.n = 1 << 63,
         }
         Some([3, 3, 3, 2, 1, 1, 1, 1, 1, 1][way])
@@ -89,15 +90,16 @@ pub struct TopEigsCall {
     a: Vec<f64>,
     pub components: usize,
     pub out: Vec<f64>,
-    w: Vec<f64>,
-    m: Vec<f64>,
-    v: Vec<f64>,
+    eigenpairs: Vec<f64>,
+    rotated: Vec<f64>,
+    vectors: Vec<f64>,
 }
 
 impl TopEigsCall {
     fn of(n: usize, a: Vec<f64>, components: usize) -> Self {
         let k = components.min(n);
-        TopEigsCall { n, a, components, out: room(k + k * n), w: room(n + n * n), m: room(n * n), v: room(n * n) }
+        let (eigenpairs, rotated, vectors) = (room(n + n * n), room(n * n), room(n * n));
+        TopEigsCall { n, a, components, out: room(k + k * n), eigenpairs, rotated, vectors }
     }
 }
 
@@ -113,7 +115,7 @@ impl Asked<top_eigs::Input> for TopEigsCall {
         unsafe {
             (library.lotjudge_top_eigs)(
                 self.a.as_ptr(), self.a.len(), self.n, self.components, self.out.as_mut_ptr(), self.out.len(),
-                self.w.as_mut_ptr(), self.w.len(), self.m.as_mut_ptr(), self.m.len(), self.v.as_mut_ptr(), self.v.len(),
+                self.eigenpairs.as_mut_ptr(), self.eigenpairs.len(), self.rotated.as_mut_ptr(), self.rotated.len(), self.vectors.as_mut_ptr(), self.vectors.len(),
             )
         }
     }
@@ -121,9 +123,9 @@ impl Asked<top_eigs::Input> for TopEigsCall {
     fn lent(&mut self) -> Vec<(&'static str, Lent<'_>)> {
         vec![
             ("out", Lent::Floats(&mut self.out)),
-            ("w", Lent::Floats(&mut self.w)),
-            ("m", Lent::Floats(&mut self.m)),
-            ("v", Lent::Floats(&mut self.v)),
+            ("eigenpairs", Lent::Floats(&mut self.eigenpairs)),
+            ("rotated", Lent::Floats(&mut self.rotated)),
+            ("vectors", Lent::Floats(&mut self.vectors)),
         ]
     }
 
@@ -141,9 +143,9 @@ impl Asked<top_eigs::Input> for TopEigsCall {
             5 => *self = TopEigsCall::of(self.n, self.a.clone(), 17),
             6 => drop(self.a.pop()),
             7 => drop(self.out.pop()),
-            8 => drop(self.w.pop()),
-            9 => drop(self.m.pop()),
-            10 => drop(self.v.pop()),
+            8 => drop(self.eigenpairs.pop()),
+            9 => drop(self.rotated.pop()),
+            10 => drop(self.vectors.pop()),
             _ => self.n = 1 << 63,
         }
         Some([3, 3, 3, 2, 2, 2, 1, 1, 1, 1, 1, 1][way])

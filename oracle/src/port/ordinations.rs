@@ -4,29 +4,31 @@ use super::library::Library;
 use super::{Asked, Lent, BEFORE, BEFORE_WORD};
 use crate::ops::{hash_pca, pcoa};
 
-/// The output and the work of an ordination.
+/// The output and the work of an ordination. The matrix is Gower's or the Gram matrix.
 pub struct Room {
     pub out: Vec<f64>,
-    b: Vec<f64>,
-    w: Vec<f64>,
-    m: Vec<f64>,
-    v: Vec<f64>,
+    matrix: Vec<f64>,
+    eigenpairs: Vec<f64>,
+    rotated: Vec<f64>,
+    vectors: Vec<f64>,
 }
 
 impl Room {
     fn new(n: usize, components: usize) -> Self {
         let k = components.min(n);
         let room = |entries| vec![BEFORE; entries];
-        Room { out: room(2 * k + n * k), b: room(n * n), w: room(n + n * n), m: room(n * n), v: room(n * n) }
+        let (matrix, eigenpairs, rotated, vectors) = (room(n * n), room(n + n * n), room(n * n), room(n * n));
+        Room { out: room(2 * k + n * k), matrix, eigenpairs, rotated, vectors }
     }
 
-    fn lent(&mut self) -> Vec<(&'static str, Lent<'_>)> {
+    /// With the header's name of the matrix.
+    fn lent(&mut self, matrix: &'static str) -> Vec<(&'static str, Lent<'_>)> {
         vec![
             ("out", Lent::Floats(&mut self.out)),
-            ("b", Lent::Floats(&mut self.b)),
-            ("w", Lent::Floats(&mut self.w)),
-            ("m", Lent::Floats(&mut self.m)),
-            ("v", Lent::Floats(&mut self.v)),
+            (matrix, Lent::Floats(&mut self.matrix)),
+            ("eigenpairs", Lent::Floats(&mut self.eigenpairs)),
+            ("rotated", Lent::Floats(&mut self.rotated)),
+            ("vectors", Lent::Floats(&mut self.vectors)),
         ]
     }
 }
@@ -53,13 +55,14 @@ impl Asked<pcoa::Input> for PcoaCall {
         unsafe {
             (library.lotjudge_pcoa)(
                 self.distances.as_ptr(), self.distances.len(), self.n, self.components, r.out.as_mut_ptr(), r.out.len(),
-                r.b.as_mut_ptr(), r.b.len(), r.w.as_mut_ptr(), r.w.len(), r.m.as_mut_ptr(), r.m.len(), r.v.as_mut_ptr(), r.v.len(),
+                r.matrix.as_mut_ptr(), r.matrix.len(), r.eigenpairs.as_mut_ptr(), r.eigenpairs.len(),
+                r.rotated.as_mut_ptr(), r.rotated.len(), r.vectors.as_mut_ptr(), r.vectors.len(),
             )
         }
     }
 
     fn lent(&mut self) -> Vec<(&'static str, Lent<'_>)> {
-        self.room.lent()
+        self.room.lent("centred")
     }
 
     fn sign(&self) -> u64 {
@@ -78,7 +81,7 @@ impl Asked<pcoa::Input> for PcoaCall {
                 self.room = Room::new(self.n, 17);
             }
             5 => drop(self.distances.pop()),
-            6 => drop(self.room.w.pop()),
+            6 => drop(self.room.eigenpairs.pop()),
             _ => self.n = 1 << 63,
         }
         Some([3, 3, 3, 2, 2, 1, 1, 1][way % 8])
@@ -116,15 +119,15 @@ impl Asked<hash_pca::Input> for HashPcaCall {
         unsafe {
             (library.lotjudge_hash_pca)(
                 self.hashes.as_ptr(), self.hashes.len(), self.offsets.as_ptr(), self.offsets.len(), self.n, self.components,
-                r.out.as_mut_ptr(), r.out.len(), r.b.as_mut_ptr(), r.b.len(), r.w.as_mut_ptr(), r.w.len(),
-                r.m.as_mut_ptr(), r.m.len(), r.v.as_mut_ptr(), r.v.len(), self.words.as_mut_ptr(), self.words.len(),
-                self.selected.as_mut_ptr().cast(),
+                r.out.as_mut_ptr(), r.out.len(), r.matrix.as_mut_ptr(), r.matrix.len(), r.eigenpairs.as_mut_ptr(), r.eigenpairs.len(),
+                r.rotated.as_mut_ptr(), r.rotated.len(), r.vectors.as_mut_ptr(), r.vectors.len(),
+                self.words.as_mut_ptr(), self.words.len(), self.selected.as_mut_ptr().cast(),
             )
         }
     }
 
     fn lent(&mut self) -> Vec<(&'static str, Lent<'_>)> {
-        let mut all = self.room.lent();
+        let mut all = self.room.lent("gram");
         all.push(("words", Lent::Words(&mut self.words)));
         all.push(("selected", Lent::Words(&mut self.selected)));
         all

@@ -1,20 +1,18 @@
 -- `exhaustive::exhaustive` meets its contract. Lines 1 to 5, the design, line 8, and then the rest.
-use mathlib.Core.Path.{_≡_, sym, _∙_}
-use native.Mathlib.Omega.{arith}
-use borrow.Author.Needs.{needs}
+use Rattle.lists.proofs.Base.{_≡_, sym, arith, needs}
 use Rattle.outcome.specs.Outcome as outcome
 use Rattle.outcome.specs.Numbers.{told}
 use Rattle.outcome.proofs.Table.{told-passed}
 use Rattle.lot.specs.Lot.{Lot, lotOf}
-use Rattle.designs.specs.Designs.{Describes}
-use Rattle.designs.proofs.Designs.{designs-lot}
-use Rattle.ways.specs.Ways.{wayCount}
-use Rattle.ways.proofs.Number.{few-ways}
-use Rattle.every_way.specs.Call.{Slices, slicesOf, early}
-use Rattle.exhaustive.specs.Inner.{Passing}
-use Rattle.exhaustive.proofs.Passing.{designable, design-sound, same-n, passing-by}
-use Rattle.exhaustive.proofs.Whole.{short-is, early-is, call-refused, call-many, call-passed, call-by}
-use Rattle.exhaustive.proofs.exhaustive.Statement.{statement}
+use Rattle.lot_design.specs.inner.Designs.{Describes}
+use Rattle.lot_design.proofs.{Designs.designs-lot, Accepted.designable, Accepted.design-sound, Accepted.same-n}
+use Rattle.exhaustive_ways.specs.Ways.{wayCount}
+use Rattle.exhaustive_ways.proofs.WayCounts.{few-ways}
+use Rattle.exhaustive_hits.specs.Call.{Slices, slicesOf}
+use Rattle.exhaustive_hits.specs.inner.Call.{early}
+use Rattle.exhaustive.specs.inner.Passing.{Passing}
+use Rattle.exhaustive.proofs.PassedLines.{accepted, passing-by}
+use Rattle.exhaustive.proofs.Calls.{short-is, early-is, call-refused, call-many, call-passed, call-by}
 use Rattle.exhaustive.proofs.exhaustive.Tie as tie
 
 -- ---- once the table is asked
@@ -28,7 +26,7 @@ lot c = let a = start c .args in lotOf (a .n) (a .distances .now) (a .labels .no
 abbrev lent : tie.After-check-lot → Slices
 lent c =
     let a = start c .args in
-    slicesOf (a .names .now) (a .counts .now) (a .means .now) (a .terms .now) (a .pulls .now) (a .coords .now) (a .room .now) (a .vectors .now) (a .rows .now)
+    slicesOf (a .group-labels .now) (a .counts .now) (a .means .now) (a .pair-terms .now) (a .weighted-squares .now) (a .coords .now) (a .eigenpairs .now) (a .vectors .now) (a .label-counts .now)
 
 said : (c : tie.After-check-lot) → told (c .check-lot .result) ≡ early (lot c) (lent c)
 said c = early-is (lot c) (lent c) (short-is (lot c) (lent c) (c .before .too-short .ensures)) (c .check-lot .ensures)
@@ -49,21 +47,26 @@ design c = designs-lot (lot (asked c)) (c .design-of .ensures)
 abbrev designed : tie.After-ways-of → tie.After-design-of
 designed c = c .before
 
-abbrev few : tie.After-settle-arg9 → tie.After-ways-of
+abbrev few : tie.After-ordinate-and-answer-arg9 → tie.After-ways-of
 few c = c .before .before .before .before .before .before .before .before .before .before
 
-same-ways : (c : tie.After-settle-arg9) → few c .ways-of .result ≡ wayCount (lot (asked (designed (few c))))
-same-ways c = let d = designed (few c) in few-ways (wayCount (lot (asked d))) (few c .ways-of .ensures (lot (asked d)) (design d)) (omega (arith, c .before .before .before .before .before .before .before .before .before .if1 .left))
+same-ways : (c : tie.After-ordinate-and-answer-arg9) → few c .ways-of .result ≡ wayCount (lot (asked (designed (few c))))
+same-ways c =
+    let d = designed (few c) in few-ways (wayCount (lot (asked d))) (few c .ways-of .ensures (lot (asked d)) (design d))
+    (omega (arith, c .before .before .before .before .before .before .before .before .before .if1 .left))
 
-passing : (c : tie.After-settle-arg9) → let d = designed (few c) in
+passing : (c : tie.After-ordinate-and-answer-arg9) → let d = designed (few c) in
     let a = start (asked d) .args in
-    Passing (lotOf (d .design-of .result .n) (a .distances .now) (a .labels .now) (a .stratified) (a .strata .now) (a .weighted) (a .weights .now)) (d .design-of .result) (few c .ways-of .result) (lent (asked d))
+    Passing (lotOf (d .design-of .result .n) (a .distances .now) (a .labels .now) (a .stratified) (a .strata .now) (a .weighted) (a .weights .now))
+    (d .design-of .result) (few c .ways-of .result) (lent (asked d))
 passing c =
     let d = designed (few c) in
     let a = start (asked d) .args in
-    passing-by (a .n) (a .distances .now) (a .labels .now) (a .stratified) (a .strata .now) (a .weighted) (a .weights .now) (lent (asked d)) (passed (d .before)) (design d) (same-ways c) (omega (arith, c .before .before .before .before .before .before .before .before .before .if1 .left))
+    passing-by (a .n) (a .distances .now) (a .labels .now) (a .stratified) (a .strata .now) (a .weighted) (a .weights .now) (lent (asked d))
+    (passed (d .before)) (design d) (same-ways c)
+    (omega (arith, c .before .before .before .before .before .before .before .before .before .if1 .left))
 
-abbrev settled : tie.After-slice-known18 → tie.After-settle
+abbrev settled : tie.After-slice-known18 → tie.After-ordinate-and-answer
 settled c = c .before .before .before .before .before .before .before .before .before .before .before .before .before .before .before .before .before .before
 
 returns-3 : tie.Need-returns-3
@@ -73,29 +76,22 @@ returns-3 c =
     let q = asked d in
     let a = start q .args in
     call-passed (lot q) (lent q) (passed (d .before)) (omega (arith, same-ways at, at .before .before .before .before .before .before .before .before .before .if1 .left))
-    (call-by (a .n) (a .distances .now) (a .labels .now) (a .stratified) (a .strata .now) (a .weighted) (a .weights .now) (lent q) (same-n (lot q) (lent q) (passed (d .before)) (design d))
-    (settled c .settle .ensures (a .labels .now) (a .stratified) (a .strata .now) (passing at)))
+    (call-by (a .n) (a .distances .now) (a .labels .now) (a .stratified) (a .strata .now) (a .weighted) (a .weights .now) (lent q)
+    (same-n (lot q) (design d) (accepted (lot q) (lent q) (passed (d .before))))
+    (settled c .ordinate-and-answer .ensures (a .labels .now) (a .stratified) (a .strata .now) (passing at)))
 
-pub exhaustive-spec : {M : Type 1} → statement M
-exhaustive-spec =
-    tie.close
-    (tie.spec
-    (λ c κs. search needs)
-    (λ c κs. search needs)
-    (λ c. search needs)
-    (λ c. search needs)
-    (λ c κs. let q = c .before .before in designable (lot q) (lent q) (passed c))
-    (λ c κs. let q = asked c in design-sound (lot q) (lent q) (passed (c .before)) (design c))
-    (λ c. let d = designed (c .before) in let q = asked d in call-many (lot q) (lent q) (passed (d .before)) (c .before .ways-of .ensures (lot q) (design d)) (omega (arith, c .if1 .taken)))
-    (λ c κs. let a = start (asked (designed (few c))) .args in record { labels = a .labels .now; stratified = a .stratified; strata = a .strata .now; passing = passing c })
+pub exhaustive-spec : {M : Type 1} → Rattle.exhaustive.proofs.exhaustive.Statement.statement M
+exhaustive-spec = tie.close (tie.spec (λ c κs. search needs) (λ c κs. search needs) (λ c. search needs) (λ c. search needs)
+    (λ c κs. let q = c .before .before in designable (lot q) (accepted (lot q) (lent q) (passed c)))
+    (λ c κs. let q = asked c in design-sound (lot q) (design c) (accepted (lot q) (lent q) (passed (c .before))))
+    (λ c. let d = designed (c .before) in
+    let q = asked d in
+    call-many (lot q) (lent q) (passed (d .before)) (c .before .ways-of .ensures (lot q) (design d)) (omega (arith, c .if1 .taken)))
+    (λ c κs. let a = start (asked (designed (few c))) .args in
+    record { labels = a .labels .now; stratified = a .stratified; strata = a .strata .now; passing = passing c })
     (λ c. let q = c .before .before .before in call-refused (lot q) (lent q) (said q) (c .before .c .given .1))
-    (λ c. settled c .settle .kept .0)
-    (λ c. settled c .settle .kept .1 .0)
-    (λ c. settled c .settle .kept .1 .1 .0)
-    (λ c. settled c .settle .kept .1 .1 .1 .0)
-    (λ c. settled c .settle .kept .1 .1 .1 .1 .0)
-    (λ c. settled c .settle .kept .1 .1 .1 .1 .1 .0)
-    (λ c. settled c .settle .kept .1 .1 .1 .1 .1 .1 .0)
-    (λ c. settled c .settle .kept .1 .1 .1 .1 .1 .1 .1 .0)
-    (λ c. settled c .settle .kept .1 .1 .1 .1 .1 .1 .1 .1 .0)
-    returns-3)
+    (λ c. settled c .ordinate-and-answer .kept .0) (λ c. settled c .ordinate-and-answer .kept .1 .0)
+    (λ c. settled c .ordinate-and-answer .kept .1 .1 .0) (λ c. settled c .ordinate-and-answer .kept .1 .1 .1 .0)
+    (λ c. settled c .ordinate-and-answer .kept .1 .1 .1 .1 .0) (λ c. settled c .ordinate-and-answer .kept .1 .1 .1 .1 .1 .0)
+    (λ c. settled c .ordinate-and-answer .kept .1 .1 .1 .1 .1 .1 .0) (λ c. settled c .ordinate-and-answer .kept .1 .1 .1 .1 .1 .1 .1 .0)
+    (λ c. settled c .ordinate-and-answer .kept .1 .1 .1 .1 .1 .1 .1 .1 .0) returns-3)

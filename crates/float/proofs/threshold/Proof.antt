@@ -2,17 +2,12 @@
 use mathlib.Core.Path.{ap}
 use borrow.Author.Needs.{needs}
 use lib.Ieee.{Float}
-use Rattle.float.specs.Floats.{_⊖_, _⊗_, 1e-12}
-use Rattle.float.specs.Tolerance.{threshold}
-use Rattle.float.proofs.threshold.Statement.{statement}
+use Rattle.float.specs.{Floats._⊖_, Floats._⊗_, Floats.1e-12, Tolerance.threshold}
 use Rattle.float.proofs.threshold.Tie as tie
-
-abs-requires : tie.Need-abs-requires
-abs-requires c κs = search needs
 
 returns : tie.Need-returns
 unfolding threshold
 returns c = ap (λ (z : Float). c .before .args .f ⊖ 1e-12 ⊗ z) (c .abs .ensures)
 
-pub threshold-spec : {M : Type 1} → statement M
-threshold-spec = tie.close (tie.spec abs-requires returns)
+pub threshold-spec : {M : Type 1} → Rattle.float.proofs.threshold.Statement.statement M
+threshold-spec = tie.close (tie.spec (λ c κs. search needs) returns)

@@ -1,15 +1,8 @@
 -- `lotjudge_c::lotjudge_exhaustive` meets its contract. The operation is called, and its answer laid out.
 use borrow.Author.Needs.{needs}
-use Rattle.layouts.specs.Coded.{arrays}
+use Rattle.c_layouts.specs.Coded.{arrays}
 use Rattle.lotjudge_c.proofs.Exports.{ways-return}
-use Rattle.lotjudge_c.proofs.lotjudge_exhaustive.Statement.{statement}
 use Rattle.lotjudge_c.proofs.lotjudge_exhaustive.Tie as tie
-
-exhaustive-requires : tie.Need-exhaustive-requires
-exhaustive-requires c κs = search needs
-
-lay-ways-requires : tie.Need-lay-ways-requires
-lay-ways-requires c κs = search needs
 
 same-length : tie.Need-same-length
 same-length c =
@@ -59,8 +52,10 @@ same-length-9 c =
 returns : tie.Need-returns
 returns c =
     let after-exhaustive = c .before .before .before .before .before .before .before .before .before .before .before .before .before .before .before .before .before .before .before .before .before in
-    let start = after-exhaustive .before .before .before .before .before .before .before .before .before .before .before .before .before .before .before .before .before .before .before .before .before .before .before in
+    let start = after-exhaustive .before .before .before .before .before .before .before .before .before .before .before .before .before .before
+    .before .before .before .before .before .before .before .before .before in
     ways-return (after-exhaustive .exhaustive .result) (arrays (start .args .values .now) (start .args .numbers .now)) (after-exhaustive .exhaustive .ensures) (c .lay-ways .ensures)
 
-pub lotjudge-exhaustive-spec : {M : Type 1} → statement M
-lotjudge-exhaustive-spec = tie.close (tie.spec exhaustive-requires lay-ways-requires same-length same-length-2 same-length-3 same-length-4 same-length-5 same-length-6 same-length-7 same-length-8 same-length-9 returns)
+pub lotjudge-exhaustive-spec : {M : Type 1} → Rattle.lotjudge_c.proofs.lotjudge_exhaustive.Statement.statement M
+lotjudge-exhaustive-spec = tie.close (tie.spec (λ c κs. search needs) (λ c κs. search needs) same-length same-length-2 same-length-3 same-length-4
+    same-length-5 same-length-6 same-length-7 same-length-8 same-length-9 returns)

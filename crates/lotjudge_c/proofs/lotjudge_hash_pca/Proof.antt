@@ -1,14 +1,7 @@
 -- `lotjudge_c::lotjudge_hash_pca` meets its contract. The operation is called, and its answer laid out.
 use borrow.Author.Needs.{needs}
 use Rattle.lotjudge_c.proofs.Exports.{hash-pca-returns}
-use Rattle.lotjudge_c.proofs.lotjudge_hash_pca.Statement.{statement}
 use Rattle.lotjudge_c.proofs.lotjudge_hash_pca.Tie as tie
-
-hash-pca-requires : tie.Need-hash-pca-requires
-hash-pca-requires c κs = search needs
-
-lay-selected-requires : tie.Need-lay-selected-requires
-lay-selected-requires c κs = search needs
 
 same-length : tie.Need-same-length
 same-length c =
@@ -46,5 +39,6 @@ returns c =
     let start = after-hash-pca .before .before .before .before .before .before .before .before .before .before .before .before .before .before .before in
     hash-pca-returns (after-hash-pca .hash-pca .result) (start .args .selected .now) (after-hash-pca .hash-pca .ensures) (c .lay-selected .ensures)
 
-pub lotjudge-hash-pca-spec : {M : Type 1} → statement M
-lotjudge-hash-pca-spec = tie.close (tie.spec hash-pca-requires lay-selected-requires same-length same-length-2 same-length-3 same-length-4 same-length-5 same-length-6 returns)
+pub lotjudge-hash-pca-spec : {M : Type 1} → Rattle.lotjudge_c.proofs.lotjudge_hash_pca.Statement.statement M
+lotjudge-hash-pca-spec = tie.close (tie.spec (λ c κs. search needs) (λ c κs. search needs) same-length same-length-2 same-length-3 same-length-4
+    same-length-5 same-length-6 returns)

@@ -1,15 +1,8 @@
 -- `lotjudge_c::lotjudge_test` meets its contract. The operation is called, and its answer laid out.
 use borrow.Author.Needs.{needs}
-use Rattle.layouts.specs.Coded.{arrays}
+use Rattle.c_layouts.specs.Coded.{arrays}
 use Rattle.lotjudge_c.proofs.Exports.{test-returns}
-use Rattle.lotjudge_c.proofs.lotjudge_test.Statement.{statement}
 use Rattle.lotjudge_c.proofs.lotjudge_test.Tie as tie
-
-test-requires : tie.Need-test-requires
-test-requires c κs = search needs
-
-lay-test-requires : tie.Need-lay-test-requires
-lay-test-requires c κs = search needs
 
 same-length : tie.Need-same-length
 same-length c =
@@ -42,5 +35,6 @@ returns c =
     let start = after-test .before .before .before .before .before .before .before .before .before .before .before .before .before .before .before in
     test-returns (after-test .test .result) (arrays (start .args .values .now) (start .args .numbers .now)) (after-test .test .ensures) (c .lay-test .ensures)
 
-pub lotjudge-test-spec : {M : Type 1} → statement M
-lotjudge-test-spec = tie.close (tie.spec test-requires lay-test-requires same-length same-length-2 same-length-3 same-length-4 same-length-5 returns)
+pub lotjudge-test-spec : {M : Type 1} → Rattle.lotjudge_c.proofs.lotjudge_test.Statement.statement M
+lotjudge-test-spec = tie.close (tie.spec (λ c κs. search needs) (λ c κs. search needs) same-length same-length-2 same-length-3 same-length-4
+    same-length-5 returns)

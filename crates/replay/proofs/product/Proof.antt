@@ -1,22 +1,9 @@
 -- `replay::product` meets its contract. Both are at most 65,536.
-use Prim.Native.Nat.{_-_}
 use native.Mathlib.Omega.{arith}
 use borrow.Author.Needs.{needs}
 use native.Mathlib.Nat.{mul-le-mul}
-use Rattle.replay.proofs.product.Statement.{statement}
 use Rattle.replay.proofs.product.Tie as tie
 
-returns : tie.Need-returns
-returns c = search needs
-
-returns-2 : tie.Need-returns-2
-returns-2 c = search needs
-
-mul-result : tie.Need-mul-result
-mul-result c = omega (arith, mul-le-mul (c .if2 .left) (c .before .if1 .left))
-
-returns-3 : tie.Need-returns-3
-returns-3 c = search needs
-
-pub product-spec : {M : Type 1} → statement M
-product-spec = tie.close (tie.spec returns returns-2 mul-result returns-3)
+pub product-spec : {M : Type 1} → Rattle.replay.proofs.product.Statement.statement M
+product-spec = tie.close (tie.spec (λ c. search needs) (λ c. search needs) (λ c. omega (arith, mul-le-mul (c .if2 .left) (c .before .if1 .left)))
+    (λ c. search needs))

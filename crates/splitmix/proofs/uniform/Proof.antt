@@ -7,11 +7,7 @@ use lib.Ieee.{inFloat}
 use Rattle.float.specs.Floats.{_⊖_, _⊘_, num, 0·5, 2^53}
 use Rattle.splitmix.specs.SplitMix.{uniform}
 use borrow.Author.Needs.{needs}
-use Rattle.splitmix.proofs.uniform.Statement.{statement}
 use Rattle.splitmix.proofs.uniform.Tie as tie
-
-mix-requires : tie.Need-mix-requires
-mix-requires c κs = search needs
 
 int-to-float-result : tie.Need-int-to-float-result
 unfolding inFloat
@@ -21,5 +17,5 @@ returns : tie.Need-returns
 unfolding uniform
 returns c = ap (λ (w : ℕ). num (w / 2 ^ 11) ⊘ 2^53 ⊖ 0·5) (c .before .mix .ensures)
 
-pub uniform-spec : {M : Type 1} → statement M
-uniform-spec = tie.close (tie.spec mix-requires int-to-float-result returns)
+pub uniform-spec : {M : Type 1} → Rattle.splitmix.proofs.uniform.Statement.statement M
+uniform-spec = tie.close (tie.spec (λ c κs. search needs) int-to-float-result returns)

@@ -1,2 +1,0 @@
--- The ANOVA by parts of a list of members.
-pub mod OnParts

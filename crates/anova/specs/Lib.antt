@@ -1,2 +1,0 @@
--- Section 3 of document 01: the F of the one-way ANOVA.
-pub mod Anova

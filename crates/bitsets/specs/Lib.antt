@@ -1,2 +1,0 @@
--- Rows of bits.
-pub mod Bits

@@ -1,3 +1,0 @@
--- Laws of the rounds.
-pub mod Settling
-pub mod Fuel

@@ -1,2 +1,0 @@
--- The factor's rows.
-pub mod Pivots

@@ -1,2 +1,0 @@
--- Section 5 of document 01: the Cholesky factor.
-pub mod Cholesky

@@ -1,2 +1,0 @@
--- The laws of slices that are cleared.
-pub mod Turned

@@ -1,2 +1,0 @@
--- What is left by a call that is turned away.
-pub mod Turned

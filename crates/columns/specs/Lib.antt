@@ -1,2 +1,0 @@
--- The matrix of sets of columns.
-pub mod Columns

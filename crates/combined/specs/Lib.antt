@@ -1,2 +1,0 @@
--- Section 4 of document 01: vectors turned back.
-pub mod Combined

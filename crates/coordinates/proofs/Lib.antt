@@ -1,2 +1,0 @@
--- The two parts of an output.
-pub mod Finished

@@ -1,2 +1,0 @@
--- The design of a lot.
-pub mod Designs

@@ -1,2 +1,0 @@
--- The laws that the proofs of `dispersion` share.
-pub mod Parted

@@ -1,0 +1,2 @@
+-- The mean of a matrix and its transpose.
+pub mod TransposeMeans

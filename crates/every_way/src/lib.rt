@@ -1,8 +1,0 @@
-// Section 6 of document 01: what the exhaustive test answers.
-use judgement::Judgement;
-use outcome::Refusal;
-
-pub enum Answer {
-    Judged(Judgement),
-    Refused(Refusal),
-}

@@ -1,3 +1,0 @@
--- Section 7's example (document 01).
-pub mod Text
-pub mod Example

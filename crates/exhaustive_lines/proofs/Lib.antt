@@ -1,2 +1,0 @@
--- Whether a slice is short.
-mod Short

@@ -1,2 +1,0 @@
--- Matrices filled row after row.
-pub mod Grids

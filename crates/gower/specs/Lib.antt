@@ -1,2 +1,0 @@
--- Section 4 of document 01: Gower's centred matrix.
-pub mod Centred

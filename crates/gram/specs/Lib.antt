@@ -1,3 +1,0 @@
--- `gram_matrix` (document 01, section 4): the centred Gram matrix of sets of hashes, and a call of it.
-pub mod Gram
-pub mod Call

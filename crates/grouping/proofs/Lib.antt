@@ -1,0 +1,4 @@
+-- The laws of the counting sort.
+pub mod CountingSort
+pub mod SortPasses
+pub mod SortedParts

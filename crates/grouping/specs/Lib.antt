@@ -1,0 +1,2 @@
+-- The members of groups as parts of one list.
+pub mod inner

@@ -1,2 +1,0 @@
--- The laws of the hits among all ways.
-pub mod Started

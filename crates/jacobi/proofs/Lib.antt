@@ -1,4 +1,0 @@
--- What the proofs of the functions share.
-pub mod Front
-pub mod Call
-pub mod Cases

@@ -1,0 +1,6 @@
+-- What only inner functions need: what they are asked, and what they leave. No reader of a public contract needs it.
+pub mod Pairs
+pub mod Stages
+pub mod Reader
+pub mod Hex
+pub mod Places

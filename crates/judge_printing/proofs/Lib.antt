@@ -1,0 +1,4 @@
+-- The laws of writing.
+pub mod Writing
+pub mod Patterns
+pub mod Printing

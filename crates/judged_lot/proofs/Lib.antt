@@ -1,2 +1,0 @@
--- From what `exhaustive` leaves to what is found of a lot.
-pub mod Found

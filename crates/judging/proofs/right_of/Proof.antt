@@ -1,9 +1,0 @@
--- `judging::right_of` meets its contract. Case by case.
-use borrow.Author.Needs.{needs}
-use Rattle.judging.proofs.Cases.{right-scored, right-refused}
-use Rattle.judging.proofs.right_of.Statement.{statement}
-use Rattle.judging.proofs.right_of.Tie as tie
-
-pub right-of-spec : {M : Type 1} → statement M
-right-of-spec =
-    tie.close (tie.spec (λ c. search needs) (λ c. search needs) (λ c. right-scored (c .before .r .given .1)) (λ c. right-refused (c .enum-told .given .1)))

@@ -1,2 +1,0 @@
--- The laws of groups on their samples.
-pub mod Placed

@@ -1,2 +1,0 @@
--- Section 2 of document 01: groups on their samples.
-pub mod Placed

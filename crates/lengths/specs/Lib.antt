@@ -1,2 +1,0 @@
--- Line 1 of the table: the lengths that are asked.
-pub mod Lengths

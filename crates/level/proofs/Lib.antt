@@ -1,2 +1,0 @@
--- The law of the level.
-pub mod Level

@@ -1,2 +1,0 @@
--- Demand 3, for any list.
-pub mod Level

@@ -1,2 +1,0 @@
--- A group's part of within, and sums over groups.
-pub mod Groups

@@ -1,2 +1,0 @@
--- Coordinates in a lent slice are those of the ordination.
-pub mod Told

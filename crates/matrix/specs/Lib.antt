@@ -1,2 +1,0 @@
--- Entries of matrices.
-pub mod Finite

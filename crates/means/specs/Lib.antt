@@ -1,2 +1,0 @@
--- Section 5 of document 01: means.
-pub mod Means

@@ -1,2 +1,0 @@
--- Both p and the answer from what the calls give.
-pub mod Lots

@@ -1,2 +1,0 @@
--- Means and scatter together, and the room that they take.
-pub mod Filling

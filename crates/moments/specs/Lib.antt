@@ -1,2 +1,0 @@
--- Section 5 of document 01: means and scatter together.
-pub mod Moments

@@ -1,3 +1,0 @@
--- The lines, one by one.
-pub mod Lines
-pub mod Words

@@ -1,3 +1,0 @@
--- The laws of pairs that are put, and of patterns.
-pub mod Cells
-mod Patterns

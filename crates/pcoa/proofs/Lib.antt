@@ -1,4 +1,0 @@
--- What the proofs of the functions share.
-pub mod Late
-pub mod Found
-pub mod Call

@@ -1,3 +1,0 @@
--- Section 4 of document 01: `pcoa`.
-pub mod Given
-pub mod Call

@@ -1,0 +1,3 @@
+-- Section 8 of document 01: the sampled test.
+pub mod Call
+pub mod inner

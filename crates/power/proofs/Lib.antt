@@ -1,2 +1,0 @@
--- Laws of power steps.
-pub mod Fuel

@@ -1,2 +1,0 @@
--- Section 4 of document 01: the bound of the spectral radius.
-pub mod Power

@@ -1,2 +1,0 @@
--- Laws of products.
-pub mod Entries

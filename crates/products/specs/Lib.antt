@@ -1,2 +1,0 @@
--- A matrix times a block.
-pub mod Products

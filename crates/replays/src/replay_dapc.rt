@@ -1,0 +1,95 @@
+// Holds `dapc` against a record of a replay file (oracle/README.md).
+use dapc::dapc;
+use dapc_discriminant::Answer;
+use dapc_discriminant::Separation;
+use outcome::number_of;
+use replay::Held;
+use replay::after;
+use replay::product;
+use replay::word;
+
+// Whether p, the axes and the right count are those that stand from word `at` on.
+fn same_counts(b: &[u8], at: usize, s: Separation) -> bool {
+    if s.columns as u64 != word(b, at) {
+        return false;
+    }
+    if s.axes as u64 != word(b, after(at, 1)) {
+        return false;
+    }
+    s.right as u64 == word(b, after(at, 2))
+}
+
+// An answer, against that which stands from word `at` on: m, g, p, axes, right count, g labels, values, scores, groups.
+fn scored(b: &[u8], at: usize, n: usize, s: Separation, out: &[f64], assigned: &[u16]) -> bool {
+    if !same_counts(b, after(at, 2), s) {
+        return false;
+    }
+    let from = after(after(at, 5), replay::number(b, after(at, 1), 256));
+    let k = after(s.axes, product(n, s.axes));
+    if out.len() < k {
+        return false;
+    }
+    if !replay::same_floats(b, from, &out[..k]) {
+        return false;
+    }
+    replay::same_numbers(b, after(from, k), assigned)
+}
+
+// A call on the record b, whose coordinates, labels and outputs have just the lengths asked for.
+fn held(
+    b: &[u8],
+    n: usize,
+    c: usize,
+    x: &mut [f64],
+    labels: &mut [u16],
+    out: &mut [f64],
+    assigned: &mut [u16],
+) -> Held {
+    replay::read_floats(b, 3, x);
+    replay::read_numbers(b, after(3, x.len()), labels);
+    let at = after(after(3, x.len()), n);
+    match dapc(x, n, c, labels, out, assigned) {
+        Answer::Refused(r) => replay::refused(b, at, number_of(r)),
+        Answer::Scored(s) => replay::alike(
+            word(b, at) == 0 && scored(b, after(at, 1), n, s, out, assigned),
+        ),
+    }
+}
+
+// The same, with the slices cut out of larger ones.
+fn cut(b: &[u8], x: &mut [f64], labels: &mut [u16], out: &mut [f64], assigned: &mut [u16]) -> Held {
+    let n = replay::number(b, 1, 256);
+    let c = replay::number(b, 2, 16);
+    let k = product(n, c);
+    let f = after(c, k);
+    if x.len() < k {
+        return Held::Difference;
+    }
+    if out.len() < f {
+        return Held::Difference;
+    }
+    if labels.len() < n {
+        return Held::Difference;
+    }
+    if assigned.len() < n {
+        return Held::Difference;
+    }
+    held(
+        b,
+        n,
+        c,
+        &mut x[..k],
+        &mut labels[..n],
+        &mut out[..f],
+        &mut assigned[..n],
+    )
+}
+
+// The same, with room of its own.
+pub fn hold(b: &[u8]) -> Held {
+    let mut x = [0.0; 4096];
+    let mut labels = [0u16; 256];
+    let mut out = [0.0; 4112];
+    let mut assigned = [0u16; 256];
+    cut(b, &mut x, &mut labels, &mut out, &mut assigned)
+}

@@ -1,0 +1,277 @@
+// Holds `test` against a record of a replay file (oracle/README.md).
+use outcome::number_of;
+use permanova::checks::Answer;
+use permanova::test;
+use permanova_sampling::TestResult;
+use permanova_statistics::p_value::PValue;
+use replay::Held;
+use replay::after;
+use replay::product;
+use replay::same;
+use replay::word;
+
+// ---- an answer
+
+// A p, against that which stands from word `at` on. Where F is not finite there is none (docs/DIFFERENCES.md).
+fn same_p_value(b: &[u8], at: usize, f: f64, c: PValue) -> bool {
+    let finite = float::is_finite(f);
+    match c {
+        PValue::NoP => !finite || word(b, at) == 0,
+        PValue::P(p) => finite && word(b, at) == 1 && same(p, word(b, after(at, 1))),
+    }
+}
+
+// The warnings, which stand at word `at`. Bits 5 and 6 read both p.
+fn same_warnings(b: &[u8], at: usize, r: TestResult) -> bool {
+    let s = r.summary;
+    if float::is_finite(r.f) && float::is_finite(r.disp_f) {
+        return s.warnings as u64 == word(b, at);
+    }
+    s.warnings as u64 == word(b, at) % 32
+}
+
+// Location: F, r2 and p.
+fn same_location(b: &[u8], at: usize, r: TestResult) -> bool {
+    let p = r.p;
+    let s = r.summary;
+    same(r.f, word(b, at))
+        && same(s.r2, word(b, after(at, 1)))
+        && same_p_value(b, after(at, 2), r.f, p)
+}
+
+// Dispersion: F and p.
+fn same_dispersion(b: &[u8], at: usize, r: TestResult) -> bool {
+    let p = r.disp_p;
+    same(r.disp_f, word(b, at)) && same_p_value(b, after(at, 1), r.disp_f, p)
+}
+
+// The record: m, g, location, dispersion, the informative fraction and the warnings.
+fn same_result(b: &[u8], at: usize, r: TestResult) -> bool {
+    let s = r.summary;
+    if s.n as u64 != word(b, at) {
+        return false;
+    }
+    if s.n_groups as u64 != word(b, after(at, 1)) {
+        return false;
+    }
+    if !same_location(b, after(at, 2), r) {
+        return false;
+    }
+    if !same_dispersion(b, after(at, 6), r) {
+        return false;
+    }
+    same(s.informative_fraction, word(b, after(at, 9))) && same_warnings(b, after(at, 10), r)
+}
+
+// Each group's label, count and mean z.
+fn same_groups(
+    b: &[u8],
+    at: usize,
+    g: usize,
+    group_labels: &[u16],
+    counts: &[u16],
+    means: &[f64],
+) -> bool {
+    if group_labels.len() < g {
+        return false;
+    }
+    if counts.len() < g {
+        return false;
+    }
+    if means.len() < g {
+        return false;
+    }
+    for k in 0..g {
+        if !same_group(
+            b,
+            after(at, product(3, k)),
+            group_labels[k],
+            counts[k],
+            means[k],
+        ) {
+            return false;
+        }
+    }
+    true
+}
+
+fn same_group(b: &[u8], at: usize, name: u16, count: u16, mean: f64) -> bool {
+    name as u64 == word(b, at)
+        && count as u64 == word(b, after(at, 1))
+        && same(mean, word(b, after(at, 2)))
+}
+
+// ---- a call
+
+// Where each part of a record of n samples begins.
+pub struct Places {
+    labels: usize,
+    strata: usize,
+    weights: usize,
+    shuffles: usize,
+}
+
+// The place after a list of n words, if the word before it says that it is given.
+fn past(b: &[u8], at: usize, n: usize) -> usize {
+    if word(b, at) == 0 {
+        after(at, 1)
+    } else {
+        after(after(at, 1), n)
+    }
+}
+
+fn find(b: &[u8], n: usize) -> Places {
+    let labels = after(2, replay::matrix_words(b, 2, n));
+    let strata = after(labels, n);
+    let weights = past(b, strata, n);
+    Places {
+        labels,
+        strata,
+        weights,
+        shuffles: past(b, weights, n),
+    }
+}
+
+// A call on the record b, with slices of just the lengths asked for.
+fn held(
+    b: &[u8],
+    n: usize,
+    d: &mut [f64],
+    labels: &mut [u16],
+    strata: &mut [u16],
+    weights: &mut [f64],
+    group_labels: &mut [u16],
+    counts: &mut [u16],
+    means: &mut [f64],
+    pair_terms: &mut [f64],
+    weighted_squares: &mut [f64],
+) -> Held {
+    let p = find(b, n);
+    replay::read_matrix(b, 2, n, d);
+    replay::read_numbers(b, p.labels, labels);
+    replay::read_numbers(b, after(p.strata, 1), strata);
+    replay::read_floats(b, after(p.weights, 1), weights);
+    let at = after(p.shuffles, 2);
+    let r = test(
+        n,
+        d,
+        labels,
+        word(b, p.strata) == 1,
+        strata,
+        word(b, p.weights) == 1,
+        weights,
+        word(b, after(p.shuffles, 1)),
+        word(b, p.shuffles),
+        group_labels,
+        counts,
+        means,
+        pair_terms,
+        weighted_squares,
+    );
+    judge(b, at, r, group_labels, counts, means)
+}
+
+// What came of it, against the outcome that begins at word `at`.
+fn judge(
+    b: &[u8],
+    at: usize,
+    r: Answer,
+    group_labels: &[u16],
+    counts: &[u16],
+    means: &[f64],
+) -> Held {
+    match r {
+        Answer::Refused(e) => replay::refused(b, at, number_of(e)),
+        Answer::Tested(t) => {
+            let s = t.summary;
+            replay::alike(
+                word(b, at) == 0
+                    && same_result(b, after(at, 1), t)
+                    && same_groups(b, after(at, 12), s.n_groups, group_labels, counts, means),
+            )
+        }
+    }
+}
+
+// The same for two matrices and the samples, cut out of larger ones.
+fn cut_samples(
+    b: &[u8],
+    n: usize,
+    d: &mut [f64],
+    pair_terms: &mut [f64],
+    weighted_squares: &mut [f64],
+    labels: &mut [u16],
+    strata: &mut [u16],
+    weights: &mut [f64],
+) -> Held {
+    let mut group_labels = [0u16; 256];
+    let mut counts = [0u16; 256];
+    let mut means = [0.0; 256];
+    if labels.len() < n {
+        return Held::Difference;
+    }
+    if strata.len() < n {
+        return Held::Difference;
+    }
+    if weights.len() < n {
+        return Held::Difference;
+    }
+    held(
+        b,
+        n,
+        d,
+        &mut labels[..n],
+        &mut strata[..n],
+        &mut weights[..n],
+        &mut group_labels,
+        &mut counts,
+        &mut means,
+        pair_terms,
+        weighted_squares,
+    )
+}
+
+fn cut(
+    b: &[u8],
+    d: &mut [f64],
+    pair_terms: &mut [f64],
+    weighted_squares: &mut [f64],
+    labels: &mut [u16],
+    strata: &mut [u16],
+    weights: &mut [f64],
+) -> Held {
+    let n = replay::number(b, 1, 256);
+    let k = product(n, n);
+    if d.len() < k {
+        return Held::Difference;
+    }
+    cut_samples(
+        b,
+        n,
+        &mut d[..k],
+        pair_terms,
+        weighted_squares,
+        labels,
+        strata,
+        weights,
+    )
+}
+
+// The same, with room of its own.
+pub fn hold(b: &[u8]) -> Held {
+    let mut d = [0.0; 65536];
+    let mut pair_terms = [0.0; 65536];
+    let mut weighted_squares = [0.0; 65536];
+    let mut labels = [0u16; 256];
+    let mut strata = [0u16; 256];
+    let mut weights = [0.0; 256];
+    cut(
+        b,
+        &mut d,
+        &mut pair_terms,
+        &mut weighted_squares,
+        &mut labels,
+        &mut strata,
+        &mut weights,
+    )
+}

@@ -1,2 +1,0 @@
--- The ridge, worked out and added.
-pub mod Ridge

@@ -1,0 +1,186 @@
+// Calls of `gram_matrix` on document 01's case (j), on sets with repeats and on sets that are turned away, a line for each.
+use crate::shown::all_are;
+use crate::shown::all_words;
+use libc::STDOUT_FILENO;
+use ordination_gram::Answer;
+use ordination_gram::gram_matrix;
+use outcome::number_of;
+
+// Whether x begins with y.
+fn begins(x: &[f64], y: &[f64]) -> bool {
+    if x.len() < y.len() {
+        return false;
+    }
+    for i in 0..y.len() {
+        if x[i] != y[i] {
+            return false;
+        }
+    }
+    true
+}
+
+fn tell(ok: bool) {
+    if ok {
+        io::write_all(STDOUT_FILENO, b"right\n");
+    } else {
+        io::write_all(STDOUT_FILENO, b"wrong\n");
+    }
+}
+
+// Four sets: so many selected hashes, the matrix `expected` in front of `out`, whose rest stays, and `words` all zero.
+fn answered(hashes: &[u64], offsets: &[usize], m: usize, expected: &[f64]) -> bool {
+    let mut out = [9.0; 18];
+    let mut words = [7u64; 260];
+    let Answer::Features(k) = gram_matrix(hashes, offsets, 4, &mut out, &mut words) else {
+        return false;
+    };
+    if k != m {
+        return false;
+    }
+    if !begins(&out, expected) {
+        return false;
+    }
+    if !all_are(&out[16..], 9.0) {
+        return false;
+    }
+    all_words(&words, 0)
+}
+
+// Sets {5}, {5}, {}, {}.
+fn case_j() -> bool {
+    let hashes = [5u64, 5];
+    let offsets = [0usize, 1, 2, 2, 2];
+    let p = 0.25;
+    let q = -0.25;
+    answered(
+        &hashes,
+        &offsets,
+        1,
+        &[p, p, q, q, p, p, q, q, q, q, p, p, q, q, p, p],
+    )
+}
+
+// Sets {1, 1, 2}, {2, 3}, {3}, {9}: the hash 1 stands in one set only, twice, and is selected; 9 is not.
+fn repeats() -> bool {
+    let hashes = [1u64, 1, 2, 2, 3, 3, 9];
+    let offsets = [0usize, 3, 5, 6, 7];
+    answered(
+        &hashes,
+        &offsets,
+        3,
+        &[
+            -0.25,
+            -0.75,
+            -1.25,
+            -0.75,
+            -0.75,
+            0.75,
+            0.25,
+            -0.25,
+            -1.25,
+            0.25,
+            0.75,
+            0.25,
+            -0.75,
+            -0.25,
+            0.25,
+            0.75,
+        ],
+    )
+}
+
+// Turned away with the number k: both slices untouched.
+fn refused(k: u8, hashes: &[u64], offsets: &[usize], n: usize) -> bool {
+    let mut out = [9.0; 16];
+    let mut words = [7u64; 256];
+    let Answer::Refused(r) = gram_matrix(hashes, offsets, n, &mut out, &mut words) else {
+        return false;
+    };
+    if number_of(r) != k {
+        return false;
+    }
+    if !all_are(&out, 9.0) {
+        return false;
+    }
+    all_words(&words, 7)
+}
+
+// 0, 1, .., m - 1, over and over.
+fn over_and_over(h: &mut [u64], m: u64) {
+    if m == 0 {
+        return;
+    }
+    let mut x = 0;
+    for i in 0..h.len() {
+        h[i] = x;
+        x = (x + 1) % m;
+    }
+}
+
+// 4,096 selected hashes pass.
+fn widest() -> bool {
+    let mut h = [0u64; 8192];
+    over_and_over(&mut h, 4096);
+    let mut out = [9.0; 9];
+    let mut words = [7u64; 192];
+    let Answer::Features(k) = gram_matrix(&h, &[0, 4096, 8192, 8192], 3, &mut out, &mut words)
+    else {
+        return false;
+    };
+    if k != 4096 {
+        return false;
+    }
+    all_words(&words, 0)
+}
+
+// 4,097 are turned away.
+fn too_wide() -> bool {
+    let mut h = [0u64; 8194];
+    over_and_over(&mut h, 4097);
+    refused(7, &h, &[0, 4097, 8194, 8194], 3)
+}
+
+// 65,536 hashes pass the limit, and have none that can be used; one more is beyond it.
+fn longest() -> bool {
+    let h = [5u64; 65537];
+    if !refused(6, &h[..65536], &[0, 65536, 65536, 65536], 3) {
+        return false;
+    }
+    refused(2, &h, &[0, 65537, 65537, 65537], 3)
+}
+
+// 257 samples.
+fn too_many() -> bool {
+    let h = [5u64; 1];
+    let offsets = [0usize; 258];
+    let mut out = [9.0; 66049];
+    let mut words = [7u64; 16448];
+    let Answer::Refused(r) = gram_matrix(&h[..0], &offsets, 257, &mut out, &mut words) else {
+        return false;
+    };
+    if number_of(r) != 2 {
+        return false;
+    }
+    if !all_are(&out, 9.0) {
+        return false;
+    }
+    all_words(&words, 7)
+}
+
+pub fn run() {
+    let two = [5u64, 5];
+    let other = [5u64, 6];
+    tell(case_j());
+    tell(repeats());
+    tell(refused(1, &two, &[0, 1, 2, 2, 2], 5));
+    tell(refused(1, &two, &[0, 1, 2, 2, 2], 18446744073709551615));
+    tell(refused(1, &two, &[0, 1, 2, 2, 1], 4));
+    tell(refused(1, &two, &[0, 2, 1, 2, 2], 4));
+    tell(refused(1, &two, &[1, 1, 2, 2, 2], 4));
+    tell(refused(6, &two, &[0, 1, 2], 2));
+    tell(refused(6, &other, &[0, 1, 2, 2, 2], 4));
+    tell(widest());
+    tell(too_wide());
+    tell(longest());
+    tell(too_many());
+}

@@ -1,3 +1,0 @@
--- Section 8 of document 01: the sampled test.
-pub mod Call
-pub mod Runs

@@ -1,2 +1,0 @@
--- The laws that the proofs of `sampled_hits` share.
-pub mod Tally

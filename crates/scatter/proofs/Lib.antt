@@ -1,2 +1,0 @@
--- The laws of scatter.
-pub mod Scatter

@@ -1,2 +1,0 @@
--- A branch by a test.
-pub mod Chosen

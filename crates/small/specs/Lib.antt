@@ -1,2 +1,0 @@
--- Section 4 of document 01: the small matrix of a block.
-pub mod Small

@@ -1,2 +1,0 @@
--- Sorting the places of a list by dealing them digit by digit.
-pub mod Sorting

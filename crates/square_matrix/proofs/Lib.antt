@@ -1,2 +1,0 @@
--- The mean of a matrix and its transpose.
-pub mod Evening

@@ -1,3 +1,0 @@
--- Sections 4 and 5 of document 01: words of square matrices, row by row.
-pub mod Trace
-pub mod Symmetric

@@ -1,2 +1,0 @@
--- Section 2 of document 01: which strata inform, told in turn.
-pub mod Told

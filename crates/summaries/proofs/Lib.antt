@@ -1,2 +1,0 @@
--- The summary from its parts.
-pub mod Parts

@@ -1,3 +1,0 @@
--- The laws of lines, and of the end.
-pub mod Lines
-mod End

@@ -1,0 +1,2 @@
+-- The theorems on the lot judge in one place.
+pub mod Theorems

@@ -1,2 +1,0 @@
--- The lines, one by one.
-pub mod Lines

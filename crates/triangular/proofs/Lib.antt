@@ -1,2 +1,0 @@
--- The lengths of what is solved.
-pub mod Solved

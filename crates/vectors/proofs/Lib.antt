@@ -1,2 +1,0 @@
--- Laws of loops over the entries of vectors.
-pub mod Entries

@@ -1,2 +1,0 @@
--- The laws of the walk.
-pub mod Turned

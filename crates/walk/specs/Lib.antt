@@ -1,2 +1,0 @@
--- Section 6 of document 01: the walk with three hit counts.
-pub mod Walked

@@ -1,2 +1,0 @@
--- The laws of hits.
-pub mod WayHits

@@ -1,5 +1,0 @@
--- Every way (section 6 of document 01): the ways, their number M, and the walk as the code holds it.
-pub mod Ways
-pub mod Every
-pub mod Onward
-pub mod Order
