@@ -2,7 +2,7 @@
 use Rattle.lists.proofs.Base.{ap, [], _∷_, arith, getD, replicate}
 use lib.Ieee.{add, sub, mul, div, neg, ofBits, toBits, ofInt, odd, size}
 use Rattle.float.specs.Floats.{zero⁺, 2·0, bits}
-use Rattle.float.proofs.Cases.{root-of-smallest, root-of-two}
+use Rattle.square_root.proofs.Cases.{root-of-smallest, root-of-two}
 use Rattle.lists.specs.{Ranges.upFrom, Ranges.table, Ranges.rows, Ranges.grid, Filters.filter, Filters.countIf, Filters.any}
 use Rattle.lists.specs.{Numbers.howMany, Numbers.contains, Numbers.insertUp, Numbers.upward, Sums.sumFrom, Writes.over, Writes.cleared}
 use Rattle.ordination_hashes.specs.{Sets.setAt, Sets.sets, Selected.selected, Selected.frequency}

@@ -8,7 +8,7 @@ use lib.IntN.{negsuc}
 use lib.ListN.{take, replicate}
 use lib.Ieee.{fin}
 use Rattle.float.specs.Floats.{zero⁺, 1·0, 2·0, 3·0, num, bits}
-use Rattle.float.specs.Root.{root}
+use Rattle.square_root.specs.Root.{root}
 use Rattle.outcome.specs.Outcome.{Outcome, answered, refused, code}
 use Rattle.lot.specs.Lot.{Lot, lotOf}
 use Rattle.lot.specs.Cases.{example, zeros, three}

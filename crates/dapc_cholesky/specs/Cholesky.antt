@@ -6,7 +6,7 @@ use lib.Dec.{eqb}
 use lib.ListN.{set, replicate}
 use lib.Ieee.{Float, lt}
 use Rattle.float.specs.Floats.{_⊖_, _⊗_, _⊘_, zero⁺}
-use Rattle.float.specs.Root.{root}
+use Rattle.square_root.specs.Root.{root}
 use Rattle.lists.specs.Ranges.{range}
 use Rattle.lists.specs.Loops.{inTurn}
 use Rattle.lists.specs.Filters.{any}

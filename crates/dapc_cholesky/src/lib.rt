@@ -39,7 +39,7 @@ fn factor_pivot(l: &mut [f64], a: &[f64], p: usize, i: usize) -> f64
     ensures { λ r. ⌜ (now (l .exit) ≡ cholEntry p (now (a .entry)) i i (now (l .entry))) × (r ≡ reduced p (now (a .entry)) (now (l .entry)) i i) ⌝ }
 {
     let s = reduce(a, l, p, i, i);
-    let r = float::sqrt(s);
+    let r = square_root::sqrt(s);
     l[i * p + i] = r;
     s
 }

@@ -6,7 +6,7 @@ use lib.ListN.{getD, set}
 use lib.Ieee.{Float, nan, lt, eq}
 use Rattle.float.specs.Floats.{_⊕_, _⊖_, _⊗_, _⊘_, zero⁺, 1·0, 2·0, 1e-300}
 use Rattle.float.specs.Order.{magnitude, signum}
-use Rattle.float.specs.Root.{root}
+use Rattle.square_root.specs.Root.{root}
 use Rattle.lists.specs.Loops.{inTurn}
 use Rattle.lists.specs.Rows.{entry, row, putRow, onRow}
 

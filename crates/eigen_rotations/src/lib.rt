@@ -85,14 +85,14 @@ fn tangent(app: f64, aqq: f64, apq: f64) -> f64
     if theta == 0.0 {
         return 1.0;
     }
-    float::signum(theta) / (float::abs(theta) + float::sqrt(theta * theta + 1.0))
+    float::signum(theta) / (float::abs(theta) + square_root::sqrt(theta * theta + 1.0))
 }
 
 // The cosine of the angle with tangent t.
 fn cosine(t: f64) -> f64
     ensures { λ r. ⌜ r ≡ Rotation.cosine t ⌝ }
 {
-    1.0 / float::sqrt(t * t + 1.0)
+    1.0 / square_root::sqrt(t * t + 1.0)
 }
 
 // The rotation of the pair p, q. x and y hold the rows p.

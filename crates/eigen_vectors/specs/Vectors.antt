@@ -3,7 +3,7 @@ use mathlib.Core.List.{List, map, zipWith}
 use lib.Ieee.{Float}
 use Rattle.float.specs.Floats.{_⊕_, _⊖_, _⊗_, _⊘_, 1e-300}
 use Rattle.float.specs.Order.{larger}
-use Rattle.float.specs.Root.{root}
+use Rattle.square_root.specs.Root.{root}
 use Rattle.lists.specs.Sums.{sum⁻}
 
 -- the inner product

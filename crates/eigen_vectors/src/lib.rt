@@ -56,7 +56,7 @@ pub fn dot_four(a: &[f64], b: &[f64], c: &[f64], d: &[f64], x: &[f64]) -> Four
 pub fn norm(x: &[f64]) -> f64
     ensures { λ r. ⌜ r ≡ norm (now (x .entry)) ⌝ }
 {
-    float::sqrt(dot(x, x))
+    square_root::sqrt(dot(x, x))
 }
 
 // Row i of a matrix and row j of another.

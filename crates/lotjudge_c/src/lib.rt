@@ -6,7 +6,7 @@ ghost use mathlib.Core.Bool.{_||_};
 ghost use Prim.Native.Nat.{min};
 ghost use lib.Dec.{ltb};
 ghost use Rattle.limits.specs.Limits.{mostColumns, mostPrinted, mostSamples};
-ghost use Rattle.float.specs.Root.{root};
+ghost use Rattle.square_root.specs.Root.{root};
 ghost use Rattle.lot.specs.Lot.{lotOf};
 ghost use Rattle.permanova.specs.Call.{slicesOf, testCall};
 ghost use Rattle.exhaustive_hits.specs.Call as ways;
@@ -255,7 +255,7 @@ pub extern "C" fn lotjudge_judge(text: &[u8], out: &mut [u8; limits::MOST_PRINTE
 pub extern "C" fn lotjudge_sqrt(x: f64) -> f64
     ensures { λ r. ⌜ r ≡ root x ⌝ }
 {
-    float::sqrt(x)
+    square_root::sqrt(x)
 }
 
 // ---- the lengths that are asked

@@ -6,7 +6,7 @@ use lib.ListN.{length, getD}
 use lib.Ieee.{Float, nan, lt}
 use Rattle.float.specs.Floats.{_⊗_, _⊘_, zero⁺}
 use Rattle.float.specs.Order.{larger}
-use Rattle.float.specs.Root.{root}
+use Rattle.square_root.specs.Root.{root}
 use Rattle.lists.specs.Ranges.{grid}
 use Rattle.lists.specs.Rows.{entry}
 use Rattle.ordination_coordinates.specs.Signs.{signs}

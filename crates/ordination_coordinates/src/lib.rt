@@ -20,7 +20,7 @@ ghost use Rattle.ordination_coordinates.specs.Finish as spec;
 fn scale_of(v: f64) -> f64
     ensures { λ r. ⌜ r ≡ scaleOf v ⌝ }
 {
-    float::sqrt(float::max(v, 0.0))
+    square_root::sqrt(float::max(v, 0.0))
 }
 
 // The scale of each value.

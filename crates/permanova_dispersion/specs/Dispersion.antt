@@ -7,7 +7,7 @@ use lib.ListN.{getD}
 use lib.Ieee.{Float, lt}
 use Rattle.float.specs.Floats.{_⊖_, _⊗_, _⊘_, zero⁺, 2·0}
 use Rattle.float.specs.Order.{larger}
-use Rattle.float.specs.Root.{root}
+use Rattle.square_root.specs.Root.{root}
 use Rattle.lists.specs.Ranges.{table}
 use Rattle.lists.specs.Filters.{any, orderedPairs}
 use Rattle.lists.specs.Numbers.{members}

@@ -47,7 +47,7 @@ fn value_of(weighted_squares: f64, s: f64, ins: f64) -> f64
 fn distance_of(v: f64) -> f64
     ensures { λ r. ⌜ r ≡ distanceOf v ⌝ }
 {
-    float::sqrt(float::max(v, 0.0))
+    square_root::sqrt(float::max(v, 0.0))
 }
 
 // Each value becomes its distance.

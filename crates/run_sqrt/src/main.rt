@@ -82,7 +82,7 @@ fn show(x: f64) {
 fn line(b: u64) {
     io::print_hex(STDOUT_FILENO, b, 16);
     io::write_all(STDOUT_FILENO, b" ");
-    show(float::sqrt(value(b)));
+    show(square_root::sqrt(value(b)));
 }
 
 // The patterns above.

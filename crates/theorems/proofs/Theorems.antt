@@ -3,7 +3,7 @@
 --
 -- What the theorems speak of is what the operations do: each public contract equates the outcome of any call, the answer and all that the lent slices hold
 -- afterwards, with one definition of specs/.
---   `sqrt`          `root`                            float/specs/Root
+--   `sqrt`          `root`                            square_root/specs/Root
 --   `abs`, `max`    `magnitude`, `larger`             float/specs/Order
 --   `signum`        `signum`                          float/specs/Order
 --   `is_finite`     `finite`                          of the toolchain, lib.Ieee.Scale
@@ -49,7 +49,7 @@ use Rattle.judge_frames.specs.{Frames.readLot, Frames.several, Frames.isPair, F
 use Rattle.judge_frames.specs.{Fits.Fits, Call.readCall, Call.called, Call.fronts}
 use Rattle.judge.specs.Judge.{judgeText}
 use Rattle.cases.specs.{Text.bytes, Example.input, Example.upper, Example.output, Cases.cases, Cases.Hold}
-use Rattle.float.proofs.Nearest as Nearest
+use Rattle.square_root.proofs.Nearest as Nearest
 use Rattle.float.proofs.Rank as Rank
 use Rattle.float.proofs.Rounding as Rounding
 use Rattle.float.proofs.Tolerance as Tolerance

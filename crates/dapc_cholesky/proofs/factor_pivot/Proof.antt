@@ -1,6 +1,6 @@
 -- `dapc_cholesky::factor_pivot` meets its contract. One store, of the root.
 use Rattle.lists.proofs.Base.{refl, ap, _∙_, _+_, _*_, _<_, arith, needs, eq-eqb, set, length-set}
-use Rattle.float.specs.Root.{root}
+use Rattle.square_root.specs.Root.{root}
 use Rattle.lists.proofs.Rows.{cell-below}
 use Rattle.dapc_cholesky.specs.Cholesky.{cholEntry}
 use Rattle.dapc_cholesky.proofs.factor_pivot.Tie as tie

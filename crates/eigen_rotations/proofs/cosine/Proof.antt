@@ -1,4 +1,4 @@
--- `eigen_rotations::cosine` meets its contract. The root is that of `float::sqrt`.
+-- `eigen_rotations::cosine` meets its contract. The root is that of `square_root::sqrt`.
 use borrow.Author.Needs.{needs}
 use Rattle.eigen_rotations.specs.Rotation.{cosine}
 use Rattle.eigen_rotations.proofs.cosine.Tie as tie

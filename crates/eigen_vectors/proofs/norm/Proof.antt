@@ -1,6 +1,6 @@
 -- `eigen_vectors::norm` meets its contract. The root of the inner product with itself.
 use Rattle.lists.proofs.Base.{ap, _∙_, needs}
-use Rattle.float.specs.Root.{root}
+use Rattle.square_root.specs.Root.{root}
 use Rattle.eigen_vectors.specs.Vectors.{dot, norm}
 use Rattle.eigen_vectors.proofs.norm.Tie as tie
 

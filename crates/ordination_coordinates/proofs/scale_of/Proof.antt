@@ -1,6 +1,6 @@
 -- `ordination_coordinates::scale_of` meets its contract. Two calls.
 use Rattle.lists.proofs.Base.{ap, _∙_, needs}
-use Rattle.float.specs.Root.{root}
+use Rattle.square_root.specs.Root.{root}
 use Rattle.ordination_coordinates.specs.Finish.{scaleOf}
 use Rattle.ordination_coordinates.proofs.scale_of.Tie as tie
 

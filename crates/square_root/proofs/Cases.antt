@@ -3,7 +3,8 @@ use mathlib.Core.Path.{_≡_, refl}
 use lib.IntN.{negsuc}
 use lib.Ieee.{fin, size, odd, ofBits, toBits}
 use mathlib.Core.Bool.{false}
-use Rattle.float.specs.{Floats.bits, Floats.2·0, Root.isqrt, Root.rootOf, Root.root}
+use Rattle.float.specs.Floats.{bits, 2·0}
+use Rattle.square_root.specs.Root.{isqrt, rootOf, root}
 
 -- (a) the root of 2 ^ -1074, the smallest f64 above zero, is 2 ^ -537
 pub root-of-smallest : root (fin false 1 (negsuc 1073)) ≡ fin false 1 (negsuc 536)

@@ -1,9 +1,9 @@
--- Section 1: the square root. `root` is what `float::sqrt` returns, and antt computes it; `Nearest` says what IEEE 754 asks of it. Definitions only.
+-- Section 1: the square root. `root` is what `square_root::sqrt` returns, and antt computes it; `Nearest` says what IEEE 754 asks of it. Definitions only.
 use Prim.Native.Nat.{ℕ, zero, suc, _+_, _*_, _/_, _^_}
 use mathlib.Core.Bool.{true, false, cond}
 use lib.Dec.{leb}
 use lib.Ieee.{Float, nan, inf, fin, size, odd}
 use Rattle.float.specs.Value.{units}
 
 -- the largest r with r * r ≤ n, for an n below 4 ^ d: one binary digit of r for each of d
 unfoldable pub isqrt : ℕ → ℕ → ℕ

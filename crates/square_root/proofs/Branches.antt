@@ -1,4 +1,4 @@
--- What the tests of `float::sqrt` say of its argument: which values are above zero, finite, zero, and what is left.
+-- What the tests of `square_root::sqrt` say of its argument: which values are above zero, finite, zero, and what is left.
 use mathlib.Core.Path.{_≡_, refl, sym, ap, _∙_, subst}
 use mathlib.Core.Logic.{inl, inr}
 use Prim.Native.Nat.{ℕ, zero, suc, _+_, _-_, _*_, _/_, _^_, _≤_, _<_}
@@ -10,10 +10,11 @@ use lib.Ieee.{Float, nan, inf, fin, binary64, up, size, fits, isNan, lt, eq, div
 use lib.Ieee.Digits.{size-le}
 use lib.Ieee.Fits.{up-pos, kept-lt}
 use lib.Ieee.Positive.{positive, positive-finite, above}
-use Rattle.float.specs.{Floats.zero⁺, Value.units, Root.rootOf, Root.root}
+use Rattle.float.specs.{Floats.zero⁺, Value.units}
+use Rattle.square_root.specs.Root.{rootOf, root}
 use Rattle.float.specs.inner.Pattern.{unitsOf}
 use Rattle.float.proofs.{Signed.SignedEq, Units.units-lt, Units.units-pos, Units.pattern-units, Units.unitsOf-bits}
 use Rattle.float.proofs.Signs.{eq-zero, zero-lt, zero-is}
 
 -- ---- above zero
 pub above-of : (x : Float) → T (lt zero⁺ x) → T (above x)

@@ -4,8 +4,8 @@ use mathlib.Core.Path.{_≡_, sym}
 use Prim.Native.Nat.{ℕ, _+_, _*_, _/_, _%_, _^_, _≤_, _<_}
 use native.Mathlib.Nat.{mul-le-mul}
 use native.Mathlib.Omega.{arith}
-use Rattle.float.specs.Root.{isqrt}
-use Rattle.float.proofs.Isqrt.{IsRoot, square-le, isqrt-54}
+use Rattle.square_root.specs.Root.{isqrt}
+use Rattle.square_root.proofs.Isqrt.{IsRoot, square-le, isqrt-54}
 
 -- The two parts of the guess, a and b, with what they leave: d of 4 * m, e of d * 2 ^ 24, and rest, each a difference modulo 2 ^ 64.
 pub record Tested (m a d b e rest : ℕ) : Type 0 where

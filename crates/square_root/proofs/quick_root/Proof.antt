@@ -1,10 +1,10 @@
--- `float::quick_root` meets its contract: `rest` is exact, and what it is tested for tells the root (`Certificate`). No product wraps, since its factors have few digits.
+-- `square_root::quick_root` meets its contract: `rest` is exact, and what it is tested for tells the root (`Certificate`). No product wraps, since its factors have few digits.
 use Prim.Native.Nat.{ℕ, _*_, _/_, _≤_}
 use native.Mathlib.Nat.{mul-le-mul}
 use native.Mathlib.Omega.{arith}
 use borrow.Author.Needs.{needs}
-use Rattle.float.proofs.Certificate.{Tested, stays, goes-up}
-use Rattle.float.proofs.quick_root.Tie as tie
+use Rattle.square_root.proofs.Certificate.{Tested, stays, goes-up}
+use Rattle.square_root.proofs.quick_root.Tie as tie
 
 -- the upper part, with what it leaves
 abbrev a : tie.Start → ℕ
@@ -51,7 +51,7 @@ tested c =
       of-rest = c .before .wrapping-sub-u643 .ensures;
     }
 
-pub quick-root-spec : {M : Type 1} → Rattle.float.proofs.quick_root.Statement.statement M
+pub quick-root-spec : {M : Type 1} → Rattle.square_root.proofs.quick_root.Statement.statement M
 quick-root-spec = tie.close (tie.spec (λ c. omega (arith, product c)) (λ c. search needs) (λ c. omega (arith, mul-le-mul (a-few c) (a-few c)))
     (λ c κs. search needs) (λ c. search needs) (λ c. omega (arith, product-2 c)) (λ c. search needs)
     (λ c. omega (arith, mul-le-mul (a-few (c .before .before)) (b-few c))) (λ c κs. search needs) (λ c. search needs)

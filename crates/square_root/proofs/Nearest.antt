@@ -13,9 +13,10 @@ use lib.Pow.{pow-add, pow-pos, pow-mono, shl-lt}
 use lib.Ieee.{Float, nan, inf, fin, binary64, size, odd, fits}
 use lib.Ieee.Digits.{size-lt, size-le, size-reaches, back}
 use lib.Ieee.Positive.{positive, positive-finite}
-use Rattle.float.specs.{Value.units, Root.isqrt, Root.rootOf, Root.root, Nearest.NearestRoot}
-use Rattle.float.proofs.Isqrt.{IsRoot, square-le, isqrt-root}
+use Rattle.float.specs.Value.{units}
+use Rattle.square_root.specs.{Root.isqrt, Root.rootOf, Root.root, Nearest.NearestRoot}
+use Rattle.square_root.proofs.Isqrt.{IsRoot, square-le, isqrt-root}
 use Rattle.float.proofs.Units.{Grid, size-gt, units-injective, units-grid, units-lt, units-pos, made-units, made-fits, made-positive}
 
 -- ---- the neighbours of q * 2 ^ k among the numbers of 53 digits
 -- a number of the grid is a multiple of 2 ^ k, or below 2 ^ 52 * 2 ^ k

@@ -7,10 +7,11 @@ use native.Mathlib.Omega.{arith}
 use mathlib.Core.Bool.{false}
 use lib.Pow.{pow-add, pow-pos}
 use lib.Ieee.{binary64, size, odd, ofBits}
-use Rattle.float.specs.Root.{isqrt, rootOf}
-use Rattle.float.specs.inner.Pattern.{Normal}
-use Rattle.float.proofs.{Isqrt.square-le, Isqrt.isqrt-root, Units.size-exact, Units.made-bits}
-use Rattle.float.proofs.Nearest.{halved, scaled, rootOf-is}
+use Rattle.square_root.specs.Root.{isqrt, rootOf}
+use Rattle.square_root.specs.inner.Normal.{Normal}
+use Rattle.float.proofs.Units.{size-exact, made-bits}
+use Rattle.square_root.proofs.Isqrt.{square-le, isqrt-root}
+use Rattle.square_root.proofs.Nearest.{halved, scaled, rootOf-is}
 
 -- w is m, or 2 * m where z is even, so that w times an even power of two is m * 2 ^ (z + 1)
 pub record Wide (m z w : ℕ) : Type 0 where
