@@ -14,28 +14,29 @@
  * Calls are reentrant: there are no variables between calls, no heap, no locks and no input or output. Of other libraries only memcpy and
  * memset are called.
  *
- * REFUSALS, the lowest that applies:
+ * REFUSALS, the first that applies, in the order in which they stand here:
  *   1  a length does not fit n, offsets are not as told below, or an output or work slice is short
  *   2  n above 256; n_perm above 999,999; components 0 or above 16; over 65,536 hashes; columns above 16
  *   3  a distance NaN, below 0 or above 2^20; a coordinate NaN or beyond 2^40 in magnitude; an entry of the matrix of jacobi_eigen or
  *      top_eigs NaN or infinite. -0.0 is not below 0
  *   4  a weight not within 2^-20 to 2^20
  *   5  fewer than two labels held by two samples
- *   6  ordination (pcoa, hash_pca, gram_matrix) of fewer than 3 samples, or no hash with frequency 2 to n - 1
+ *   6  ordination (pcoa, hash_pca, gram_matrix) of fewer than 3 samples
+ *  13  no hash with frequency 2 to n - 1 (hash_pca, gram_matrix)
  *   7  over 4,096 such hashes
  *   8  more than 20,000 ways
  *   9  fewer than 2 columns can be used: columns, or kept samples less groups less 1 if that is fewer
  *  10  a Cholesky pivot not above 0, which a NaN is not (no coordinates that pass 3 are known to lead there)
  *  11  a NaN among values to be ordered
- * test returns 0 to 5; exhaustive 0 to 5, 8 and 11; pcoa 0 to 3, 6 and 11; hash_pca 0, 1, 2, 6, 7 and 11; dapc 0 to 3, 5, 9, 10 and 11;
- * jacobi_eigen and top_eigs 0 to 3 and 11; gram_matrix 0, 1, 2, 6 and 7.
+ * test returns 0 to 5; exhaustive 0 to 5, 8 and 11; pcoa 0 to 3, 6 and 11; hash_pca 0, 1, 2, 6, 7, 11 and 13; dapc 0 to 3, 5, 9, 10
+ * and 11; jacobi_eigen and top_eigs 0 to 3 and 11; gram_matrix 0, 1, 2, 6, 7 and 13.
  * judge tells 3, 5, 8 and 11 in its text, and 12: the text is not in the form that README.md has.
  *
  * WHAT ARRAYS HOLD AFTERWARDS, by the number returned:
- *             outputs                                             work        values, numbers, selected, sweeps
- *   0         the first entries are written, the rest as before   all 0       written
- *   1 to 9    as before                                           as before   as before
- *   10, 11    the same first entries are 0, the rest as before    all 0       as before
+ *                outputs                                             work        values, numbers, selected, sweeps
+ *   0            the first entries are written, the rest as before   all 0       written
+ *   1 to 9, 13   as before                                           as before   as before
+ *   10, 11       the same first entries are 0, the rest as before    all 0       as before
  * Each function says how many entries of an output are the first ones. Work is 0 to its end, past the length that is asked too. Inputs
  * are never written.
  *

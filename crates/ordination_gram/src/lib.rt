@@ -35,7 +35,7 @@ fn counted(m: usize) -> Answer
     }
 }
 
-// Lines 1, 2, 6 and 7. `short` says that a slice of the operation is short, `beyond` that another of its arguments is beyond its limit. `chosen` and
+// Lines 1, 2, 6, 13 and 7. `short` says that a slice of the operation is short, `beyond` that another of its arguments is beyond its limit. `chosen` and
 // `means` lend room; where the answer is a number of hashes, the selected hashes and their means are left there for `fill_gram`.
 fn check_gram(
     chosen: &mut [u64],

@@ -44,7 +44,7 @@ leaves k n features o out b w m v words =
       words = work 0 o words;
     }
 
--- lines 1, 2, 6 and 7 of the table, and then the coordinates
+-- lines 1, 2, 6, 13 and 7 of the table, and then the coordinates
 unfoldable pub judgedCall : ℕ → ℕ → List ℕ → List ℕ → Bool → Bool → List Float → List Float → List Float → List Float → List Float → List ℕ → Called
 judgedCall k n hashes offsets short beyond out b w m v words =
     let told = first (gramLines n hashes offsets short beyond) in

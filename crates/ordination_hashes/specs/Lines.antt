@@ -1,4 +1,4 @@
--- Lines 1, 2, 6 and 7 of the table for sets of hashes (document 01, "What a turned-away lot returns"). Definitions only.
+-- Lines 1, 2, 6, 13 and 7 of the table for sets of hashes (document 01, "What a turned-away lot returns"; 13: document 02, Q-1). Definitions only.
 use Prim.Native.Nat.{ℕ, _+_, _*_}
 use mathlib.Core.Bool.{Bool, not, _||_}
 use mathlib.Core.List.{List, [], _∷_, _++_}
@@ -37,7 +37,7 @@ earlyLines n hashes offsets short beyond =
 
 -- and those that do, by the number of hashes with frequency 2 to n - 1
 unfoldable pub lateLines : ℕ → List Line
-lateLines m = (6 when eqb m 0) ∷ (7 when ltb mostSelected m) ∷ []
+lateLines m = (13 when eqb m 0) ∷ (7 when ltb mostSelected m) ∷ []
 
 unfoldable pub gramLines : ℕ → List ℕ → List ℕ → Bool → Bool → List Line
 gramLines n hashes offsets short beyond = earlyLines n (length hashes) offsets short beyond ++ lateLines (length (selected n hashes))

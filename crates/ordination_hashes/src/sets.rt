@@ -1,4 +1,4 @@
-// Sets of hashes, one after the other between offsets: lines 1, 2, 6 and 7 of the table.
+// Sets of hashes, one after the other between offsets: lines 1, 2, 6, 13 and 7 of the table.
 use outcome::Check;
 use outcome::Refusal;
 ghost use mathlib.Core.Path.{_≡_};
@@ -85,7 +85,7 @@ pub fn late(m: usize) -> Check
     ensures { λ r. ⌜ told r ≡ first (lateLines m) ⌝ }
 {
     if m == 0 {
-        return Check::Refused(Refusal::Ordination);
+        return Check::Refused(Refusal::NoHashes);
     }
     if m > limits::MOST_SELECTED {
         return Check::Refused(Refusal::Hashes);

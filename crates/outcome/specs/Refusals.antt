@@ -16,7 +16,7 @@ infix 20 _when_
 abbrev pub _when_ : ℕ → Bool → Line
 k when b = record { returned = k; holds = b }
 
--- the lines of an operation stand in the order in which they are tested, and the first that holds wins
+-- The lines of an operation stand in the order in which they are tested, which need not be that of their numbers, and the first that holds wins.
 unfoldable pub first : List Line → Told
 first [] = passed
 first (line ∷ lines) = let rest = first lines in cond (line .holds) (refused (line .returned)) rest

@@ -1,4 +1,4 @@
-// What a turned-away lot returns: the lines of document 01's table.
+// What a turned-away lot returns: the lines of document 01's table, and those that change requests of document 02 added.
 ghost use mathlib.Core.Path.{_≡_};
 ghost use Rattle.outcome.specs.Numbers.{number};
 
@@ -14,9 +14,9 @@ pub enum Refusal {
     Weight,
     // 5: fewer than two labels held by two samples
     Labels,
-    // 6: too few samples to ordinate, or no hash that can be used
+    // 6: too few samples to ordinate
     Ordination,
-    // 7: too many such hashes
+    // 7: too many hashes with frequency 2 to n - 1
     Hashes,
     // 8: too many ways
     Ways,
@@ -28,6 +28,8 @@ pub enum Refusal {
     Unordered,
     // 12: a frame malformed, missing or repeated
     Frame,
+    // 13: no hash with frequency 2 to n - 1
+    NoHashes,
 }
 
 // What the table says of a call's arguments.
@@ -36,7 +38,7 @@ pub enum Check {
     Refused(Refusal),
 }
 
-// The number that document 01 gives the line.
+// The number of the line.
 pub fn number_of(r: Refusal) -> u8
     ensures { λ n. ⌜ n ≡ number r ⌝ }
 {
@@ -53,5 +55,6 @@ pub fn number_of(r: Refusal) -> u8
         Refusal::Pivot => 10,
         Refusal::Unordered => 11,
         Refusal::Frame => 12,
+        Refusal::NoHashes => 13,
     }
 }

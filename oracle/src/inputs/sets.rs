@@ -59,6 +59,15 @@ fn universe(width: usize, draw: &mut SplitMix) -> Vec<u64> {
     hashes
 }
 
+/// The refusal of sets that the Rust gives None for: too few of them, or no hash to select.
+pub fn refusal(sets: &[Vec<u64>]) -> u64 {
+    if sets.len() < 3 {
+        6
+    } else {
+        13
+    }
+}
+
 /// n, the n + 1 offsets of the sets in the list of hashes, and the list.
 pub fn write(sets: &[Vec<u64>], words: &mut Vec<u64>) {
     words.push(sets.len() as u64);

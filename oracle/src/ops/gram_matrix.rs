@@ -59,8 +59,8 @@ impl Operation for GramMatrix {
         Some(words)
     }
 
-    fn refusal(_: &Input) -> u64 {
-        6
+    fn refusal(input: &Input) -> u64 {
+        sets::refusal(&input.sets)
     }
 }
 

@@ -51,7 +51,7 @@ impl Operation for HashPca {
         hash_pca(&input.sets, input.components).map(|found| ordination::answer(&found))
     }
 
-    fn refusal(_: &Input) -> u64 {
-        6
+    fn refusal(input: &Input) -> u64 {
+        sets::refusal(&input.sets)
     }
 }

@@ -26,7 +26,7 @@ pub trait Operation {
     fn read(from: &mut Reader) -> Self::Input;
     /// The Rust's answer field by field, or None where the Rust gives None.
     fn answer(input: &Self::Input) -> Option<Vec<u64>>;
-    /// The refusal of document 01 that stands for the Rust's None on this input.
+    /// The refusal of documents 01 and 02 that stands for the Rust's None on this input.
     fn refusal(input: &Self::Input) -> u64;
     /// The refusal, beyond those of document 01, that is due on this input, whatever the Rust says of it; the Rust is then not asked.
     fn owed(_: &Self::Input) -> Option<u64> {
