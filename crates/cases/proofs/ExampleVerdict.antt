@@ -18,10 +18,11 @@ use Rattle.permanova_dispersion.specs.Anova.{grandMean, groupMean, groupMeans, 
 use Rattle.permanova_location.specs.Location.{total, groupWeight, groupWithin, within, fRatio, pseudoF, rSquared}
 use Rattle.permanova_dispersion.specs.Dispersion as dispersion
 use Rattle.permanova_dispersion.specs.Dispersion.{inside, weightedSquareSum, valueOf, value, values, distanceOf}
-use Rattle.permanova_statistics.specs.declared.Statistic.the-variants.{Finite, Unbounded}
+use Rattle.permanova_p_values.specs.declared.Statistic.the-variants.{Finite, Unbounded}
 use Rattle.permanova_statistics.specs.Statistics as statistics
 use Rattle.permanova_statistics.specs.Statistics.{totalOf, withinOf, locationF, rSquaredOf, zOf, dispersionF}
-use Rattle.permanova_statistics.specs.{Hits.statistic, Hits.hit, Warnings.uninformed, Warnings.sizesOf, Warnings.warned, Summaries.summaryOf}
+use Rattle.permanova_p_values.specs.Hits.{statistic, hit}
+use Rattle.permanova_statistics.specs.{Warnings.uninformed, Warnings.sizesOf, Warnings.warned, Summaries.summaryOf}
 use Rattle.ordination_coordinates.specs.Finish.{Coordinates}
 use Rattle.lists.proofs.Counts.{count-no}
 use Rattle.dapc_discriminant.specs.{Dapc.columnsUsed, Outputs.leaves}

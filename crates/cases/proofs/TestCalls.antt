@@ -15,7 +15,8 @@ use Rattle.permanova_location.specs.Location.{groupWeight}
 use Rattle.permanova_dispersion.specs.Dispersion as dispersion
 use Rattle.permanova_dispersion.specs.Dispersion.{inside, weightedSquareSum, valueOf, value, values, distanceOf}
 use Rattle.permanova_dispersion.specs.Anova.{meanOf, meanZ}
-use Rattle.permanova_statistics.specs.{Statistics.zOf, Warnings.sizesOf, PValues.given}
+use Rattle.permanova_p_values.specs.PValues.{given}
+use Rattle.permanova_statistics.specs.{Statistics.zOf, Warnings.sizesOf}
 use Rattle.permanova_sampling.specs.Tested.{tested}
 use Rattle.permanova.specs.Call.{tooShort, testCheck, leaves, testCall}
 use Rattle.permanova.proofs.Cases.{case-c-F}

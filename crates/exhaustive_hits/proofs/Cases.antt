@@ -17,7 +17,7 @@ use Rattle.permanova_dispersion.specs.Dispersion.{inside, weightedSquareSum, va
 use Rattle.permanova_dispersion.specs.Anova.{grandMean, groupMean, groupMeans, squared, share, between, residualAt, residual, anovaF}
 use Rattle.permanova_statistics.specs.Statistics.{totalOf, withinOf, locationF, zOf, dispersionF}
 use Rattle.permanova_statistics.specs.Statistics as statistics
-use Rattle.permanova_statistics.specs.Hits.{statistic, hit}
+use Rattle.permanova_p_values.specs.Hits.{statistic, hit}
 use Rattle.exhaustive_ways.specs.Ways.{spend, deal, waysOf, ways, sizeFactorials, labelFactorials, wayCountOf, wayCount}
 use Rattle.exhaustive_ways.proofs.Cases as ways-cases
 use Rattle.exhaustive_hits.specs.Exhaustive.{locationOf, dispersionOf, hits, locationHits, dispersionHits}

@@ -15,10 +15,10 @@ use Rattle.permanova_location.specs.Location.{total, groupWeight, groupWithin, 
 use Rattle.permanova_dispersion.specs.Dispersion as dispersion
 use Rattle.permanova_dispersion.specs.Dispersion.{inside, weightedSquareSum, valueOf, value, values, distanceOf}
 use Rattle.permanova_dispersion.specs.Anova.{grandMean, groupMean, groupMeans, squared, share, between, residualAt, residual, anovaF}
-use Rattle.permanova_statistics.specs.declared.Statistic.the-variants.{Unbounded}
+use Rattle.permanova_p_values.specs.declared.Statistic.the-variants.{Unbounded}
 use Rattle.permanova_statistics.specs.Statistics.{totalOf, withinOf, locationF, zOf, dispersionOf}
-use Rattle.permanova_statistics.specs.{Hits.statistic, PValues.pValue}
-use Rattle.permanova_statistics.specs.declared.p_value.PValue.the-variants.{NoP}
+use Rattle.permanova_p_values.specs.{Hits.statistic, PValues.pValue}
+use Rattle.permanova_p_values.specs.declared.PValue.the-variants.{NoP}
 use Rattle.permanova_sampling.specs.{Sampled.pValueOf, Sampled.locationPValue, Sampled.dispersionPValue, Tested.tested}
 use Rattle.permanova.specs.Call.{Slices, tooShort, testCheck}
 

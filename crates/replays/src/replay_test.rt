@@ -2,8 +2,8 @@
 use outcome::number_of;
 use permanova::checks::Answer;
 use permanova::test;
+use permanova_p_values::PValue;
 use permanova_sampling::TestResult;
-use permanova_statistics::p_value::PValue;
 use replay::Held;
 use replay::after;
 use replay::product;

@@ -1,8 +1,8 @@
 // Calls of `test` at the edges of each refusal, and with each warning: for each its answer, then the outputs and what both work slices hold. Every slice holds 7 at first.
 use libc::STDOUT_FILENO;
 use permanova::checks::Answer;
+use permanova_p_values::PValue;
 use permanova_sampling::TestResult;
-use permanova_statistics::p_value::PValue;
 ghost use Prim.Native.Nat.{_≤_};
 
 // ---- what is printed
