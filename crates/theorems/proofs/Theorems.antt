@@ -68,7 +68,6 @@ use Rattle.judge_frames.proofs.LongestText as LongestText
 use Rattle.judge.proofs.JudgedTexts as JudgedTexts
 use Rattle.cases.proofs.JudgedCases as JudgedCases
 use Rattle.cases.proofs.ExampleJudged as ExampleJudged
-use Rattle.c_layouts.proofs.AskedLengths as AskedLengths
 
 -- ---- section 1: square root and order of floats
 
@@ -182,7 +181,7 @@ short-at = Lengths.short-at
 
 -- No text that is printed is longer than 93 bytes.
 pub judge-fits : (text : List ℕ) → length (judgeText text) ≤ mostPrinted
-judge-fits = AskedLengths.judge-fits
+judge-fits = JudgedTexts.judge-fits
 
 -- ---- judged samples
 
