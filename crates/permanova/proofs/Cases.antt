@@ -1,7 +1,8 @@
 -- Judged samples of the trade: cases (c) to (f), as far as they speak of the sampled test.
 use Rattle.lists.proofs.Base.{_≡_, refl, [], _∷_, ℕ, _≤_, le-ltb, length}
 use lib.Ieee.{add, sub, mul, div, neg, lt, le, ofBits, ofInt, odd, size}
-use Rattle.float.specs.{Floats.f64, Floats.num, Floats.zero⁺, Order.larger, Root.root}
+use Rattle.float.specs.{Floats.f64, Floats.num, Floats.zero⁺, Order.larger}
+use Rattle.square_root.specs.Root.{root}
 use Rattle.lists.specs.Ranges.{upFrom, range, table, rows, grid}
 use Rattle.lists.specs.Filters.{filter, countIf, any, firstAt, pairs, orderedPairs}
 use Rattle.lists.specs.{Numbers.howMany, Numbers.position, Numbers.insertUp, Numbers.upward, Numbers.members, Sums.sumFrom, Rows.entry}

@@ -31,7 +31,8 @@ use lib.Ieee.{Float, Format, binary64, fits, le, round}
 use lib.Ieee.Scale.{finite}
 use lib.Ieee.Positive.{positive}
 use Rattle.limits.specs.Limits.{mostPrinted, mostText}
-use Rattle.float.specs.{Root.root, Nearest.NearestRoot, Value.rank, Value.SignedLe, Tolerance.threshold}
+use Rattle.float.specs.{Value.rank, Value.SignedLe, Tolerance.threshold}
+use Rattle.square_root.specs.{Root.root, Nearest.NearestRoot}
 use Rattle.lists.specs.Filters.{any, countIf}
 use Rattle.outcome.specs.declared.Refusal.{Refusal}
 use Rattle.outcome.specs.{Numbers.number, Outcome.passed, Outcome.answered, Refusals.first, Refusals.short}
