@@ -4,7 +4,7 @@ use Rattle.outcome.specs.Outcome.{Outcome, answered, refused}
 use Rattle.permanova_sampling.specs.declared.TestResult.{TestResult}
 use Rattle.exhaustive_hits.specs.declared.judgement.Judgement.{Judgement}
 use Rattle.c_layouts.specs.{Coded.coded, Coded.codedAs, Layouts.testRow, Layouts.isAssigned, Layouts.wayRow}
-use Rattle.permanova_statistics.specs.{Hits.stateOf, Hits.valueOf, PValues.given, PValues.pOf}
+use Rattle.permanova_p_values.specs.{Hits.stateOf, Hits.valueOf, PValues.given, PValues.pOf}
 use Rattle.exhaustive_hits.specs.WayHits.{rightOf}
 
 -- ---- by what is answered

@@ -1,26 +1,9 @@
--- How the lengths asked are told, and that what is printed has room.
-use Rattle.lists.proofs.Base.{ℕ, _+_, _*_, _≤_, _≡_, sym, ap, _∙_, Bool, true, false, _||_, List, [], _∷_, arith, ltb, length, ltb-false}
+-- How the lengths asked are told.
+use Rattle.lists.proofs.Base.{ℕ, _+_, _*_, _≤_, _≡_, sym, ap, _∙_, Bool, true, false, _||_, List, [], _∷_, ltb, ltb-false}
 use Rattle.lists.proofs.Truths.{or-neither}
-use Rattle.limits.specs.Limits.{mostPrinted}
-use Rattle.outcome.specs.{Outcome.Outcome, Outcome.answered, Outcome.refused}
-use Rattle.exhaustive_hits.specs.declared.judgement.Judgement.{Judgement}
 use Rattle.ordination_coordinates.specs.Lengths.{pcoaAsks, hashPcaAsks}
 use Rattle.eigen_top.specs.TopLines.{topAsks}
-use Rattle.judge_printing.specs.{Hex.hex, Printed.testedLine, Printed.assignedLine, Printed.verdictLines, Printed.refusalLine, Printed.printed}
-use Rattle.judge.specs.Judge.{judgeText}
 use Rattle.c_layouts.specs.Lengths.{tell, told}
-
--- what is printed has room
-printed-fits : (o : Outcome Judgement) → length (printed o) ≤ mostPrinted
-unfolding printed verdictLines testedLine assignedLine refusalLine hex
-printed-fits (answered v) = omega arith
-printed-fits (refused r) = omega arith
-
-pub judge-fits : (text : List ℕ) → length (judgeText text) ≤ mostPrinted
-unfolding judgeText
-judge-fits text = printed-fits _
-
--- ---- how the lengths asked are told
 
 pub within : {b : Bool} (asked before : List ℕ) → b ≡ false → told 0 asked ≡ tell b asked before
 unfolding tell

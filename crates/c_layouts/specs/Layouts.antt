@@ -2,9 +2,9 @@
 use Prim.Native.Nat.{ℕ}
 use mathlib.Core.Bool.{cond}
 use mathlib.Core.List.{List, [], _∷_}
-use Rattle.permanova_statistics.specs.PValues.{given, pOf}
+use Rattle.permanova_p_values.specs.PValues.{given, pOf}
 use Rattle.permanova_sampling.specs.declared.TestResult.{TestResult}
-use Rattle.permanova_statistics.specs.Hits.{stateOf, valueOf}
+use Rattle.permanova_p_values.specs.Hits.{stateOf, valueOf}
 use Rattle.exhaustive_hits.specs.declared.Assignment.{Assignment}
 use Rattle.exhaustive_hits.specs.WayHits.{isGiven, rightOf}
 use Rattle.exhaustive_hits.specs.declared.judgement.Judgement.{Judgement}

@@ -8,7 +8,6 @@ use outcome::Check;
 use outcome::number_of;
 use permanova::checks;
 use permanova_sampling::TestResult;
-use permanova_statistics::p_value;
 ghost use mathlib.Core.Path.{_≡_};
 ghost use Rattle.permanova.specs.Call as test;
 ghost use Rattle.exhaustive_hits.specs.Call as ways;
@@ -44,11 +43,11 @@ pub fn test_row(t: TestResult) -> TestRow
     let s = t.summary;
     let p = t.p;
     let q = t.disp_p;
-    let first = p_value::p_of(p);
-    let second = p_value::p_of(q);
+    let first = permanova_p_values::p_of(p);
+    let second = permanova_p_values::p_of(q);
     let values = [t.f, s.r2, first, t.disp_f, second, s.informative_fraction];
-    let one = p_value::is_given(p);
-    let other = p_value::is_given(q);
+    let one = permanova_p_values::is_given(p);
+    let other = permanova_p_values::is_given(q);
     let numbers = [s.n as u64, s.n_groups as u64, one, other, s.warnings as u64];
     TestRow { values, numbers }
 }
@@ -97,11 +96,11 @@ pub fn way_row(j: Judgement) -> WayRow
     let ls = l.statistic;
     let ds = d.statistic;
     let given = a.assignment;
-    let f = permanova_statistics::value_of(ls);
-    let disp_f = permanova_statistics::value_of(ds);
+    let f = permanova_p_values::value_of(ls);
+    let disp_f = permanova_p_values::value_of(ds);
     let values = [f, s.r2, disp_f, s.informative_fraction];
-    let first = permanova_statistics::state_of(ls);
-    let second = permanova_statistics::state_of(ds);
+    let first = permanova_p_values::state_of(ls);
+    let second = permanova_p_values::state_of(ds);
     let third = is_assigned(given);
     let right = exhaustive_hits::right_of(given);
     let numbers = [

@@ -2,7 +2,8 @@
 use mathlib.Core.Path.{refl}
 use mathlib.Core.List.{zipWith}
 use lib.Ieee.{add, sub, mul, div, lt, le, eq, isNan, ofBits, ofInt, neg, odd, size}
-use Rattle.float.specs.{Order.magnitude, Order.signum, Order.larger, Root.isqrt, Root.rootOf, Root.root}
+use Rattle.float.specs.Order.{magnitude, signum, larger}
+use Rattle.square_root.specs.Root.{isqrt, rootOf, root}
 use Rattle.lists.specs.{Loops.inTurn, Loops.fromTo, Loops.downTo, Ranges.upFrom, Ranges.range, Ranges.table, Ranges.rows, Ranges.grid}
 use Rattle.lists.specs.Filters.{filter, countIf, any, firstAt}
 use Rattle.lists.specs.{Numbers.howMany, Numbers.contains, Numbers.position, Numbers.insertUp, Numbers.upward, Numbers.members, Sums.sumFrom}

@@ -2,7 +2,8 @@
 use Rattle.lists.proofs.Base.{_≡_, refl, Bool, true, false}
 use mathlib.Core.List.{zipWith}
 use lib.Ieee.{add, sub, mul, div, lt, eq, isNan, ofBits, ofInt, neg, odd, size}
-use Rattle.float.specs.{Order.magnitude, Order.signum, Root.isqrt, Root.rootOf, Root.root}
+use Rattle.float.specs.Order.{magnitude, signum}
+use Rattle.square_root.specs.Root.{isqrt, rootOf, root}
 use Rattle.lists.specs.{Loops.inTurn, Loops.fromTo, Ranges.upFrom, Ranges.range, Ranges.table, Ranges.rows, Ranges.grid, Filters.filter, Filters.any}
 use Rattle.lists.specs.{Sums.sumFrom, Rows.entry, Rows.row, Rows.putRow, Rows.onRow}
 use Rattle.outcome.specs.Outcome.{Outcome, answered, refused, andThen}

@@ -1,7 +1,8 @@
 -- What is found of the example's lot: no line of the table holds, and the verdict, its statistics and hits evaluated.
 use Rattle.lists.proofs.Base.{_≡_, refl, sym, ap, _∙_, Bool, true, false, true≢false, List, [], _∷_, ℕ, _+_, length, replicate}
 use lib.Ieee.{Float, add, sub, mul, div, neg, lt, le, ofBits, ofInt, odd, size}
-use Rattle.float.specs.{Floats.zero⁺, Floats.1·0, Floats.f64, Order.magnitude, Order.larger, Root.isqrt, Root.rootOf, Root.root, Tolerance.threshold}
+use Rattle.float.specs.{Floats.zero⁺, Floats.1·0, Floats.f64, Order.magnitude, Order.larger, Tolerance.threshold}
+use Rattle.square_root.specs.Root.{isqrt, rootOf, root}
 use Rattle.lists.specs.Ranges.{upFrom, range, table, rows, grid}
 use Rattle.lists.specs.Filters.{filter, countIf, any, firstAt, pairs, orderedPairs}
 use Rattle.lists.specs.Numbers.{sumℕ, productℕ, factorial, howMany, position, insertUp, upward, members}
@@ -18,10 +19,11 @@ use Rattle.permanova_dispersion.specs.Anova.{grandMean, groupMean, groupMeans, 
 use Rattle.permanova_location.specs.Location.{total, groupWeight, groupWithin, within, fRatio, pseudoF, rSquared}
 use Rattle.permanova_dispersion.specs.Dispersion as dispersion
 use Rattle.permanova_dispersion.specs.Dispersion.{inside, weightedSquareSum, valueOf, value, values, distanceOf}
-use Rattle.permanova_statistics.specs.declared.Statistic.the-variants.{Finite, Unbounded}
+use Rattle.permanova_p_values.specs.declared.Statistic.the-variants.{Finite, Unbounded}
 use Rattle.permanova_statistics.specs.Statistics as statistics
 use Rattle.permanova_statistics.specs.Statistics.{totalOf, withinOf, locationF, rSquaredOf, zOf, dispersionF}
-use Rattle.permanova_statistics.specs.{Hits.statistic, Hits.hit, Warnings.uninformed, Warnings.sizesOf, Warnings.warned, Summaries.summaryOf}
+use Rattle.permanova_p_values.specs.Hits.{statistic, hit}
+use Rattle.permanova_statistics.specs.{Warnings.uninformed, Warnings.sizesOf, Warnings.warned, Summaries.summaryOf}
 use Rattle.ordination_coordinates.specs.Finish.{Coordinates}
 use Rattle.lists.proofs.Counts.{count-no}
 use Rattle.dapc_discriminant.specs.{Dapc.columnsUsed, Outputs.leaves}

@@ -9,7 +9,7 @@ use Rattle.outcome.specs.Slices.{output, work}
 use Rattle.lot.specs.{Lot.Lot, Cases.example, Cases.zeros}
 use Rattle.lot.specs.Kept.{twice, kept, gathered, keptLabels, groupLabels, groups, groupCount}
 use Rattle.lot.specs.{Strata.named, Strata.numbered, Strata.heldStrata, Strata.strata, Way.δ, Way.mark, Way.tally, Lines.misfits, Lines.testLines}
-use Rattle.permanova_statistics.specs.Hits.{statistic}
+use Rattle.permanova_p_values.specs.Hits.{statistic}
 use Rattle.ordination_coordinates.specs.Finish.{Coordinates}
 use Rattle.exhaustive_hits.specs.declared.judgement.Judgement.{Judgement}
 use Rattle.exhaustive_ways.specs.Ways.{sizeFactorials, labelFactorials, wayCountOf, wayCount}

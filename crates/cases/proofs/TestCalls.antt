@@ -1,7 +1,8 @@
 -- Judged samples of the trade: (c), (f) and (h) through calls of `test`.
 use Rattle.lists.proofs.Base.{_≡_, refl, ap, _∙_, [], _∷_, _++_, replicate}
 use lib.Ieee.{add, sub, mul, div, neg, lt, le, ofBits, toBits, ofInt, odd, size}
-use Rattle.float.specs.{Floats.2·0, Floats.bits, Order.larger, Root.root}
+use Rattle.float.specs.{Floats.2·0, Floats.bits, Order.larger}
+use Rattle.square_root.specs.Root.{root}
 use Rattle.lists.specs.Ranges.{upFrom, range, table, rows, grid}
 use Rattle.lists.specs.Filters.{filter, countIf, any, firstAt, pairs, orderedPairs}
 use Rattle.lists.specs.{Numbers.howMany, Numbers.position, Numbers.insertUp, Numbers.upward, Numbers.members, Sums.sumFrom, Rows.entry}
@@ -15,7 +16,8 @@ use Rattle.permanova_location.specs.Location.{groupWeight}
 use Rattle.permanova_dispersion.specs.Dispersion as dispersion
 use Rattle.permanova_dispersion.specs.Dispersion.{inside, weightedSquareSum, valueOf, value, values, distanceOf}
 use Rattle.permanova_dispersion.specs.Anova.{meanOf, meanZ}
-use Rattle.permanova_statistics.specs.{Statistics.zOf, Warnings.sizesOf, PValues.given}
+use Rattle.permanova_p_values.specs.PValues.{given}
+use Rattle.permanova_statistics.specs.{Statistics.zOf, Warnings.sizesOf}
 use Rattle.permanova_sampling.specs.Tested.{tested}
 use Rattle.permanova.specs.Call.{tooShort, testCheck, leaves, testCall}
 use Rattle.permanova.proofs.Cases.{case-c-F}

@@ -13,10 +13,10 @@ use Rattle.outcome.specs.Outcome.{Outcome, answered, refused, code}
 use Rattle.lot.specs.Lot.{Lot, lotOf}
 use Rattle.lot.specs.Cases.{example, zeros, three}
 use Rattle.lot.specs.Kept.{groups}
-use Rattle.permanova_statistics.specs.declared.Statistic.{Statistic}
-use Rattle.permanova_statistics.specs.declared.Statistic.the-variants.{Finite, Unbounded}
+use Rattle.permanova_p_values.specs.declared.Statistic.{Statistic}
+use Rattle.permanova_p_values.specs.declared.Statistic.the-variants.{Finite, Unbounded}
 use Rattle.permanova_statistics.specs.Statistics.{totalOf, withinOf}
-use Rattle.permanova_statistics.specs.PValues.{given}
+use Rattle.permanova_p_values.specs.PValues.{given}
 use Rattle.permanova.specs.Call as test
 use Rattle.permanova.specs.Call.{testCall}
 use Rattle.eigen_jacobi.specs.Call as jacobi

@@ -3,6 +3,7 @@
 pub mod orthonormal;
 pub mod power;
 
+use eigen_matrix::entrywise;
 use eigen_vectors::products;
 ghost use mathlib.Core.Path.{_≡_};
 ghost use mathlib.Core.Bool.{_&&_};
@@ -17,7 +18,7 @@ fn block_step(q: &mut [f64], aq: &mut [f64], a: &[f64], n: usize, b: usize, shif
     ensures { λ _. ⌜ (now (q .exit) ≡ blockStep n (now (a .entry)) b shift (now (q .entry)))
         × (now (aq .exit) ≡ timesBlock n (now (a .entry)) b (now (q .exit))) ⌝ }
 {
-    eigen_vectors::plus_times(aq, shift, q);
+    entrywise::add_multiple(aq, shift, q);
     orthonormal::orthonormalize(q, aq, n, b);
     products::matvec_block(aq, a, n, q, b);
 }

@@ -5,7 +5,7 @@ ghost use mathlib.Core.Path.{_≡_};
 ghost use Prim.Native.Nat.{_+_, _*_, _≤_};
 ghost use lib.ListN.{length};
 ghost use Rattle.lists.specs.Rows.{row};
-ghost use Rattle.eigen_vectors.specs.Vectors.{dot, norm, lessTimes, plusTimes, divided, projectedOff, unit};
+ghost use Rattle.eigen_vectors.specs.Vectors.{dot, norm, lessTimes, divided, projectedOff, unit};
 ghost use Rattle.eigen_vectors.specs.inner.Vectors.{dotFour};
 
 // ---- inner products
@@ -75,15 +75,6 @@ pub fn less_times(x: &mut [f64], d: f64, y: &[f64])
 {
     for i in 0..y.len() {
         x[i] = x[i] - d * y[i];
-    }
-}
-
-pub fn plus_times(x: &mut [f64], d: f64, y: &[f64])
-    requires { ⌜ length (now x) ≡ length (now y) ⌝ }
-    ensures { λ _. ⌜ now (x .exit) ≡ plusTimes d (now (x .entry)) (now (y .entry)) ⌝ }
-{
-    for i in 0..y.len() {
-        x[i] = x[i] + d * y[i];
     }
 }
 

@@ -52,8 +52,8 @@ fn see(
     ensures { λ r. ⌜ r ≡ seenBy o (assignmentBy f (now (x .entry)) (now (ks .entry)) (now (gs .entry))) ⌝ }
 {
     let assignment = way_statistics::assignment_of(scores, x, ks, gs, m, f);
-    let location = permanova_statistics::statistic_of(o.f);
-    let dispersion = permanova_statistics::statistic_of(o.disp_f);
+    let location = permanova_p_values::statistic_of(o.f);
+    let dispersion = permanova_p_values::statistic_of(o.disp_f);
     Seen {
         location,
         dispersion,

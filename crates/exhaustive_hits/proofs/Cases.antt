@@ -1,7 +1,8 @@
 -- Judged samples of the trade: cases (d), (e), (f), (g) and (i), as far as they speak of every way.
 use Rattle.lists.proofs.Base.{_≡_, refl, false, List, [], _∷_, ℕ, _+_, _*_, le-ltb, length}
 use lib.Ieee.{Float, add, sub, mul, div, neg, lt, le, ofBits, ofInt, odd, size}
-use Rattle.float.specs.{Order.magnitude, Order.larger, Root.root, Tolerance.threshold}
+use Rattle.float.specs.{Order.magnitude, Order.larger, Tolerance.threshold}
+use Rattle.square_root.specs.Root.{root}
 use Rattle.lists.specs.Ranges.{upFrom, range, table, rows, grid}
 use Rattle.lists.specs.Filters.{filter, countIf, any, firstAt, pairs, orderedPairs}
 use Rattle.lists.specs.Numbers.{productℕ, factorial, howMany, position, insertUp, upward, members}
@@ -17,7 +18,7 @@ use Rattle.permanova_dispersion.specs.Dispersion.{inside, weightedSquareSum, va
 use Rattle.permanova_dispersion.specs.Anova.{grandMean, groupMean, groupMeans, squared, share, between, residualAt, residual, anovaF}
 use Rattle.permanova_statistics.specs.Statistics.{totalOf, withinOf, locationF, zOf, dispersionF}
 use Rattle.permanova_statistics.specs.Statistics as statistics
-use Rattle.permanova_statistics.specs.Hits.{statistic, hit}
+use Rattle.permanova_p_values.specs.Hits.{statistic, hit}
 use Rattle.exhaustive_ways.specs.Ways.{spend, deal, waysOf, ways, sizeFactorials, labelFactorials, wayCountOf, wayCount}
 use Rattle.exhaustive_ways.proofs.Cases as ways-cases
 use Rattle.exhaustive_hits.specs.Exhaustive.{locationOf, dispersionOf, hits, locationHits, dispersionHits}

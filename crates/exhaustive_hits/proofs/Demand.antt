@@ -10,7 +10,8 @@ use Rattle.lists.proofs.Counts.{count-cong}
 use Rattle.lot.proofs.Relabelled.{same-lot}
 use Rattle.permanova_location.specs.Location.{pseudoF, fRatio}
 use Rattle.permanova_dispersion.specs.Anova.{anovaF}
-use Rattle.permanova_statistics.specs.{Hits.hit, Statistics.locationF, Statistics.dispersionF}
+use Rattle.permanova_p_values.specs.Hits.{hit}
+use Rattle.permanova_statistics.specs.{Statistics.locationF, Statistics.dispersionF}
 use Rattle.permanova_statistics.specs.Statistics as statistics
 use Rattle.ordination_coordinates.specs.Finish.{Coordinates}
 use Rattle.exhaustive_ways.specs.Ways.{ways}

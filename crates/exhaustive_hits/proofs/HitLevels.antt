@@ -6,9 +6,9 @@ use lib.Ieee.Scale.{finite}
 use lib.Ieee.Bits.{is-true}
 use Rattle.float.specs.{Value.rank, Tolerance.asLarge}
 use Rattle.float.proofs.Tolerance.{as-large-of-rank}
-use Rattle.permanova_statistics.specs.declared.Statistic.{Statistic}
-use Rattle.permanova_statistics.specs.declared.Statistic.the-variants.{Finite, Unbounded}
-use Rattle.permanova_statistics.specs.Hits.{statistic, hit}
+use Rattle.permanova_p_values.specs.declared.Statistic.{Statistic}
+use Rattle.permanova_p_values.specs.declared.Statistic.the-variants.{Finite, Unbounded}
+use Rattle.permanova_p_values.specs.Hits.{statistic, hit}
 use Rattle.exhaustive_ways.specs.Level.{KeepsLevel}
 use Rattle.exhaustive_ways.proofs.ListLevels.{level, always}
 use Rattle.exhaustive_hits.specs.declared.Assignment.{Assignment}

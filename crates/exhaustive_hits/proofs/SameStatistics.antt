@@ -9,7 +9,7 @@ use Rattle.permanova_sums.specs.Squares.{weightAt, pairTerms, weightedSquares, 
 use Rattle.permanova_location.specs.Location as location
 use Rattle.permanova_dispersion.specs.Dispersion as dispersion
 use Rattle.permanova_dispersion.specs.Anova as anova
-use Rattle.permanova_statistics.specs.Hits.{statistic}
+use Rattle.permanova_p_values.specs.Hits.{statistic}
 use Rattle.permanova_statistics.specs.Statistics.{totalOf, withinOf, locationF, zOf, dispersionF}
 use Rattle.permanova_statistics.specs.Statistics as statistics
 use Rattle.ordination_coordinates.specs.Finish.{Coordinates}

@@ -9,8 +9,8 @@ use Rattle.outcome.specs.Outcome.{Outcome, answered, andThen}
 use Rattle.lot.specs.Lot.{Lot}
 use Rattle.lot.specs.Kept.{groups}
 use Rattle.lot.specs.Way.{relabelled}
-use Rattle.permanova_statistics.specs.declared.Statistic.{Statistic}
-use Rattle.permanova_statistics.specs.Hits.{statistic, hit}
+use Rattle.permanova_p_values.specs.declared.Statistic.{Statistic}
+use Rattle.permanova_p_values.specs.Hits.{statistic, hit}
 use Rattle.permanova_statistics.specs.Statistics.{locationF, dispersionF}
 use Rattle.permanova_statistics.specs.Summaries.{summaryOf}
 use Rattle.ordination_coordinates.specs.Finish.{Coordinates}

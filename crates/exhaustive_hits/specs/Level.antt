@@ -11,7 +11,7 @@ use Rattle.limits.specs.Limits.{mostWays, none}
 use Rattle.lot.specs.Lot.{Lot}
 use Rattle.lot.specs.Kept.{twice, kept, groupLabels}
 use Rattle.lot.specs.Way.{IsWay, relabelled, SameLot}
-use Rattle.permanova_statistics.specs.Hits.{hit}
+use Rattle.permanova_p_values.specs.Hits.{hit}
 use Rattle.ordination_coordinates.specs.Finish.{Coordinates}
 use Rattle.exhaustive_ways.specs.Ways.{ways, wayCount}
 use Rattle.exhaustive_ways.specs.Every.{Every}

@@ -2,7 +2,7 @@
 use crate::Assignment;
 use crate::Hits;
 use crate::Seen;
-use permanova_statistics::Statistic;
+use permanova_p_values::Statistic;
 use permanova_statistics::summary::Summary;
 ghost use mathlib.Core.Path.{_≡_};
 ghost use Rattle.exhaustive_hits.specs.inner.Judgements.{concluded};

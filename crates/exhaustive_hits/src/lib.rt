@@ -2,7 +2,7 @@
 pub mod every_way;
 pub mod judgement;
 
-use permanova_statistics::Statistic;
+use permanova_p_values::Statistic;
 ghost use mathlib.Core.Path.{_≡_};
 ghost use mathlib.Core.Bool.{cond};
 ghost use Rattle.exhaustive_hits.specs.WayHits.{asRight, isGiven, rightOf};
@@ -77,10 +77,10 @@ pub fn hits_of(observed: Seen, found: Seen) -> Hits
 {
     let a = observed.location;
     let b = found.location;
-    let location = one_if(permanova_statistics::hit(a, b));
+    let location = one_if(permanova_p_values::hit(a, b));
     let c = observed.dispersion;
     let d = found.dispersion;
-    let dispersion = one_if(permanova_statistics::hit(c, d));
+    let dispersion = one_if(permanova_p_values::hit(c, d));
     let e = observed.assignment;
     let f = found.assignment;
     let assignment = one_if(as_right(e, f));

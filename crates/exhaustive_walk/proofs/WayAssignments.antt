@@ -10,7 +10,7 @@ use Rattle.lot.proofs.Relabelled.{same-lot, way-below}
 use Rattle.lot_design.specs.inner.Groups.{placed}
 use Rattle.lot_design.proofs.PlacedGroups.{each-placed}
 use Rattle.permanova_sums.specs.Squares.{weightsOf, pairTermsOf, weightedSquaresOf}
-use Rattle.permanova_statistics.specs.Hits.{statistic}
+use Rattle.permanova_p_values.specs.Hits.{statistic}
 use Rattle.permanova_statistics.specs.Statistics.{totalOf, withinOf, locationF, zOf, dispersionOf, dispersionF}
 use Rattle.dapc_scatter.specs.Means.{grouped}
 use Rattle.dapc_scatter.specs.inner.Means.{Numbered}

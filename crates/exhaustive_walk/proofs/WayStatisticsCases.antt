@@ -6,8 +6,8 @@ use Rattle.outcome.specs.declared.Refusal.{Refusal}
 use Rattle.outcome.specs.Outcome.{Outcome, answered, refused, andThen}
 use Rattle.permanova_location.specs.Location.{within, pseudoF}
 use Rattle.permanova_dispersion.specs.{Dispersion.zOf, Anova.anovaF}
-use Rattle.permanova_statistics.specs.declared.Statistic.{Statistic}
-use Rattle.permanova_statistics.specs.Hits.{statistic}
+use Rattle.permanova_p_values.specs.declared.Statistic.{Statistic}
+use Rattle.permanova_p_values.specs.Hits.{statistic}
 use Rattle.dapc_scatter.specs.Means.{grouped}
 use Rattle.dapc_scatter.specs.inner.Means.{Numbered}
 use Rattle.dapc_discriminant.specs.declared.{Separation.Separation, Answer.Answer}

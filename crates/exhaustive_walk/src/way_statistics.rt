@@ -6,7 +6,7 @@ use exhaustive_hits::Hits;
 use exhaustive_hits::Seen;
 use lot_design::kept;
 use permanova_dispersion::anova;
-use permanova_statistics::Statistic;
+use permanova_p_values::Statistic;
 ghost use mathlib.Core.Path.{_≡_};
 ghost use Prim.Native.Nat.{_*_};
 ghost use lib.ListN.{length};
@@ -45,7 +45,7 @@ fn location_of(
 {
     let g = f.groups;
     let inside = permanova_statistics::within(t, w, way, m, g, next, mem);
-    permanova_statistics::statistic_of(permanova_location::pseudo_f(f.total, inside, m, g))
+    permanova_p_values::statistic_of(permanova_location::pseudo_f(f.total, inside, m, g))
 }
 
 // Its dispersion, with z worked out anew. `gw`, `gi` and `z` lend room.
@@ -68,7 +68,7 @@ fn dispersion_of(
 {
     let g = f.groups;
     permanova_dispersion::fill_z(p, t, w, way, m, g, next, mem, gw, gi, z);
-    permanova_statistics::statistic_of(anova::anova_f(z, way, m, g, next, mem, gw))
+    permanova_p_values::statistic_of(anova::anova_f(z, way, m, g, next, mem, gw))
 }
 
 pub struct Both {

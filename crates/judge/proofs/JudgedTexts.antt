@@ -1,6 +1,6 @@
 -- From what `read_lot`, `judge_lot` and `print` leave to the meaning of the whole.
 use Rattle.lists.proofs.Base.{ℕ, _+_, _≤_, _≡_, sym, ap, _∙_, List, arith, length, take, drop, length-append, Float}
-use Rattle.limits.specs.Limits.{mostText}
+use Rattle.limits.specs.Limits.{mostText, mostPrinted}
 use Rattle.lists.specs.Writes.{over}
 use Rattle.outcome.specs.declared.Refusal.{Refusal}
 use Rattle.outcome.specs.{Numbers.number, Outcome.Outcome, Outcome.refused, Outcome.andThen}
@@ -12,6 +12,7 @@ use Rattle.judge_frames.specs.declared.Answer as frames
 use Rattle.judge_frames.specs.declared.Answer.the-variants.{Read, Refused}
 use Rattle.judge_frames.proofs.{Fits.read-fits, ReadFronts.read-fronts, ReadFronts.read-refused, LongestText.front-tells}
 use Rattle.judge_printing.specs.{Page.Page, Page.page, Page.onto, Printed.printed}
+use Rattle.judge_printing.proofs.Printing.{printed-fits}
 use Rattle.judge.specs.{Judged.judgement, Judge.judgeText}
 
 module _ (text : List ℕ) (a : frames.Answer) {l s : List ℕ} {d : List Float} (e : called a l s d ≡ readCall text) where
@@ -49,3 +50,8 @@ size-fits text out {new} {size} e =
 pub front-enough : (text : List ℕ) → judgeText (take (mostText + 1) text) ≡ judgeText text
 unfolding judgeText
 front-enough text = ap (λ (o : Outcome Lot). printed (andThen o judgement)) (front-tells text)
+
+-- what is printed has room
+pub judge-fits : (text : List ℕ) → length (judgeText text) ≤ mostPrinted
+unfolding judgeText
+judge-fits text = printed-fits _

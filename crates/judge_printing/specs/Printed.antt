@@ -4,8 +4,8 @@ use mathlib.Core.Bool.{cond}
 use mathlib.Core.List.{List, _++_}
 use Rattle.float.specs.Floats.{bits}
 use Rattle.outcome.specs.Outcome.{Outcome, answered, refused}
-use Rattle.permanova_statistics.specs.declared.Statistic.{Statistic}
-use Rattle.permanova_statistics.specs.Hits.{stateOf, valueOf}
+use Rattle.permanova_p_values.specs.declared.Statistic.{Statistic}
+use Rattle.permanova_p_values.specs.Hits.{stateOf, valueOf}
 use Rattle.exhaustive_hits.specs.declared.Assignment.{Assignment}
 use Rattle.exhaustive_hits.specs.WayHits.{isGiven, rightOf}
 use Rattle.exhaustive_hits.specs.declared.judgement.Judgement.{Judgement}

@@ -73,8 +73,8 @@ fn put_tested(out: &mut [u8], at: usize, kind: u64, t: Tested) -> usize
     ensures { λ r. ⌜ Wrote (now (out .entry)) at 29 (testedLine kind (t .statistic) (t .hits)) (now (out .exit)) r ⌝ }
 {
     let s = t.statistic;
-    let state = permanova_statistics::state_of(s);
-    let f = permanova_statistics::value_of(s);
+    let state = permanova_p_values::state_of(s);
+    let f = permanova_p_values::value_of(s);
     put_line(out, at, kind, state, 16, pattern_of(f), t.hits as u64)
 }
 

@@ -1,7 +1,8 @@
 -- Judged samples of the trade: cases (c) to (f), as far as they speak of the sampled test.
 use Rattle.lists.proofs.Base.{_≡_, refl, [], _∷_, ℕ, _≤_, le-ltb, length}
 use lib.Ieee.{add, sub, mul, div, neg, lt, le, ofBits, ofInt, odd, size}
-use Rattle.float.specs.{Floats.f64, Floats.num, Floats.zero⁺, Order.larger, Root.root}
+use Rattle.float.specs.{Floats.f64, Floats.num, Floats.zero⁺, Order.larger}
+use Rattle.square_root.specs.Root.{root}
 use Rattle.lists.specs.Ranges.{upFrom, range, table, rows, grid}
 use Rattle.lists.specs.Filters.{filter, countIf, any, firstAt, pairs, orderedPairs}
 use Rattle.lists.specs.{Numbers.howMany, Numbers.position, Numbers.insertUp, Numbers.upward, Numbers.members, Sums.sumFrom, Rows.entry}
@@ -15,10 +16,10 @@ use Rattle.permanova_location.specs.Location.{total, groupWeight, groupWithin, 
 use Rattle.permanova_dispersion.specs.Dispersion as dispersion
 use Rattle.permanova_dispersion.specs.Dispersion.{inside, weightedSquareSum, valueOf, value, values, distanceOf}
 use Rattle.permanova_dispersion.specs.Anova.{grandMean, groupMean, groupMeans, squared, share, between, residualAt, residual, anovaF}
-use Rattle.permanova_statistics.specs.declared.Statistic.the-variants.{Unbounded}
+use Rattle.permanova_p_values.specs.declared.Statistic.the-variants.{Unbounded}
 use Rattle.permanova_statistics.specs.Statistics.{totalOf, withinOf, locationF, zOf, dispersionOf}
-use Rattle.permanova_statistics.specs.{Hits.statistic, PValues.pValue}
-use Rattle.permanova_statistics.specs.declared.p_value.PValue.the-variants.{NoP}
+use Rattle.permanova_p_values.specs.{Hits.statistic, PValues.pValue}
+use Rattle.permanova_p_values.specs.declared.PValue.the-variants.{NoP}
 use Rattle.permanova_sampling.specs.{Sampled.pValueOf, Sampled.locationPValue, Sampled.dispersionPValue, Tested.tested}
 use Rattle.permanova.specs.Call.{Slices, tooShort, testCheck}
 

@@ -1,11 +1,12 @@
 -- Both p of a lot from the hits of its design's shuffles, or without them, and its answer from its parts.
 use Rattle.lists.proofs.Base.{_≡_, refl, sym, _∙_, Bool, true, _&&_, List, ℕ, _≤_, arith, eqb, Float}
 use Rattle.lot.specs.Lot.{Lot}
-use Rattle.permanova_statistics.specs.declared.Statistic.{Statistic}
-use Rattle.permanova_statistics.specs.declared.Statistic.the-variants.{Finite, Unbounded}
-use Rattle.permanova_statistics.specs.Hits.{statistic}
+use Rattle.permanova_p_values.specs.declared.Statistic.{Statistic}
+use Rattle.permanova_p_values.specs.declared.Statistic.the-variants.{Finite, Unbounded}
+use Rattle.permanova_p_values.specs.Hits.{statistic}
 use Rattle.permanova_statistics.specs.Statistics.{totalOf, withinOf, locationF, dispersionOf, dispersionF}
-use Rattle.permanova_statistics.specs.{Warnings.uninformed, PValues.pValue, Together.together, Summaries.summaryOf}
+use Rattle.permanova_p_values.specs.{PValues.pValue, Together.together}
+use Rattle.permanova_statistics.specs.{Warnings.uninformed, Summaries.summaryOf}
 use Rattle.lot_design.specs.declared.Design.{Design}
 use Rattle.permanova_statistics.specs.declared.observation.Observed.{Observed}
 use Rattle.permanova_statistics.specs.inner.Observed.{observedOf}
@@ -13,9 +14,9 @@ use Rattle.permanova_sampling.specs.declared.hits.{Draws.Draws, Seen.See
 use Rattle.permanova_sampling.specs.{Drawn.hitsOf, Sampled.partsOf, Sampled.pValueOf, Sampled.locationPValue, Sampled.dispersionPValue}
 use Rattle.permanova_sampling.specs.inner.{Drawn.locationHit, Drawn.dispersionHit, Drawn.hitsAmong, Drawn.drawn, Neither.neither}
 use Rattle.permanova_sampling.specs.inner.{Neither.both, Tested.pValuesOf, Measurement.Concludes}
-use Rattle.permanova_statistics.specs.declared.p_value.PValue.{PValue}
-use Rattle.permanova_statistics.specs.declared.p_value.PValue.the-variants.{NoP}
-use Rattle.permanova_statistics.proofs.JointWarnings.{together-le}
+use Rattle.permanova_p_values.specs.declared.PValue.{PValue}
+use Rattle.permanova_p_values.specs.declared.PValue.the-variants.{NoP}
+use Rattle.permanova_p_values.proofs.JointWarnings.{together-le}
 use Rattle.permanova_statistics.specs.declared.summary.Summary.{Summary}
 use Rattle.permanova_sampling.specs.declared.PValues.{PValues}
 use Rattle.permanova_sampling.specs.Tested.{tested}

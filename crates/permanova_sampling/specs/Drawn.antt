@@ -4,7 +4,7 @@ use mathlib.Core.List.{List}
 use lib.Ieee.{Float}
 use Rattle.lists.specs.Ranges.{range}
 use Rattle.lists.specs.Filters.{countIf}
-use Rattle.permanova_statistics.specs.Hits.{statistic, shuffleHit}
+use Rattle.permanova_p_values.specs.Hits.{statistic, shuffleHit}
 use Rattle.shuffle.specs.Shuffled.{shuffled}
 
 -- how many of n shuffles have an F that is a hit of the observed

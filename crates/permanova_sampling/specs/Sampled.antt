@@ -5,13 +5,13 @@ use lib.Ieee.{Float}
 use Rattle.lot.specs.Lot.{Lot}
 use Rattle.lot.specs.Kept.{groups, keptCount}
 use Rattle.lot.specs.Strata.{strata, strataCount}
-use Rattle.permanova_statistics.specs.Hits.{statistic}
+use Rattle.permanova_p_values.specs.Hits.{statistic}
 use Rattle.permanova_statistics.specs.Statistics.{locationF, zOf, dispersionOf}
 use Rattle.permanova_statistics.specs.Warnings.{uninformed}
 use Rattle.shuffle.specs.Shuffled.{parts}
 use Rattle.permanova_sampling.specs.Drawn.{hitsOf}
-use Rattle.permanova_statistics.specs.declared.p_value.PValue.{PValue}
-use Rattle.permanova_statistics.specs.PValues.{pValue}
+use Rattle.permanova_p_values.specs.declared.PValue.{PValue}
+use Rattle.permanova_p_values.specs.PValues.{pValue}
 
 unfoldable pub partsOf : Lot → List (List ℕ)
 partsOf lot = parts (strata lot) (keptCount (lot .labels)) (strataCount lot)

@@ -4,7 +4,7 @@ use Rattle.lot.specs.Lot.{Lot}
 use Rattle.lot.specs.Kept.{groups}
 use Rattle.permanova_statistics.specs.Statistics.{locationF, dispersionF}
 use Rattle.permanova_statistics.specs.Warnings.{sizesOf}
-use Rattle.permanova_statistics.specs.Together.{together}
+use Rattle.permanova_p_values.specs.Together.{together}
 use Rattle.permanova_statistics.specs.Summaries.{summaryOf}
 use Rattle.permanova_sampling.specs.declared.TestResult.{TestResult}
 use Rattle.permanova_sampling.specs.Sampled.{locationPValue, dispersionPValue}

@@ -2,7 +2,7 @@
 use lot::Shape;
 use lot_design::Design;
 use permanova_dispersion::anova;
-use permanova_statistics::Statistic;
+use permanova_p_values::Statistic;
 use shuffle::DrawState;
 ghost use mathlib.Core.Path.{_≡_};
 ghost use Prim.Native.Nat.{_+_, _*_, _<_, _≤_};
@@ -74,7 +74,7 @@ fn location_hit(
     let g = sizes.groups;
     let inside = permanova_statistics::within(t, w, lab, m, g, next, mem);
     let f = permanova_location::pseudo_f(total, inside, m, g);
-    permanova_statistics::shuffle_hit(observed, f)
+    permanova_p_values::shuffle_hit(observed, f)
 }
 
 // The same of the observed dispersion, over the observed z, whose mean is at hand. `means` lends room.
@@ -94,7 +94,7 @@ fn dispersion_hit(
     let m = sizes.kept;
     let g = sizes.groups;
     let f = anova::anova_about(z, lab, m, g, next, mem, means, grand);
-    permanova_statistics::shuffle_hit(observed, f)
+    permanova_p_values::shuffle_hit(observed, f)
 }
 
 // One more, if so.

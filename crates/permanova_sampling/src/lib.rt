@@ -4,11 +4,10 @@ pub mod hits;
 use crate::hits::Draws;
 use crate::hits::Seen;
 use lot_design::Design;
-use permanova_statistics::Statistic;
+use permanova_p_values::PValue;
+use permanova_p_values::Statistic;
 use permanova_statistics::observation;
 use permanova_statistics::observation::Observed;
-use permanova_statistics::p_value;
-use permanova_statistics::p_value::PValue;
 use permanova_statistics::summary::Summary;
 ghost use mathlib.Core.Path.{_≡_};
 ghost use Prim.Native.Nat.{ℕ, _≤_};
@@ -72,8 +71,8 @@ fn p_values_drawn(
     let first = seen.location;
     let second = seen.dispersion;
     let h = hits::draw(d, t, w, z, seen, draws);
-    let location = p_value::p_value_of(none, first, h.location, draws.many);
-    let dispersion = p_value::p_value_of(none, second, h.dispersion, draws.many);
+    let location = permanova_p_values::p_value_of(none, first, h.location, draws.many);
+    let dispersion = permanova_p_values::p_value_of(none, second, h.dispersion, draws.many);
     PValues {
         location,
         dispersion,
@@ -85,9 +84,9 @@ fn p_values_of(d: Design, t: &[f64], w: &[f64], z: &[f64], o: Observed, draws: D
     requires { ⌜ Drawing d (now t) (now w) (now z) × (draws .many ≤ mostShuffles) ⌝ }
     ensures { λ r. ⌜ ((lot : Lot) → room.Seen lot d (now (t .entry)) (now (w .entry)) (now (z .entry)) o → r ≡ pValuesOf lot (draws .seed) (draws .many)) ⌝ }
 {
-    let location = permanova_statistics::statistic_of(o.f);
-    let dispersion = permanova_statistics::statistic_of(o.disp_f);
-    let none = p_value::uninformed(d.stratified, d.informing);
+    let location = permanova_p_values::statistic_of(o.f);
+    let dispersion = permanova_p_values::statistic_of(o.disp_f);
+    let none = permanova_p_values::uninformed(d.stratified, d.informing);
     if neither(none, location, dispersion) {
         return PValues {
             location: PValue::NoP,
@@ -109,7 +108,7 @@ fn conclude(d: Design, weighted: bool, o: Observed, counts: &[u16], c: PValues) 
 {
     let p = c.location;
     let q = c.dispersion;
-    let more = p_value::together_of(counts, p, q);
+    let more = permanova_p_values::together_of(counts, p, q);
     let summary = permanova_statistics::summary::summarise(d, o, counts, more);
     TestResult {
         summary,

@@ -3,8 +3,9 @@ use Rattle.lists.proofs.Base.{_≡_, Bool, not, _&&_, List, ℕ, _+_, _<_, _≤
 use Rattle.float.specs.Floats.{_⊘_, num, 0·5}
 use Rattle.lists.specs.Filters.{any}
 use Rattle.lot.specs.{Lot.Lot, Strata.fraction}
-use Rattle.permanova_statistics.specs.{Warnings.warningBits, Warnings.uninformed, Warnings.sizesOf, Warnings.warned, Summaries.summaryOf}
-use Rattle.permanova_statistics.proofs.JointWarnings.{warned-le}
+use Rattle.permanova_p_values.specs.WarningBits.{warningBits}
+use Rattle.permanova_statistics.specs.{Warnings.uninformed, Warnings.sizesOf, Warnings.warned, Summaries.summaryOf}
+use Rattle.permanova_p_values.proofs.JointWarnings.{warned-le}
 use Rattle.lot_design.specs.declared.Design.{Design}
 use Rattle.lot_design.specs.inner.Designs.{Describes}
 use Rattle.permanova_statistics.specs.declared.observation.Observed.{Observed}

@@ -1,6 +1,5 @@
 // What both tests tell of a lot beside their statistics: kept samples, groups, r2, the informative fraction, warnings (document 01, sections 2 and 8).
 use crate::observation::Observed;
-use crate::p_value;
 use lot_design::Design;
 use lot_design::strata;
 ghost use mathlib.Core.Path.{_≡_};
@@ -29,10 +28,10 @@ pub fn summarise(d: Design, o: Observed, counts: &[u16], more: u8) -> Summary
     ensures { λ r. ⌜ ((lot : Lot) → Describes lot d → o ≡ observedOf lot → now (counts .entry) ≡ sizesOf lot → r ≡ summaryOf lot more) ⌝ }
 {
     let fraction = strata::fraction(d.informing, d.kept);
-    let none = p_value::uninformed(d.stratified, d.informing);
-    let few = p_value::few_inform(fraction, d.informing);
-    let small = crate::some_small(counts);
-    let bits = crate::warning(d.left_out, none, few, small, o.negative);
+    let none = permanova_p_values::uninformed(d.stratified, d.informing);
+    let few = permanova_p_values::few_inform(fraction, d.informing);
+    let small = permanova_p_values::some_small(counts);
+    let bits = permanova_p_values::warning(d.left_out, none, few, small, o.negative);
     Summary {
         n: d.kept,
         n_groups: d.groups,

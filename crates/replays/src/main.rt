@@ -47,11 +47,16 @@ fn all(fd: i32, name: &[u8], op: u64, b: &mut [u8]) {
     replay::tell(name, tally);
 }
 
+// The same, with room for a record.
+fn with_room(fd: i32, name: &[u8], op: u64) {
+    let mut b = [0u8; 640000];
+    all(fd, name, op, &mut b);
+}
+
 // All records of a file.
 fn file(path: &[u8], op: u64) {
-    let mut b = [0u8; 640000];
     let fd = os::open_read(path);
-    all(fd, path, op, &mut b);
+    with_room(fd, path, op);
     libc::close(fd);
 }
 

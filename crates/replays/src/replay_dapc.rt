@@ -35,6 +35,31 @@ fn scored(b: &[u8], at: usize, n: usize, s: Separation, out: &[f64], assigned: &
     replay::same_numbers(b, after(from, k), assigned)
 }
 
+// What came of it, against the outcome that begins at word `at`.
+fn judge(b: &[u8], at: usize, n: usize, r: Answer, out: &[f64], assigned: &[u16]) -> Held {
+    match r {
+        Answer::Refused(e) => replay::refused(b, at, number_of(e)),
+        Answer::Scored(s) => replay::alike(
+            word(b, at) == 0 && scored(b, after(at, 1), n, s, out, assigned),
+        ),
+    }
+}
+
+// A call on what has been read from the record b; the outcome begins at word `at`.
+fn called(
+    b: &[u8],
+    at: usize,
+    n: usize,
+    c: usize,
+    x: &[f64],
+    labels: &[u16],
+    out: &mut [f64],
+    assigned: &mut [u16],
+) -> Held {
+    let r = dapc(x, n, c, labels, out, assigned);
+    judge(b, at, n, r, out, assigned)
+}
+
 // A call on the record b, whose coordinates, labels and outputs have just the lengths asked for.
 fn held(
     b: &[u8],
@@ -46,14 +71,9 @@ fn held(
     assigned: &mut [u16],
 ) -> Held {
     replay::read_floats(b, 3, x);
-    replay::read_numbers(b, after(3, x.len()), labels);
-    let at = after(after(3, x.len()), n);
-    match dapc(x, n, c, labels, out, assigned) {
-        Answer::Refused(r) => replay::refused(b, at, number_of(r)),
-        Answer::Scored(s) => replay::alike(
-            word(b, at) == 0 && scored(b, after(at, 1), n, s, out, assigned),
-        ),
-    }
+    let from = after(3, x.len());
+    replay::read_numbers(b, from, labels);
+    called(b, after(from, n), n, c, x, labels, out, assigned)
 }
 
 // The same, with the slices cut out of larger ones.

@@ -1,6 +1,7 @@
 // Holds `gram_matrix` against a record of a replay file (oracle/README.md).
 use ordination_gram::Answer;
 use ordination_gram::gram_matrix;
+use outcome::Refusal;
 use outcome::number_of;
 use replay::Held;
 use replay::after;
@@ -15,66 +16,80 @@ fn selected(b: &[u8], at: usize, n: usize, k: usize, out: &[f64]) -> bool {
     replay::same_upper(b, after(at, 1), n, out)
 }
 
-// A call on the record b, whose offsets, hashes, output and work have just the lengths asked for.
-fn held(
-    b: &[u8],
-    n: usize,
-    offsets: &mut [usize],
-    hashes: &mut [u64],
-    out: &mut [f64],
-    words: &mut [u64],
-) -> Held {
-    replay::read_indices(b, 2, offsets);
-    replay::read_words(b, after(2, offsets.len()), hashes);
-    let at = after(after(2, offsets.len()), hashes.len());
-    match gram_matrix(hashes, offsets, n, out, words) {
-        Answer::Refused(r) => replay::refused(b, at, number_of(r)),
+// What came of it, against the outcome that begins at word `at`.
+fn judge(b: &[u8], at: usize, n: usize, r: Answer, out: &[f64]) -> Held {
+    match r {
+        Answer::Refused(e) => replay::refused(b, at, number_of(e)),
         Answer::Features(k) => replay::alike(
             word(b, at) == 0 && selected(b, after(at, 1), n, k, out),
         ),
     }
 }
 
-// The same, with the slices cut out of larger ones. The last offset is the number of hashes.
-fn cut(
-    b: &[u8],
-    offsets: &mut [usize],
-    hashes: &mut [u64],
+// `gram_matrix` with work of just the length asked for, cut out of more.
+fn cut_work(
+    hashes: &[u64],
+    offsets: &[usize],
+    n: usize,
     out: &mut [f64],
     words: &mut [u64],
+) -> Answer {
+    let w = product(n, 64);
+    if words.len() < w {
+        return Answer::Refused(Refusal::Length);
+    }
+    gram_matrix(hashes, offsets, n, out, &mut words[..w])
+}
+
+// The same, with work of its own.
+fn ask(hashes: &[u64], offsets: &[usize], n: usize, out: &mut [f64]) -> Answer {
+    let mut words = [0u64; 16384];
+    cut_work(hashes, offsets, n, out, &mut words)
+}
+
+// A call on sets that have been read from the record b; the outcome begins at word `at`.
+fn called(
+    b: &[u8],
+    at: usize,
+    n: usize,
+    hashes: &[u64],
+    offsets: &[usize],
+    out: &mut [f64],
 ) -> Held {
+    let r = ask(hashes, offsets, n, out);
+    judge(b, at, n, r, out)
+}
+
+// A call on the record b, whose hashes, offsets and output have just the lengths asked for.
+fn held(b: &[u8], n: usize, hashes: &mut [u64], offsets: &mut [usize], out: &mut [f64]) -> Held {
+    replay::read_indices(b, 2, offsets);
+    let from = after(2, offsets.len());
+    replay::read_words(b, from, hashes);
+    called(b, after(from, hashes.len()), n, hashes, offsets, out)
+}
+
+// The same, with the slices cut out of larger ones. The last offset is the number of hashes.
+fn cut(b: &[u8], hashes: &mut [u64], offsets: &mut [usize], out: &mut [f64]) -> Held {
     let n = replay::number(b, 1, 256);
     let h = replay::number(b, after(2, n), 65536);
     let o = after(n, 1);
     let k = product(n, n);
-    let w = product(n, 64);
-    if offsets.len() < o {
+    if hashes.len() < h {
         return Held::Difference;
     }
-    if hashes.len() < h {
+    if offsets.len() < o {
         return Held::Difference;
     }
     if out.len() < k {
         return Held::Difference;
     }
-    if words.len() < w {
-        return Held::Difference;
-    }
-    held(
-        b,
-        n,
-        &mut offsets[..o],
-        &mut hashes[..h],
-        &mut out[..k],
-        &mut words[..w],
-    )
+    held(b, n, &mut hashes[..h], &mut offsets[..o], &mut out[..k])
 }
 
 // The same, with room of its own.
 pub fn hold(b: &[u8]) -> Held {
-    let mut offsets = [0usize; 257];
     let mut hashes = [0u64; 65536];
+    let mut offsets = [0usize; 257];
     let mut out = [0.0; 65536];
-    let mut words = [0u64; 16384];
-    cut(b, &mut offsets, &mut hashes, &mut out, &mut words)
+    cut(b, &mut hashes, &mut offsets, &mut out)
 }

@@ -17,53 +17,58 @@ fn found(b: &[u8], at: usize, n: usize, features: usize, out: &[f64]) -> bool {
     word(b, at) == features as u64 && replay::same_floats(b, after(at, 2), &out[..f])
 }
 
-// A call on the record b, whose hashes and offsets are as many as asked for.
-fn held(
-    b: &[u8],
-    n: usize,
-    hashes: &mut [u64],
-    offsets: &mut [usize],
-    out: &mut [f64],
-    c: &mut [f64],
-    w: &mut [f64],
-    m: &mut [f64],
-    v: &mut [f64],
-    words: &mut [u64],
-) -> Held {
-    replay::read_indices(b, 2, offsets);
-    replay::read_words(b, after(2, offsets.len()), hashes);
-    let at = after(after(2, offsets.len()), hashes.len());
-    match hash_pca(
-        hashes,
-        offsets,
-        n,
-        replay::number(b, at, 65536),
-        out,
-        c,
-        w,
-        m,
-        v,
-        words,
-    ) {
-        Answer::Refused(r) => replay::refused(b, after(at, 1), number_of(r)),
-        Answer::Features(k) => replay::alike(
-            word(b, after(at, 1)) == 0 && found(b, after(at, 2), n, k, out),
-        ),
+// What came of it, against the outcome that begins at word `at`.
+fn judge(b: &[u8], at: usize, n: usize, r: Answer, out: &[f64]) -> Held {
+    match r {
+        Answer::Refused(e) => replay::refused(b, at, number_of(e)),
+        Answer::Features(k) => replay::alike(word(b, at) == 0 && found(b, after(at, 1), n, k, out)),
     }
 }
 
-// The same, with the hashes and offsets cut out of more. The last offset is the number of hashes.
-fn cut(
+// `hash_pca` with work of its own.
+fn ask(hashes: &[u64], offsets: &[usize], n: usize, components: usize, out: &mut [f64]) -> Answer {
+    let mut gram = [0.0; 65536];
+    let mut eigenpairs = [0.0; 65792];
+    let mut rotated = [0.0; 65536];
+    let mut vectors = [0.0; 65536];
+    let mut words = [0u64; 16384];
+    hash_pca(
+        hashes,
+        offsets,
+        n,
+        components,
+        out,
+        &mut gram,
+        &mut eigenpairs,
+        &mut rotated,
+        &mut vectors,
+        &mut words,
+    )
+}
+
+// A call on the record b, whose sets have been read; the number of components stands at word `at`.
+fn called(
     b: &[u8],
-    hashes: &mut [u64],
-    offsets: &mut [usize],
+    at: usize,
+    n: usize,
+    hashes: &[u64],
+    offsets: &[usize],
     out: &mut [f64],
-    c: &mut [f64],
-    w: &mut [f64],
-    m: &mut [f64],
-    v: &mut [f64],
-    words: &mut [u64],
 ) -> Held {
+    let r = ask(hashes, offsets, n, replay::number(b, at, 65536), out);
+    judge(b, after(at, 1), n, r, out)
+}
+
+// A call on the record b, whose hashes and offsets are as many as asked for.
+fn held(b: &[u8], n: usize, hashes: &mut [u64], offsets: &mut [usize], out: &mut [f64]) -> Held {
+    replay::read_indices(b, 2, offsets);
+    let from = after(2, offsets.len());
+    replay::read_words(b, from, hashes);
+    called(b, after(from, hashes.len()), n, hashes, offsets, out)
+}
+
+// The same, with the hashes and offsets cut out of more. The last offset is the number of hashes.
+fn cut(b: &[u8], hashes: &mut [u64], offsets: &mut [usize], out: &mut [f64]) -> Held {
     let n = replay::number(b, 1, 256);
     let h = replay::number(b, after(2, n), 65536);
     let o = after(n, 1);
@@ -73,18 +78,7 @@ fn cut(
     if offsets.len() < o {
         return Held::Difference;
     }
-    held(
-        b,
-        n,
-        &mut hashes[..h],
-        &mut offsets[..o],
-        out,
-        c,
-        w,
-        m,
-        v,
-        words,
-    )
+    held(b, n, &mut hashes[..h], &mut offsets[..o], out)
 }
 
 // The same, with room of its own.
@@ -92,20 +86,5 @@ pub fn hold(b: &[u8]) -> Held {
     let mut hashes = [0u64; 65536];
     let mut offsets = [0usize; 257];
     let mut out = [0.0; 4128];
-    let mut c = [0.0; 65536];
-    let mut w = [0.0; 65792];
-    let mut m = [0.0; 65536];
-    let mut v = [0.0; 65536];
-    let mut words = [0u64; 16384];
-    cut(
-        b,
-        &mut hashes,
-        &mut offsets,
-        &mut out,
-        &mut c,
-        &mut w,
-        &mut m,
-        &mut v,
-        &mut words,
-    )
+    cut(b, &mut hashes, &mut offsets, &mut out)
 }

@@ -17,53 +17,53 @@ fn found(b: &[u8], at: usize, n: usize, out: &[f64]) -> bool {
     word(b, at) == n as u64 && replay::same_floats(b, after(at, 2), &out[..f])
 }
 
-// A call on the record b, whose matrix has just the entries asked for.
-fn held(
-    b: &[u8],
-    n: usize,
-    d: &mut [f64],
-    out: &mut [f64],
-    c: &mut [f64],
-    w: &mut [f64],
-    m: &mut [f64],
-    v: &mut [f64],
-) -> Held {
-    replay::read_matrix(b, 2, n, d);
-    let at = after(2, replay::matrix_words(b, 2, n));
-    let components = replay::number(b, at, 65536);
-    match pcoa(d, n, components, out, c, w, m, v) {
-        Check::Refused(r) => replay::refused(b, after(at, 1), number_of(r)),
-        Check::Passed => replay::alike(
-            word(b, after(at, 1)) == 0 && found(b, after(at, 2), n, out),
-        ),
+// What came of it, against the outcome that begins at word `at`.
+fn judge(b: &[u8], at: usize, n: usize, r: Check, out: &[f64]) -> Held {
+    match r {
+        Check::Refused(e) => replay::refused(b, at, number_of(e)),
+        Check::Passed => replay::alike(word(b, at) == 0 && found(b, after(at, 1), n, out)),
     }
 }
 
+// `pcoa` with work of its own.
+fn ask(distances: &[f64], n: usize, components: usize, out: &mut [f64]) -> Check {
+    let mut centred = [0.0; 65536];
+    let mut eigenpairs = [0.0; 65792];
+    let mut rotated = [0.0; 65536];
+    let mut vectors = [0.0; 65536];
+    pcoa(
+        distances,
+        n,
+        components,
+        out,
+        &mut centred,
+        &mut eigenpairs,
+        &mut rotated,
+        &mut vectors,
+    )
+}
+
+// A call on the record b, whose matrix has just the entries asked for.
+fn held(b: &[u8], n: usize, distances: &mut [f64], out: &mut [f64]) -> Held {
+    replay::read_matrix(b, 2, n, distances);
+    let at = after(2, replay::matrix_words(b, 2, n));
+    let r = ask(distances, n, replay::number(b, at, 65536), out);
+    judge(b, after(at, 1), n, r, out)
+}
+
 // The same, with the matrix cut out of a larger one.
-fn cut(
-    b: &[u8],
-    d: &mut [f64],
-    out: &mut [f64],
-    c: &mut [f64],
-    w: &mut [f64],
-    m: &mut [f64],
-    v: &mut [f64],
-) -> Held {
+fn cut(b: &[u8], distances: &mut [f64], out: &mut [f64]) -> Held {
     let n = replay::number(b, 1, 256);
     let k = product(n, n);
-    if d.len() < k {
+    if distances.len() < k {
         return Held::Difference;
     }
-    held(b, n, &mut d[..k], out, c, w, m, v)
+    held(b, n, &mut distances[..k], out)
 }
 
 // The same, with room of its own.
 pub fn hold(b: &[u8]) -> Held {
-    let mut d = [0.0; 65536];
+    let mut distances = [0.0; 65536];
     let mut out = [0.0; 4128];
-    let mut c = [0.0; 65536];
-    let mut w = [0.0; 65792];
-    let mut m = [0.0; 65536];
-    let mut v = [0.0; 65536];
-    cut(b, &mut d, &mut out, &mut c, &mut w, &mut m, &mut v)
+    cut(b, &mut distances, &mut out)
 }

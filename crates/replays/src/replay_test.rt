@@ -2,8 +2,8 @@
 use outcome::number_of;
 use permanova::checks::Answer;
 use permanova::test;
+use permanova_p_values::PValue;
 use permanova_sampling::TestResult;
-use permanova_statistics::p_value::PValue;
 use replay::Held;
 use replay::after;
 use replay::product;
@@ -132,45 +132,6 @@ fn find(b: &[u8], n: usize) -> Places {
     }
 }
 
-// A call on the record b, with slices of just the lengths asked for.
-fn held(
-    b: &[u8],
-    n: usize,
-    d: &mut [f64],
-    labels: &mut [u16],
-    strata: &mut [u16],
-    weights: &mut [f64],
-    group_labels: &mut [u16],
-    counts: &mut [u16],
-    means: &mut [f64],
-    pair_terms: &mut [f64],
-    weighted_squares: &mut [f64],
-) -> Held {
-    let p = find(b, n);
-    replay::read_matrix(b, 2, n, d);
-    replay::read_numbers(b, p.labels, labels);
-    replay::read_numbers(b, after(p.strata, 1), strata);
-    replay::read_floats(b, after(p.weights, 1), weights);
-    let at = after(p.shuffles, 2);
-    let r = test(
-        n,
-        d,
-        labels,
-        word(b, p.strata) == 1,
-        strata,
-        word(b, p.weights) == 1,
-        weights,
-        word(b, after(p.shuffles, 1)),
-        word(b, p.shuffles),
-        group_labels,
-        counts,
-        means,
-        pair_terms,
-        weighted_squares,
-    );
-    judge(b, at, r, group_labels, counts, means)
-}
-
 // What came of it, against the outcome that begins at word `at`.
 fn judge(
     b: &[u8],
@@ -193,20 +154,116 @@ fn judge(
     }
 }
 
-// The same for two matrices and the samples, cut out of larger ones.
-fn cut_samples(
-    b: &[u8],
+// What a record asks, beside its lists.
+struct Asked {
     n: usize,
-    d: &mut [f64],
-    pair_terms: &mut [f64],
-    weighted_squares: &mut [f64],
-    labels: &mut [u16],
-    strata: &mut [u16],
-    weights: &mut [f64],
+    stratified: bool,
+    weighted: bool,
+    seed: u64,
+    n_perm: u64,
+}
+
+fn question(b: &[u8], n: usize, p: Places) -> Asked {
+    Asked {
+        n,
+        stratified: word(b, p.strata) == 1,
+        weighted: word(b, p.weights) == 1,
+        seed: word(b, after(p.shuffles, 1)),
+        n_perm: word(b, p.shuffles),
+    }
+}
+
+// `test` with work of its own.
+fn ask(
+    q: Asked,
+    distances: &[f64],
+    labels: &[u16],
+    strata: &[u16],
+    weights: &[f64],
+    group_labels: &mut [u16],
+    counts: &mut [u16],
+    means: &mut [f64],
+) -> Answer {
+    let mut pair_terms = [0.0; 65536];
+    let mut weighted_squares = [0.0; 65536];
+    test(
+        q.n,
+        distances,
+        labels,
+        q.stratified,
+        strata,
+        q.weighted,
+        weights,
+        q.seed,
+        q.n_perm,
+        group_labels,
+        counts,
+        means,
+        &mut pair_terms,
+        &mut weighted_squares,
+    )
+}
+
+// A call on what has been read from the record b; the outcome begins at word `at`.
+fn called(
+    b: &[u8],
+    at: usize,
+    q: Asked,
+    distances: &[f64],
+    labels: &[u16],
+    strata: &[u16],
+    weights: &[f64],
 ) -> Held {
     let mut group_labels = [0u16; 256];
     let mut counts = [0u16; 256];
     let mut means = [0.0; 256];
+    let r = ask(
+        q,
+        distances,
+        labels,
+        strata,
+        weights,
+        &mut group_labels,
+        &mut counts,
+        &mut means,
+    );
+    judge(b, at, r, &group_labels, &counts, &means)
+}
+
+// A call on the record b, whose distances have been read, with slices of just the lengths asked for.
+fn held(
+    b: &[u8],
+    n: usize,
+    distances: &[f64],
+    labels: &mut [u16],
+    strata: &mut [u16],
+    weights: &mut [f64],
+) -> Held {
+    let p = find(b, n);
+    replay::read_numbers(b, p.labels, labels);
+    replay::read_numbers(b, after(p.strata, 1), strata);
+    replay::read_floats(b, after(p.weights, 1), weights);
+    let q = question(b, n, p);
+    called(
+        b,
+        after(p.shuffles, 2),
+        q,
+        distances,
+        labels,
+        strata,
+        weights,
+    )
+}
+
+// The same, with the samples cut out of more.
+fn cut_samples(
+    b: &[u8],
+    n: usize,
+    distances: &[f64],
+    labels: &mut [u16],
+    strata: &mut [u16],
+    weights: &mut [f64],
+) -> Held {
     if labels.len() < n {
         return Held::Difference;
     }
@@ -219,59 +276,39 @@ fn cut_samples(
     held(
         b,
         n,
-        d,
+        distances,
         &mut labels[..n],
         &mut strata[..n],
         &mut weights[..n],
-        &mut group_labels,
-        &mut counts,
-        &mut means,
-        pair_terms,
-        weighted_squares,
     )
 }
 
-fn cut(
-    b: &[u8],
-    d: &mut [f64],
-    pair_terms: &mut [f64],
-    weighted_squares: &mut [f64],
-    labels: &mut [u16],
-    strata: &mut [u16],
-    weights: &mut [f64],
-) -> Held {
+// The same, with room for the samples.
+fn hold_samples(b: &[u8], n: usize, distances: &[f64]) -> Held {
+    let mut labels = [0u16; 256];
+    let mut strata = [0u16; 256];
+    let mut weights = [0.0; 256];
+    cut_samples(b, n, distances, &mut labels, &mut strata, &mut weights)
+}
+
+// The same, the distances read first.
+fn read(b: &[u8], n: usize, distances: &mut [f64]) -> Held {
+    replay::read_matrix(b, 2, n, distances);
+    hold_samples(b, n, distances)
+}
+
+// The same, with the distances cut out of more.
+fn cut(b: &[u8], distances: &mut [f64]) -> Held {
     let n = replay::number(b, 1, 256);
     let k = product(n, n);
-    if d.len() < k {
+    if distances.len() < k {
         return Held::Difference;
     }
-    cut_samples(
-        b,
-        n,
-        &mut d[..k],
-        pair_terms,
-        weighted_squares,
-        labels,
-        strata,
-        weights,
-    )
+    read(b, n, &mut distances[..k])
 }
 
 // The same, with room of its own.
 pub fn hold(b: &[u8]) -> Held {
-    let mut d = [0.0; 65536];
-    let mut pair_terms = [0.0; 65536];
-    let mut weighted_squares = [0.0; 65536];
-    let mut labels = [0u16; 256];
-    let mut strata = [0u16; 256];
-    let mut weights = [0.0; 256];
-    cut(
-        b,
-        &mut d,
-        &mut pair_terms,
-        &mut weighted_squares,
-        &mut labels,
-        &mut strata,
-        &mut weights,
-    )
+    let mut distances = [0.0; 65536];
+    cut(b, &mut distances)
 }

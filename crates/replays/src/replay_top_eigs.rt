@@ -17,50 +17,51 @@ fn found(b: &[u8], at: usize, n: usize, out: &[f64]) -> bool {
     replay::same_floats(b, after(at, 1), &out[..f])
 }
 
-// A call on the record b, whose matrix has just the entries asked for.
-fn held(
-    b: &[u8],
-    n: usize,
-    a: &mut [f64],
-    out: &mut [f64],
-    w: &mut [f64],
-    m: &mut [f64],
-    v: &mut [f64],
-) -> Held {
-    replay::read_matrix(b, 2, n, a);
-    let at = after(2, replay::matrix_words(b, 2, n));
-    let components = replay::number(b, at, 65536);
-    match top_eigs(a, n, components, out, w, m, v) {
-        Check::Refused(r) => replay::refused(b, after(at, 1), number_of(r)),
-        Check::Passed => replay::alike(
-            word(b, after(at, 1)) == 0 && found(b, after(at, 2), n, out),
-        ),
+// What came of it, against the outcome that begins at word `at`.
+fn judge(b: &[u8], at: usize, n: usize, r: Check, out: &[f64]) -> Held {
+    match r {
+        Check::Refused(e) => replay::refused(b, at, number_of(e)),
+        Check::Passed => replay::alike(word(b, at) == 0 && found(b, after(at, 1), n, out)),
     }
 }
 
+// `top_eigs` with work of its own.
+fn ask(a: &[f64], n: usize, components: usize, out: &mut [f64]) -> Check {
+    let mut eigenpairs = [0.0; 65792];
+    let mut rotated = [0.0; 65536];
+    let mut vectors = [0.0; 65536];
+    top_eigs(
+        a,
+        n,
+        components,
+        out,
+        &mut eigenpairs,
+        &mut rotated,
+        &mut vectors,
+    )
+}
+
+// A call on the record b, whose matrix has just the entries asked for.
+fn held(b: &[u8], n: usize, a: &mut [f64], out: &mut [f64]) -> Held {
+    replay::read_matrix(b, 2, n, a);
+    let at = after(2, replay::matrix_words(b, 2, n));
+    let r = ask(a, n, replay::number(b, at, 65536), out);
+    judge(b, after(at, 1), n, r, out)
+}
+
 // The same, with the matrix cut out of a larger one.
-fn cut(
-    b: &[u8],
-    a: &mut [f64],
-    out: &mut [f64],
-    w: &mut [f64],
-    m: &mut [f64],
-    v: &mut [f64],
-) -> Held {
+fn cut(b: &[u8], a: &mut [f64], out: &mut [f64]) -> Held {
     let n = replay::number(b, 1, 256);
     let k = product(n, n);
     if a.len() < k {
         return Held::Difference;
     }
-    held(b, n, &mut a[..k], out, w, m, v)
+    held(b, n, &mut a[..k], out)
 }
 
 // The same, with room of its own.
 pub fn hold(b: &[u8]) -> Held {
     let mut a = [0.0; 65536];
     let mut out = [0.0; 4112];
-    let mut w = [0.0; 65792];
-    let mut m = [0.0; 65536];
-    let mut v = [0.0; 65536];
-    cut(b, &mut a, &mut out, &mut w, &mut m, &mut v)
+    cut(b, &mut a, &mut out)
 }

@@ -13,7 +13,7 @@ use exhaustive_hits::judgement::Judgement;
 use exhaustive_hits::judgement::Tested;
 use libc::STDOUT_FILENO;
 use outcome::Refusal;
-use permanova_statistics::Statistic;
+use permanova_p_values::Statistic;
 use permanova_statistics::summary::Summary;
 
 // The first n bytes of s.
@@ -214,7 +214,7 @@ fn tested(s: Statistic, hits: usize) -> Tested {
 }
 
 fn show_verdict(n: usize, ways: usize, f: f64, hits: usize, assigned: Assigned) {
-    let location = tested(permanova_statistics::statistic_of(f), hits);
+    let location = tested(permanova_p_values::statistic_of(f), hits);
     let dispersion = tested(Statistic::Unbounded, ways);
     let summary = Summary {
         n,

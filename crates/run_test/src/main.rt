@@ -1,8 +1,8 @@
 // Calls of `test` at the edges of each refusal, and with each warning: for each its answer, then the outputs and what both work slices hold. Every slice holds 7 at first.
 use libc::STDOUT_FILENO;
 use permanova::checks::Answer;
+use permanova_p_values::PValue;
 use permanova_sampling::TestResult;
-use permanova_statistics::p_value::PValue;
 ghost use Prim.Native.Nat.{_≤_};
 
 // ---- what is printed
@@ -108,6 +108,25 @@ fn show_work(s: &[f64]) {
     }
 }
 
+fn show_works(pair_terms: &[f64], weighted_squares: &[f64]) {
+    show_work(pair_terms);
+    show_work(weighted_squares);
+    io::write_all(STDOUT_FILENO, b"\n");
+}
+
+fn show_slices(
+    group_labels: &[u16],
+    counts: &[u16],
+    means: &[f64],
+    pair_terms: &[f64],
+    weighted_squares: &[f64],
+) {
+    show_counts(group_labels);
+    show_counts(counts);
+    show_numbers(means);
+    show_works(pair_terms, weighted_squares);
+}
+
 // ---- calls
 
 // The number of samples, whether strata and weights are given, and how many shuffles are asked.
@@ -147,12 +166,7 @@ fn call(
         weighted_squares,
     );
     show_answer(a);
-    show_counts(group_labels);
-    show_counts(counts);
-    show_numbers(means);
-    show_work(pair_terms);
-    show_work(weighted_squares);
-    io::write_all(STDOUT_FILENO, b"\n");
+    show_slices(group_labels, counts, means, pair_terms, weighted_squares);
 }
 
 // With outputs and work slices for 4 samples.
@@ -567,9 +581,7 @@ fn call_many(
     );
     show_answer(a);
     show_work(means);
-    show_work(pair_terms);
-    show_work(weighted_squares);
-    io::write_all(STDOUT_FILENO, b"\n");
+    show_works(pair_terms, weighted_squares);
 }
 
 fn many() {

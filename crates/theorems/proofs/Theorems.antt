@@ -31,7 +31,8 @@ use lib.Ieee.{Float, Format, binary64, fits, le, round}
 use lib.Ieee.Scale.{finite}
 use lib.Ieee.Positive.{positive}
 use Rattle.limits.specs.Limits.{mostPrinted, mostText}
-use Rattle.float.specs.{Root.root, Nearest.NearestRoot, Value.rank, Value.SignedLe, Tolerance.threshold}
+use Rattle.float.specs.{Value.rank, Value.SignedLe, Tolerance.threshold}
+use Rattle.square_root.specs.{Root.root, Nearest.NearestRoot}
 use Rattle.lists.specs.Filters.{any, countIf}
 use Rattle.outcome.specs.declared.Refusal.{Refusal}
 use Rattle.outcome.specs.{Numbers.number, Outcome.passed, Outcome.answered, Refusals.first, Refusals.short}
@@ -68,7 +69,6 @@ use Rattle.judge_frames.proofs.LongestText as LongestText
 use Rattle.judge.proofs.JudgedTexts as JudgedTexts
 use Rattle.cases.proofs.JudgedCases as JudgedCases
 use Rattle.cases.proofs.ExampleJudged as ExampleJudged
-use Rattle.c_layouts.proofs.AskedLengths as AskedLengths
 
 -- ---- section 1: square root and order of floats
 
@@ -182,7 +182,7 @@ short-at = Lengths.short-at
 
 -- No text that is printed is longer than 93 bytes.
 pub judge-fits : (text : List ℕ) → length (judgeText text) ≤ mostPrinted
-judge-fits = AskedLengths.judge-fits
+judge-fits = JudgedTexts.judge-fits
 
 -- ---- judged samples
 

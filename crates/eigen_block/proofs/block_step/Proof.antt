@@ -1,18 +1,20 @@
 -- `eigen_block::block_step` meets its contract. The shift added to the product held, Gram-Schmidt, and the product anew.
-use Rattle.lists.proofs.Base.{ap, _∙_, List, needs, now, Float}
+use Rattle.lists.proofs.Base.{sym, ap, _∙_, List, needs, now, Float, nan}
+use Rattle.float.specs.Floats.{_⊕_, _⊗_}
+use Rattle.lists.proofs.Zips.{zip-table}
 use Rattle.eigen_vectors.specs.Vectors.{plusTimes}
 use Rattle.eigen_block.specs.{Orthonormal.orthonormal, Rounds.blockStep}
 use Rattle.eigen_block.proofs.block_step.Tie as tie
 
 returns : tie.Need-returns
-unfolding blockStep
+unfolding blockStep plusTimes
 returns c =
     let after-orthonormalize = c .before .before .before .before .before .before .before .before .before in
-    let after-plus-times = after-orthonormalize .before .before .before .before .before in
+    let after-add-multiple = after-orthonormalize .before .before .before .before .before in
     let s = c .before .before .before .before .before .before .before .before .before .before .before .before .before .before .before .before .before .before .before .before in
     let a = s .args in (
       after-orthonormalize .orthonormalize .ensures ∙ ap (orthonormal (a .n) (a .b))
-          (after-plus-times .plus-times .ensures ∙ ap (λ (t : List Float). plusTimes (a .shift) t (now (a .q))) (s .pre .3)),
+          (after-add-multiple .add-multiple .ensures ∙ zip-table (λ u v. u ⊕ a .shift ⊗ v) (now (a .aq)) (now (a .q)) nan nan (s .pre .1 ∙ sym (s .pre .0)) ∙ ap (λ (t : List Float). plusTimes (a .shift) t (now (a .q))) (s .pre .3)),
       c .before .before .matvec-block .ensures,
     )
 

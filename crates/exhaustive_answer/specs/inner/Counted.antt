@@ -4,7 +4,7 @@ use Prim.Native.Nat.{ℕ}
 use lib.Ieee.{Float}
 use Rattle.lot.specs.Lot.{Lot}
 use Rattle.lot.specs.Kept.{groups}
-use Rattle.permanova_statistics.specs.Hits.{statistic}
+use Rattle.permanova_p_values.specs.Hits.{statistic}
 use Rattle.permanova_statistics.specs.declared.observation.Observed.{Observed}
 use Rattle.exhaustive_ways.specs.Ways.{ways}
 use Rattle.exhaustive_hits.specs.declared.Assignment.{Assignment}

@@ -3,7 +3,7 @@ use mathlib.Core.Bool.{Bool, cond}
 use mathlib.Core.List.{List}
 use Prim.Native.Nat.{ℕ}
 use Rattle.lists.specs.Filters.{countIf}
-use Rattle.permanova_statistics.specs.Hits.{hit}
+use Rattle.permanova_p_values.specs.Hits.{hit}
 use Rattle.exhaustive_hits.specs.declared.Seen.{Seen}
 use Rattle.exhaustive_hits.specs.declared.Hits.{Hits}
 use Rattle.exhaustive_hits.specs.WayHits.{asRight}

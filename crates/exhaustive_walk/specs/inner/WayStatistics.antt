@@ -16,8 +16,8 @@ use Rattle.lot_design.specs.inner.Groups.{placed}
 use Rattle.permanova_location.specs.Location.{within, pseudoF}
 use Rattle.permanova_dispersion.specs.Dispersion.{zOf}
 use Rattle.permanova_dispersion.specs.Anova.{anovaF}
-use Rattle.permanova_statistics.specs.declared.Statistic.{Statistic}
-use Rattle.permanova_statistics.specs.Hits.{statistic}
+use Rattle.permanova_p_values.specs.declared.Statistic.{Statistic}
+use Rattle.permanova_p_values.specs.Hits.{statistic}
 use Rattle.dapc_scatter.specs.Means.{grouped}
 use Rattle.dapc_scatter.specs.inner.Means.{Numbered}
 use Rattle.dapc_discriminant.specs.Dapc.{Scores, columnsUsed, axesOf, discriminate}

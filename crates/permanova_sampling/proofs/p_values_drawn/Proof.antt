@@ -2,7 +2,7 @@
 use Rattle.lists.proofs.Base.{ap, _≤_, arith, needs}
 use Rattle.permanova_sampling.specs.declared.hits.Hits.{Hits}
 use Rattle.permanova_sampling.specs.inner.Drawn.{hitsAmong, drawn}
-use Rattle.permanova_statistics.proofs.PValueCases.{hits-few}
+use Rattle.permanova_p_values.proofs.PValueCases.{hits-few}
 use Rattle.permanova_sampling.proofs.SampledAnswers.{both-are}
 use Rattle.permanova_sampling.proofs.p_values_drawn.Tie as tie
 

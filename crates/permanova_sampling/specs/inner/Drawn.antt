@@ -7,8 +7,8 @@ use Rattle.lists.specs.Ranges.{range}
 use Rattle.lists.specs.Filters.{countIf}
 use Rattle.permanova_location.specs.Location.{within, pseudoF}
 use Rattle.permanova_dispersion.specs.Anova.{anovaF}
-use Rattle.permanova_statistics.specs.declared.Statistic.{Statistic}
-use Rattle.permanova_statistics.specs.Hits.{shuffleHit}
+use Rattle.permanova_p_values.specs.declared.Statistic.{Statistic}
+use Rattle.permanova_p_values.specs.Hits.{shuffleHit}
 use Rattle.lot.specs.declared.Shape.{Shape}
 use Rattle.lot_design.specs.declared.Design.{Design}
 use Rattle.lot_design.specs.inner.Designs.{groupsOf, strataOf}

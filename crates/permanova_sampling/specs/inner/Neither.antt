@@ -1,11 +1,11 @@
 -- Section 8: both p from the hits of both, and where there is neither, whatever the hits. Definitions only.
 use Prim.Native.Nat.{ℕ}
 use mathlib.Core.Bool.{Bool, true}
-use Rattle.permanova_statistics.specs.declared.Statistic.{Statistic}
-use Rattle.permanova_statistics.specs.declared.Statistic.the-variants.{Finite, Unbounded}
+use Rattle.permanova_p_values.specs.declared.Statistic.{Statistic}
+use Rattle.permanova_p_values.specs.declared.Statistic.the-variants.{Finite, Unbounded}
 use Rattle.permanova_sampling.specs.declared.hits.Seen.{Seen}
 use Rattle.permanova_sampling.specs.declared.hits.Hits.{Hits}
-use Rattle.permanova_statistics.specs.PValues.{pValue}
+use Rattle.permanova_p_values.specs.PValues.{pValue}
 use Rattle.permanova_sampling.specs.declared.PValues.{PValues}
 
 -- both p, of n shuffles with these hits

@@ -6,16 +6,13 @@ use Rattle.replays.proofs.replay_hash_pca.cut.Tie as tie
 
 slice-aggregate-held : tie.Need-slice-aggregate-held
 slice-aggregate-held c =
-    let start = c .before .before .before .before .before .before .before .before .before .before .before .before .before .before .before .before in
-    sym (length-take-le _ (start .args .hashes .now) (c .before .before .if1 .left))
+    let at-if1 = c .before .before in
+    sym (length-take-le _ (at-if1 .before .before .before .before .before .before .before .before .before .args .hashes .now) (at-if1 .if1 .left))
 
 slice-aggregate-held-2 : tie.Need-slice-aggregate-held-2
 slice-aggregate-held-2 c =
-    let start = c .before .before .before .before .before .before .before .before .before .before .before .before .before .before .before .before .before in
-    sym (length-take-le _ (start .args .offsets .now) (c .before .before .if2 .left))
+    let at-if2 = c .before .before in
+    sym (length-take-le _ (at-if2 .before .before .before .before .before .before .before .before .before .before .args .offsets .now) (at-if2 .if2 .left))
 
 pub cut-spec : {M : Type 1} → Rattle.replays.proofs.replay_hash_pca.cut.Statement.statement M
-cut-spec = tie.close (tie.spec (λ c κs. search needs) (λ c κs. search needs) (λ c κs. search needs) (λ c κs. search needs) (λ c. search needs)
-    (λ c. search needs) (λ c. search needs) slice-aggregate-held (λ c. search needs) slice-aggregate-held-2 (λ c κs. search needs)
-    (λ c. search needs) (λ c. search needs) (λ c. search needs) (λ c. search needs) (λ c. search needs) (λ c. search needs) (λ c. search needs)
-    (λ c. search needs) (λ c. search needs))
+cut-spec = tie.close (tie.spec (λ c κs. search needs) (λ c κs. search needs) (λ c κs. search needs) (λ c κs. search needs) (λ c. search needs) (λ c. search needs) (λ c. search needs) slice-aggregate-held (λ c. search needs) slice-aggregate-held-2 (λ c κs. search needs) (λ c. search needs) (λ c. search needs) (λ c. search needs) (λ c. search needs))

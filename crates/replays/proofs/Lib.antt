@@ -1,0 +1,2 @@
+-- The lengths of arrays of zeros.
+pub mod Blank
