@@ -143,7 +143,7 @@ fn too_wide() -> bool {
 // 65,536 hashes pass the limit, and have none that can be used; one more is beyond it.
 fn longest() -> bool {
     let h = [5u64; 65537];
-    if !refused(6, &h[..65536], &[0, 65536, 65536, 65536], 3) {
+    if !refused(13, &h[..65536], &[0, 65536, 65536, 65536], 3) {
         return false;
     }
     refused(2, &h, &[0, 65537, 65537, 65537], 3)
@@ -167,6 +167,17 @@ fn too_many() -> bool {
     all_words(&words, 7)
 }
 
+// No hash at all in 0, 2 and 3 sets; a hash in every set, and one three times in one set: both are as frequent as there are samples.
+fn catches() {
+    let none: [u64; 0] = [];
+    let all = [5u64, 5, 5];
+    tell(refused(6, &none, &[0], 0));
+    tell(refused(6, &none, &[0, 0, 0], 2));
+    tell(refused(13, &none, &[0, 0, 0, 0], 3));
+    tell(refused(13, &all, &[0, 1, 2, 3], 3));
+    tell(refused(13, &all, &[0, 3, 3, 3], 3));
+}
+
 pub fn run() {
     let two = [5u64, 5];
     let other = [5u64, 6];
@@ -178,9 +189,10 @@ pub fn run() {
     tell(refused(1, &two, &[0, 2, 1, 2, 2], 4));
     tell(refused(1, &two, &[1, 1, 2, 2, 2], 4));
     tell(refused(6, &two, &[0, 1, 2], 2));
-    tell(refused(6, &other, &[0, 1, 2, 2, 2], 4));
+    tell(refused(13, &other, &[0, 1, 2, 2, 2], 4));
     tell(widest());
     tell(too_wide());
     tell(longest());
     tell(too_many());
+    catches();
 }

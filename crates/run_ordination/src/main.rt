@@ -169,7 +169,7 @@ fn call_hashes(hashes: &[u64], offsets: &[usize], n: usize, components: usize) {
     call_sets(hashes, offsets, n, components, &mut words);
 }
 
-// Sets {5}, {5}, {}, {}; sets with repeats; one set fewer than 3; no hash that can be used; 17 components; words that are short by one.
+// Sets {5}, {5}, {}, {}; sets with repeats; one set fewer than 3; no hash to select; 17 components; words that are short by one.
 fn sets() {
     let two = [5u64, 5];
     call_hashes(&two, &[0, 1, 2, 2, 2], 4, 2);
@@ -181,6 +181,19 @@ fn sets() {
     call_sets(&two, &[0, 1, 2, 2, 2], 4, 2, &mut words);
 }
 
+// No hash at all in 0, 2 and 3 sets; a hash in every set, and one three times in one set; 17 components and none, with no hash to select.
+fn catches() {
+    let none: [u64; 0] = [];
+    let all = [5u64, 5, 5];
+    call_hashes(&none, &[0], 0, 2);
+    call_hashes(&none, &[0, 0, 0], 2, 2);
+    call_hashes(&none, &[0, 0, 0, 0], 3, 2);
+    call_hashes(&all, &[0, 1, 2, 3], 3, 2);
+    call_hashes(&all, &[0, 3, 3, 3], 3, 2);
+    call_hashes(&none, &[0, 0, 0, 0], 3, 17);
+    call_hashes(&none, &[0, 0, 0, 0], 3, 0);
+}
+
 fn main() {
     eigenpairs::run();
     grams::run();
@@ -188,4 +201,5 @@ fn main() {
     bounds();
     refusals();
     sets();
+    catches();
 }

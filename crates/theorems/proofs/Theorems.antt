@@ -23,21 +23,22 @@
 -- The functions of include/lotjudge.h lay the same out as numbers and arrays (lotjudge_c/specs/Exported, c_layouts/specs/Layouts).
 use mathlib.Core.Path.{_≡_}
 use mathlib.Core.Bool.{Bool, true, false, not, _&&_, _||_}
-use mathlib.Core.List.{List, [], _∷_, _++_}
+use mathlib.Core.List.{List, [], _∷_, _++_, map}
 use Prim.Native.Nat.{ℕ, _+_, _*_, _≤_, _<_}
 use lib.Dec.{T, leb, ltb}
 use lib.ListN.{length, take, getD}
 use lib.Ieee.{Float, Format, binary64, fits, le, round}
 use lib.Ieee.Scale.{finite}
 use lib.Ieee.Positive.{positive}
-use Rattle.limits.specs.Limits.{mostPrinted, mostText}
+use Rattle.limits.specs.Limits.{mostPrinted, mostText, mostSamples, mostHashes}
 use Rattle.float.specs.{Value.rank, Value.SignedLe, Tolerance.threshold}
 use Rattle.square_root.specs.{Root.root, Nearest.NearestRoot}
 use Rattle.lists.specs.Filters.{any, countIf}
 use Rattle.outcome.specs.declared.Refusal.{Refusal}
-use Rattle.outcome.specs.{Numbers.number, Outcome.passed, Outcome.answered, Refusals.first, Refusals.short}
+use Rattle.outcome.specs.{Numbers.number, Outcome.passed, Outcome.answered, Outcome.refused, Refusals.Line, Refusals.first, Refusals.short}
 use Rattle.lot.specs.{Lot.Lot, Kept.kept, Kept.keptCount, Kept.groupCount, Lines.testLines, Way.IsWay, Way.relabelled, Way.SameLot}
 use Rattle.permanova_statistics.specs.Exact.{Exact, inexact}
+use Rattle.ordination_hashes.specs.{Selected.selected, Lines.badOffsets, Lines.gramLines}
 use Rattle.exhaustive_ways.specs.{Ways.ways, Every.Every, Level.Ranks}
 use Rattle.exhaustive_hits.specs.declared.judgement.Judgement.{Judgement}
 use Rattle.exhaustive_hits.specs.{Assignments.columnsOf, Assignments.assignment, Level.Level}
@@ -57,6 +58,7 @@ use Rattle.float.proofs.Tolerance as Tolerance
 use Rattle.outcome.proofs.Names as Names
 use Rattle.outcome.proofs.Lengths as Lengths
 use Rattle.lot.proofs.Relabelled as Relabelled
+use Rattle.ordination_hashes.proofs.LineOrder as LineOrder
 use Rattle.permanova_statistics.proofs.Exact as ExactSums
 use Rattle.exhaustive_ways.proofs.ListLevels as ListLevels
 use Rattle.exhaustive_hits.proofs.SameStatistics as SameStatistics
@@ -168,6 +170,22 @@ example = (ExampleJudged.example .judged, ExampleJudged.example .inUpperCase, Ex
 -- No two refusals have one number: a contract that fixes the number fixes the name.
 pub number-injective : (r s : Refusal) → number r ≡ number s → r ≡ s
 number-injective = Names.number-injective
+
+-- The lines of `gram_matrix` and `hash_pca` by their numbers, in the order in which they are tested.
+pub tested-in-order : (n : ℕ) (hashes offsets : List ℕ) (short beyond : Bool)
+    → map (λ (l : Line). l .returned) (gramLines n hashes offsets short beyond) ≡ 1 ∷ 2 ∷ 6 ∷ 13 ∷ 7 ∷ []
+tested-in-order = LineOrder.tested-in-order
+
+-- Where lines 1 and 2 pass, fewer than three samples is 6 whatever the hashes are.
+pub few-samples : (n : ℕ) (hashes offsets : List ℕ) (short beyond : Bool) → (badOffsets n (length hashes) offsets || short) ≡ false
+    → (ltb mostSamples n || ltb mostHashes (length hashes) || beyond) ≡ false → n < 3 → first (gramLines n hashes offsets short beyond) ≡ refused 6
+few-samples = LineOrder.few-samples
+
+-- There three samples and more without a hash to select is 13.
+pub empty-catch : (n : ℕ) (hashes offsets : List ℕ) (short beyond : Bool) → (badOffsets n (length hashes) offsets || short) ≡ false
+    → (ltb mostSamples n || ltb mostHashes (length hashes) || beyond) ≡ false → 3 ≤ n → length (selected n hashes) ≡ 0
+    → first (gramLines n hashes offsets short beyond) ≡ refused 13
+empty-catch = LineOrder.empty-catch
 
 -- ---- lengths: line 1 of each operation holds the lengths of what is lent against its own list of those asked (`testAsks` beside `testCall`, and so for
 -- the others), and callers are told that list
