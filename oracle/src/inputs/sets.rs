@@ -59,13 +59,16 @@ fn universe(width: usize, draw: &mut SplitMix) -> Vec<u64> {
     hashes
 }
 
-/// The refusal of sets that the Rust gives None for: too few of them, or no hash to select.
+/// The refusal of sets that the Rust gives None for: 6 for fewer than three, 13 where no hash has a frequency of 2 to n - 1.
 pub fn refusal(sets: &[Vec<u64>]) -> u64 {
     if sets.len() < 3 {
-        6
-    } else {
-        13
+        return 6;
     }
+    let mut hashes = sets.concat();
+    hashes.sort_unstable();
+    let selected = hashes.chunk_by(|a, b| a == b).any(|same| (2..sets.len()).contains(&same.len()));
+    assert!(!selected, "None of the Rust for sets with a hash to select");
+    13
 }
 
 /// n, the n + 1 offsets of the sets in the list of hashes, and the list.
