@@ -1,0 +1,2 @@
+-- What holds of sets that no line turns away.
+pub mod AcceptedSets
