@@ -13,7 +13,7 @@ ghost use Rattle.ordination_coordinates.specs.Lengths.{pcoaAsks, hashPcaAsks};
 ghost use Rattle.dapc.specs.DapcLines.{dapcAsks};
 ghost use Rattle.eigen_jacobi.specs.Call.{jacobiAsks};
 ghost use Rattle.eigen_top.specs.TopLines.{topAsks};
-ghost use Rattle.ordination_hashes.specs.Lines.{gramAsks};
+ghost use Rattle.ordination_sets.specs.Lines.{gramAsks};
 ghost use Rattle.c_layouts.specs.Lengths.{tell, told};
 
 pub fn test_lengths(n: usize, lengths: &mut [usize; 5]) -> u8

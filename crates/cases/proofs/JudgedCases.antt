@@ -5,7 +5,8 @@ use Rattle.float.specs.Floats.{zero⁺, 2·0, bits}
 use Rattle.square_root.proofs.Cases.{root-of-smallest, root-of-two}
 use Rattle.lists.specs.{Ranges.upFrom, Ranges.table, Ranges.rows, Ranges.grid, Filters.filter, Filters.countIf, Filters.any}
 use Rattle.lists.specs.{Numbers.howMany, Numbers.contains, Numbers.insertUp, Numbers.upward, Sums.sumFrom, Writes.over, Writes.cleared}
-use Rattle.ordination_hashes.specs.{Sets.setAt, Sets.sets, Selected.selected, Selected.frequency}
+use Rattle.ordination_hashes.specs.Selected.{selected, frequency}
+use Rattle.ordination_sets.specs.Sets.{setAt, sets}
 use Rattle.permanova.proofs.Cases.{case-c-total, case-c-within}
 use Rattle.exhaustive_ways.proofs.Cases as ways
 use Rattle.ordination_gram.specs.Gram.{meanSum, shared, gram}

@@ -26,7 +26,7 @@ ghost use Rattle.ordination_coordinates.specs.Lengths.{pcoaAsks, hashPcaAsks};
 ghost use Rattle.dapc.specs.DapcLines.{dapcAsks};
 ghost use Rattle.eigen_jacobi.specs.Call.{jacobiAsks};
 ghost use Rattle.eigen_top.specs.TopLines.{topAsks};
-ghost use Rattle.ordination_hashes.specs.Lines.{gramAsks};
+ghost use Rattle.ordination_sets.specs.Lines.{gramAsks};
 ghost use Rattle.c_layouts.specs.Lengths.{tell, told};
 ghost use Rattle.lotjudge_c.specs.Exported.{exportTest, testExport, exportWays, waysExport, exportPcoa, pcoaExport, exportHashPca, hashPcaExport};
 ghost use Rattle.lotjudge_c.specs.Exported.{exportDapc, dapcExport, exportJacobi, jacobiExport, exportTop, topExport, exportGram, gramExport};

@@ -5,9 +5,10 @@ use Rattle.float.specs.Floats.{bits}
 use Rattle.lists.specs.{Ranges.upFrom, Ranges.range, Ranges.table, Ranges.rows, Ranges.grid, Filters.filter, Filters.countIf, Filters.any}
 use Rattle.lists.specs.{Numbers.howMany, Numbers.contains, Numbers.insertUp, Numbers.upward, Sums.sumFrom, Writes.over, Writes.cleared}
 use Rattle.outcome.specs.{Refusals.first, Refusals.short, Outcome.answered, Slices.output, Slices.work}
-use Rattle.ordination_hashes.specs.{Sets.setAt, Sets.sets, Selected.selected, Selected.frequency}
+use Rattle.ordination_hashes.specs.Selected.{selected, frequency}
+use Rattle.ordination_sets.specs.Sets.{setAt, sets}
 use Rattle.ordination_gram.specs.{Gram.meanSum, Gram.shared, Gram.gram, Call.features, Call.leaves, Call.gramCall}
-use Rattle.ordination_hashes.specs.Lines.{falls, badOffsets, tooShort, earlyLines, lateLines, gramLines}
+use Rattle.ordination_sets.specs.Lines.{falls, badOffsets, tooShort, earlyLines, lateLines, gramLines}
 
 -- ---- case (j): sets {5}, {5}, {}, {}
 

@@ -3,7 +3,7 @@ use Rattle.lists.proofs.Base.{_≡_, ap, ap₂, _∙_, _&&_, List, map, ℕ, _*
 use Rattle.float.specs.Floats.{_⊕_, _⊖_, num, zero⁻}
 use Rattle.lists.specs.{Ranges.range, Ranges.table, Ranges.rows, Ranges.grid, Filters.countIf, Numbers.contains, Rows.row, Sums.sumFrom, Writes.over}
 use Rattle.lists.proofs.{Ranges.length-table, Ranges.getD-table, Writes.getD-over, Grids.row-rows, Grids.grid-ext}
-use Rattle.ordination_hashes.specs.Sets.{setAt}
+use Rattle.ordination_sets.specs.Sets.{setAt}
 use Rattle.ordination_gram.specs.inner.Bits.{packed, common, present}
 use Rattle.ordination_gram.proofs.Bits.{common-packed, both-table, length-packed}
 use Rattle.ordination_gram.specs.inner.Columns.{square, columnSum, entryAt, columnGram}

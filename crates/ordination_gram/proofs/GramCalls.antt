@@ -5,7 +5,8 @@ use Rattle.lists.specs.{Filters.all, Writes.over, Writes.cleared}
 use Rattle.outcome.specs.declared.Refusal.{Refusal}
 use Rattle.outcome.specs.{Refusals.first, Outcome.Outcome, Outcome.Told, Outcome.answered, Outcome.refused, Outcome.passed, Outcome.judged}
 use Rattle.outcome.specs.{Numbers.number, Slices.untouched, Slices.output, Slices.work}
-use Rattle.ordination_hashes.specs.{Selected.selected, Lines.tooShort, Lines.gramLines, Lines.earlyLines, Lines.lateLines}
+use Rattle.ordination_hashes.specs.Selected.{selected}
+use Rattle.ordination_sets.specs.Lines.{tooShort, gramLines, earlyLines, lateLines}
 use Rattle.ordination_hashes.specs.inner.{Columns.columnOf, Stretches.Selection, Stretches.Climbs}
 use Rattle.ordination_hashes.proofs.{Stretches.upward-selected, Lookup.upward-climbs}
 use Rattle.ordination_gram.specs.inner.{Columns.columnGram, Call.Checked, Call.matrixCall}
@@ -13,7 +14,7 @@ use Rattle.ordination_gram.specs.declared.Answer.{Answer}
 use Rattle.ordination_gram.specs.declared.Answer.the-variants as answer
 use Rattle.ordination_gram.specs.{Gram.gram, Call.features, Call.outcomeOf, Call.Called, Call.leaves, Call.gramCall, Call.called}
 use Rattle.outcome.proofs.Table.{first-before, first-after, first-untouched, judged-passes, judged-refused}
-use Rattle.ordination_hashes.proofs.AcceptedSets.{Accepted, accepted, late-passes}
+use Rattle.ordination_sets.proofs.AcceptedSets.{Accepted, accepted, late-passes}
 use Rattle.ordination_gram.proofs.GramOfColumns.{gram-is}
 
 -- ---- the answer, in two parts

@@ -5,7 +5,8 @@ use Rattle.float.specs.Floats.{_⊕_, _⊖_, num, zero⁻}
 use Rattle.lists.specs.{Ranges.range, Filters.filter, Filters.countIf, Filters.any, Filters.firstAt, Numbers.contains, Numbers.position, Sums.sumFrom}
 use Rattle.lists.proofs.{Ranges.length-table, Ranges.getD-table, Filters.drop-more, Counts.count-places, Counts.count-below}
 use Rattle.lists.proofs.{Truths.same-or-not, Truths.never, Grids.grid-ext, Tallies.contains-cons, Parts.getD-map-in}
-use Rattle.ordination_hashes.specs.{Selected.selected, Selected.frequency, Sets.setAt, Sets.sets}
+use Rattle.ordination_hashes.specs.Selected.{selected, frequency}
+use Rattle.ordination_sets.specs.Sets.{setAt, sets}
 use Rattle.limits.specs.Limits.{none}
 use Rattle.ordination_hashes.specs.inner.Columns.{columnOf}
 use Rattle.lists.proofs.Upward.{Upward, upward-upward}

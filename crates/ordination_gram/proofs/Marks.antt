@@ -5,7 +5,7 @@ use Rattle.float.specs.Floats.{_⊕_, zero⁻}
 use Rattle.lists.specs.{Filters.filter, Filters.any, Numbers.contains, Sums.sumFrom}
 use Rattle.lists.proofs.{Ranges.length-table, Parts.drop-map, Parts.take-map, Parts.getD-map-in}
 use Rattle.ordination_hashes.specs.inner.Columns.{columnOf}
-use Rattle.ordination_hashes.specs.Sets.{setAt}
+use Rattle.ordination_sets.specs.Sets.{setAt}
 use Rattle.ordination_gram.specs.inner.{Bits.packed, Bits.present, Columns.columnSum}
 use Rattle.ordination_gram.proofs.{Bits.marked, Bits.packed-none, SharedColumns.present-next, SharedColumns.present-same, SharedColumns.present-all}
 use Rattle.ordination_gram.proofs.MeanSums.{meanAt, hasMean, mean-in, mean-out, mean-end}

@@ -13,7 +13,7 @@ use Rattle.ordination_gram.specs.declared.Answer.{Answer}
 use Rattle.ordination_gram.specs.declared.Answer.the-variants.{Features, Refused}
 use Rattle.ordination_hashes.specs.Selected.{selected, frequency}
 use Rattle.ordination_gram.specs.Gram.{gram}
-use Rattle.ordination_hashes.specs.Lines.{tooShort, gramLines}
+use Rattle.ordination_sets.specs.Lines.{tooShort, gramLines}
 
 -- the answer for any arguments: the number of selected hashes, or a refusal
 unfoldable pub features : ℕ → List ℕ → List ℕ → Bool → Bool → Outcome ℕ

@@ -10,7 +10,7 @@ use Rattle.lists.specs.Filters.{filter, countIf}
 use Rattle.lists.specs.Numbers.{contains}
 use Rattle.lists.specs.Sums.{sum⁻}
 use Rattle.ordination_hashes.specs.Selected.{selected, frequency}
-use Rattle.ordination_hashes.specs.Sets.{sets}
+use Rattle.ordination_sets.specs.Sets.{sets}
 
 -- the sum of the means over a set's selected hashes, in the set's order, repeats included
 unfoldable pub meanSum : ℕ → List ℕ → List ℕ → List ℕ → Float

@@ -12,8 +12,8 @@ ghost use Rattle.lists.specs.Sums.{sum⁻};
 ghost use Rattle.lists.specs.Writes.{over, cleared};
 ghost use Rattle.ordination_hashes.specs.inner.Columns.{columnOf};
 ghost use Rattle.ordination_hashes.specs.inner.Stretches.{Climbs};
-ghost use Rattle.ordination_hashes.specs.Sets.{setAt};
-ghost use Rattle.ordination_hashes.specs.inner.Sets.{Offsets};
+ghost use Rattle.ordination_sets.specs.Sets.{setAt};
+ghost use Rattle.ordination_sets.specs.inner.Offsets.{Offsets};
 ghost use Rattle.ordination_gram.specs.inner.Bits.{packed, present};
 ghost use Rattle.ordination_gram.specs.inner.Columns.{square, columnSum, entryAt, columnGram};
 

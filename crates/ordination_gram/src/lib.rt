@@ -4,7 +4,6 @@
 pub mod bitsets;
 pub mod columns;
 
-use ordination_hashes::sets;
 use outcome::Check;
 use outcome::Refusal;
 ghost use mathlib.Core.Path.{_≡_};
@@ -14,7 +13,7 @@ ghost use lib.ListN.{length};
 ghost use Rattle.limits.specs.Limits.{mostSamples, mostSelected};
 ghost use Rattle.outcome.specs.Refusals.{first};
 ghost use Rattle.outcome.specs.Outcome.{answered, judged};
-ghost use Rattle.ordination_hashes.specs.Lines.{lateLines};
+ghost use Rattle.ordination_sets.specs.Lines.{lateLines};
 ghost use Rattle.ordination_gram.specs.Call.{outcomeOf, gramCall, called};
 ghost use Rattle.ordination_gram.specs.inner.Call.{Checked, matrixCall};
 
@@ -28,7 +27,7 @@ pub enum Answer {
 fn counted(m: usize) -> Answer
     ensures { λ r. ⌜ outcomeOf r ≡ judged (first (lateLines m)) (answered m) ⌝ }
 {
-    let c = sets::late(m);
+    let c = ordination_sets::late(m);
     match c {
         Check::Refused(r) => Answer::Refused(r),
         Check::Passed => Answer::Features(m),
@@ -49,7 +48,7 @@ fn check_gram(
     requires { ⌜ (mostSelected ≤ length (now chosen)) × (mostSelected ≤ length (now means)) ⌝ }
     ensures { λ r. ⌜ Checked n (now (hashes .entry)) (now (offsets .entry)) short beyond r (now (chosen .exit)) (now (means .exit)) ⌝ }
 {
-    let e = sets::early(offsets, n, hashes.len(), short, beyond);
+    let e = ordination_sets::early(offsets, n, hashes.len(), short, beyond);
     match e {
         Check::Refused(r) => Answer::Refused(r),
         Check::Passed => {
@@ -136,6 +135,6 @@ pub fn gram_matrix(
     ensures { λ r. ⌜ called r (now (out .exit)) (now (words .exit))
         ≡ gramCall n (now (hashes .entry)) (now (offsets .entry)) (now (out .entry)) (now (words .entry)) ⌝ }
 {
-    let short = sets::too_short(n, out.len(), words.len());
+    let short = ordination_sets::too_short(n, out.len(), words.len());
     matrix(out, words, hashes, offsets, n, short, false)
 }

@@ -10,12 +10,13 @@ use Rattle.outcome.specs.Outcome.{Outcome, Told, answered, refused, passed, jud
 use Rattle.outcome.specs.{Numbers.number, Numbers.told, Slices.untouched, Slices.output, Slices.work}
 use Rattle.ordination_gram.specs.declared.Answer.{Answer}
 use Rattle.ordination_gram.specs.declared.Answer.the-variants as answer
-use Rattle.ordination_hashes.specs.{Selected.selected, Lines.gramLines, Lines.earlyLines, Lines.lateLines}
+use Rattle.ordination_hashes.specs.Selected.{selected}
+use Rattle.ordination_sets.specs.Lines.{gramLines, earlyLines, lateLines}
 use Rattle.ordination_gram.specs.{Gram.gram, Call.features, Call.outcomeOf}
 use Rattle.ordination_gram.specs.Call as of-gram
 use Rattle.ordination_gram.specs.inner.Call.{matrixCall}
 use Rattle.outcome.proofs.Table.{first-untouched, judged-passes, judged-refused, told-passed, told-refused}
-use Rattle.ordination_hashes.proofs.AcceptedSets.{Accepted, accepted}
+use Rattle.ordination_sets.proofs.AcceptedSets.{Accepted, accepted}
 use Rattle.ordination_coordinates.specs.{Lengths.lacking, Lines.badComponents, Finish.Coordinates, Pcoa.ordinate, Pcoa.hashPca}
 use Rattle.ordination_pcoa.specs.Given.{written}
 use Rattle.ordination_pcoa.specs.Call as of-pcoa

@@ -10,7 +10,7 @@ use Rattle.outcome.specs.Outcome.{Outcome, answered, judged, andThen}
 use Rattle.outcome.specs.Slices.{work}
 use Rattle.ordination_gram.specs.declared.Answer.{Answer}
 use Rattle.ordination_hashes.specs.Selected.{selected}
-use Rattle.ordination_hashes.specs.Lines.{gramLines}
+use Rattle.ordination_sets.specs.Lines.{gramLines}
 use Rattle.ordination_gram.specs.Call.{outcomeOf}
 use Rattle.ordination_coordinates.specs.Lengths.{lacking}
 use Rattle.ordination_coordinates.specs.Lines.{badComponents}

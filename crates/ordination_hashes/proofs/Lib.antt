@@ -1,6 +1,5 @@
 -- The laws of distributing and of the order that it makes.
 -- The selected hashes, stretch by stretch, each in runs as long as a hash is frequent; and a hash looked up among them.
--- What holds of sets that no line turns away, and the order of the lines.
 pub mod Distributing
 pub mod DigitSorting
 pub mod Upward
@@ -9,5 +8,3 @@ pub mod Runs
 pub mod Scans
 pub mod Stretches
 pub mod Lookup
-pub mod AcceptedSets
-pub mod LineOrder

@@ -2,4 +2,3 @@
 pub mod Columns
 pub mod Sorting
 pub mod Stretches
-pub mod Sets

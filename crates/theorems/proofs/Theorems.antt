@@ -38,7 +38,8 @@ use Rattle.outcome.specs.declared.Refusal.{Refusal}
 use Rattle.outcome.specs.{Numbers.number, Outcome.passed, Outcome.answered, Outcome.refused, Refusals.Line, Refusals.first, Refusals.short}
 use Rattle.lot.specs.{Lot.Lot, Kept.kept, Kept.keptCount, Kept.groupCount, Lines.testLines, Way.IsWay, Way.relabelled, Way.SameLot}
 use Rattle.permanova_statistics.specs.Exact.{Exact, inexact}
-use Rattle.ordination_hashes.specs.{Selected.selected, Lines.badOffsets, Lines.gramLines}
+use Rattle.ordination_hashes.specs.Selected.{selected}
+use Rattle.ordination_sets.specs.Lines.{badOffsets, gramLines}
 use Rattle.exhaustive_ways.specs.{Ways.ways, Every.Every, Level.Ranks}
 use Rattle.exhaustive_hits.specs.declared.judgement.Judgement.{Judgement}
 use Rattle.exhaustive_hits.specs.{Assignments.columnsOf, Assignments.assignment, Level.Level}
@@ -58,7 +59,7 @@ use Rattle.float.proofs.Tolerance as Tolerance
 use Rattle.outcome.proofs.Names as Names
 use Rattle.outcome.proofs.Lengths as Lengths
 use Rattle.lot.proofs.Relabelled as Relabelled
-use Rattle.ordination_hashes.proofs.LineOrder as LineOrder
+use Rattle.ordination_sets.proofs.LineOrder as LineOrder
 use Rattle.permanova_statistics.proofs.Exact as ExactSums
 use Rattle.exhaustive_ways.proofs.ListLevels as ListLevels
 use Rattle.exhaustive_hits.proofs.SameStatistics as SameStatistics

@@ -1,7 +1,7 @@
 -- `ordination_gram::check_gram` meets its contract: the lines are asked in two parts, and the hashes are selected between them.
 use Rattle.lists.proofs.Base.{sym, arith, needs}
 use Rattle.outcome.proofs.Table.{told-passed, told-refused}
-use Rattle.ordination_hashes.proofs.AcceptedSets.{early-passed}
+use Rattle.ordination_sets.proofs.AcceptedSets.{early-passed}
 use Rattle.ordination_gram.proofs.GramCalls.{checked-early, checked-late}
 use Rattle.ordination_gram.proofs.check_gram.Tie as tie
 

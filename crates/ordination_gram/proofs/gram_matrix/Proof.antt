@@ -1,6 +1,6 @@
 -- `ordination_gram::gram_matrix` meets its contract: the matrix, where its own lengths are asked.
 use Rattle.lists.proofs.Base.{needs, length, sym, _∙_}
-use Rattle.ordination_hashes.proofs.AcceptedSets.{long-enough}
+use Rattle.ordination_sets.proofs.AcceptedSets.{long-enough}
 use Rattle.ordination_gram.proofs.GramCalls.{call-is}
 use Rattle.ordination_gram.proofs.gram_matrix.Tie as tie
 

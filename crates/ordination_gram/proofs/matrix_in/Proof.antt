@@ -2,7 +2,7 @@
 use Rattle.lists.proofs.Base.{sym, ap, _∙_, _≤_, arith, needs, length, length-take-le}
 use Rattle.ordination_gram.specs.declared.Answer.{Answer}
 use Rattle.ordination_gram.specs.Call.{called}
-use Rattle.ordination_hashes.proofs.AcceptedSets.{Accepted}
+use Rattle.ordination_sets.proofs.AcceptedSets.{Accepted}
 use Rattle.ordination_gram.proofs.GramCalls.{checked-answer, checked-climbs, call-refused, call-answered}
 use Rattle.ordination_gram.proofs.matrix_in.Tie as tie
 

@@ -11,7 +11,7 @@ use Rattle.lists.specs.Filters.{filter, countIf}
 use Rattle.lists.specs.Numbers.{contains}
 use Rattle.lists.specs.Rows.{row}
 use Rattle.lists.specs.Sums.{sum⁻}
-use Rattle.ordination_hashes.specs.Sets.{setAt}
+use Rattle.ordination_sets.specs.Sets.{setAt}
 use Rattle.ordination_gram.specs.inner.Bits.{common}
 
 -- ---- the rows

@@ -1,6 +1,6 @@
 -- `c_layouts::lengths::gram_lengths` meets its contract. Up to 256 nothing wraps.
 use Rattle.lists.proofs.Base.{arith, mul-le-mul, lt-ltb, le-ltb}
-use Rattle.ordination_hashes.specs.Lines.{gramAsks}
+use Rattle.ordination_sets.specs.Lines.{gramAsks}
 use Rattle.c_layouts.proofs.AskedLengths.{within, beyond}
 use Rattle.c_layouts.proofs.lengths.gram_lengths.Tie as tie
 

@@ -4,7 +4,7 @@ use borrow.Rule.Slice.PartMut.{same-len-mid}
 use Rattle.lists.specs.{Ranges.rows, Ranges.table, Writes.over}
 use Rattle.lists.proofs.{Rows.row-end, Rows.length-part, Writes.Writing, Writes.writing-none, Writes.writing-next, Writes.rows-none, Writes.rows-next}
 use Rattle.ordination_hashes.specs.inner.Columns.{columnOf}
-use Rattle.ordination_hashes.specs.Sets.{setAt}
+use Rattle.ordination_sets.specs.Sets.{setAt}
 use Rattle.ordination_gram.specs.inner.{Bits.packed, Bits.present, Columns.columnSum}
 use Rattle.ordination_gram.proofs.{Bits.length-packed, Marks.set-columns}
 use Rattle.ordination_gram.proofs.columns.mark_sets_by.Tie as tie

@@ -1,0 +1,24 @@
+-- The lines of `gram_matrix` and `hash_pca`: their order, and which of them tells a short lot from an empty catch.
+use Rattle.lists.proofs.Base.{_≡_, refl, Bool, false, _||_, List, [], _∷_, map, ℕ, _<_, _≤_, length, ltb, lt-ltb, le-ltb, eq-eqb}
+use Rattle.limits.specs.Limits.{mostHashes, mostSamples}
+use Rattle.outcome.specs.{Refusals.Line, Refusals.first, Outcome.refused}
+use Rattle.ordination_hashes.specs.Selected.{selected}
+use Rattle.ordination_sets.specs.Lines.{badOffsets, gramLines, earlyLines, lateLines}
+
+module _ (n : ℕ) (hashes offsets : List ℕ) (short beyond : Bool) where
+  -- their numbers, in the order in which they are tested
+  pub tested-in-order : map (λ (l : Line). l .returned) (gramLines n hashes offsets short beyond) ≡ 1 ∷ 2 ∷ 6 ∷ 13 ∷ 7 ∷ []
+  unfolding gramLines earlyLines lateLines
+  tested-in-order = refl
+
+  -- where lines 1 and 2 pass: fewer than three samples is 6 whatever the hashes are
+  pub few-samples : (badOffsets n (length hashes) offsets || short) ≡ false → (ltb mostSamples n || ltb mostHashes (length hashes) || beyond) ≡ false → n < 3
+      → first (gramLines n hashes offsets short beyond) ≡ refused 6
+  unfolding gramLines earlyLines lateLines first
+  few-samples fit limited h = rw (fit, limited, lt-ltb n 3 h)
+
+  -- and three samples and more without a hash to select is 13
+  pub empty-catch : (badOffsets n (length hashes) offsets || short) ≡ false → (ltb mostSamples n || ltb mostHashes (length hashes) || beyond) ≡ false → 3 ≤ n
+      → length (selected n hashes) ≡ 0 → first (gramLines n hashes offsets short beyond) ≡ refused 13
+  unfolding gramLines earlyLines lateLines first
+  empty-catch fit limited h none = rw (fit, limited, le-ltb n 3 h, eq-eqb _ 0 none)
