@@ -1,7 +1,7 @@
 -- `replays::replay_hash_pca::ask` meets its contract. Each array has its length.
-use borrow.Author.Needs.{needs}
 use Rattle.replays.proofs.Blank.{long-floats, long-numbers}
 use Rattle.replays.proofs.replay_hash_pca.ask.Tie as tie
 
 pub ask-spec : {M : Type 1} → Rattle.replays.proofs.replay_hash_pca.ask.Statement.statement M
-ask-spec = tie.close (tie.spec (λ c. long-floats 65536) (λ c. long-floats 65792) (λ c. long-floats 65536) (λ c. long-floats 65536) (λ c. long-numbers 16384) (λ c κs. tt) (λ c. search needs) (λ c. tt))
+ask-spec = tie.close (tie.spec (λ c. long-floats 65536) (λ c. long-floats 65792) (λ c. long-floats 65536) (λ c. long-floats 65536)
+    (λ c. long-numbers 16384) (λ c κs. tt) (λ c. c .before .before .before .before .before .before .before .hash-pca .kept .1 .1 .1 .1 .0) (λ c. tt))
