@@ -14,7 +14,8 @@ returns c =
     let s = c .before .before .before .before .before .before .before .before .before .before .before .before .before .before .before .before .before .before .before .before in
     let a = s .args in (
       after-orthonormalize .orthonormalize .ensures ∙ ap (orthonormal (a .n) (a .b))
-          (after-add-multiple .add-multiple .ensures ∙ zip-table (λ u v. u ⊕ a .shift ⊗ v) (now (a .aq)) (now (a .q)) nan nan (s .pre .1 ∙ sym (s .pre .0)) ∙ ap (λ (t : List Float). plusTimes (a .shift) t (now (a .q))) (s .pre .3)),
+          (after-add-multiple .add-multiple .ensures ∙ zip-table (λ u v. u ⊕ a .shift ⊗ v) (now (a .aq)) (now (a .q)) nan nan (s .pre .1 ∙ sym (s .pre .0))
+          ∙ ap (λ (t : List Float). plusTimes (a .shift) t (now (a .q))) (s .pre .3)),
       c .before .before .matvec-block .ensures,
     )
 

@@ -20,4 +20,6 @@ slice-aggregate-held-3 c =
     sym (length-take-le _ (at-if3 .before .before .before .before .before .before .before .before .before .before .before .before .args .out .now) (at-if3 .if3 .left))
 
 pub cut-spec : {M : Type 1} → Rattle.replays.proofs.replay_gram_matrix.cut.Statement.statement M
-cut-spec = tie.close (tie.spec (λ c κs. search needs) (λ c κs. search needs) (λ c κs. search needs) (λ c κs. search needs) (λ c κs. search needs) (λ c. search needs) (λ c. search needs) (λ c. search needs) (λ c. search needs) slice-aggregate-held (λ c. search needs) slice-aggregate-held-2 (λ c. search needs) slice-aggregate-held-3 (λ c κs. search needs) (λ c. search needs) (λ c. search needs) (λ c. search needs) (λ c. search needs))
+cut-spec = tie.close (tie.spec (λ c κs. search needs) (λ c κs. search needs) (λ c κs. search needs) (λ c κs. search needs) (λ c κs. search needs)
+    (λ c. search needs) (λ c. search needs) (λ c. search needs) (λ c. search needs) slice-aggregate-held (λ c. search needs) slice-aggregate-held-2
+    (λ c. search needs) slice-aggregate-held-3 (λ c κs. search needs) (λ c. search needs) (λ c. search needs) (λ c. search needs) (λ c. search needs))

@@ -10,4 +10,5 @@ slice-aggregate-gram-matrix c =
     sym (length-take-le _ (at-if1 .before .before .before .before .before .before .args .words .now) (at-if1 .if1 .left))
 
 pub cut-work-spec : {M : Type 1} → Rattle.replays.proofs.replay_gram_matrix.cut_work.Statement.statement M
-cut-work-spec = tie.close (tie.spec (λ c κs. search needs) (λ c. search needs) (λ c. search needs) slice-aggregate-gram-matrix (λ c κs. search needs) (λ c. search needs) (λ c. search needs) (λ c. search needs))
+cut-work-spec = tie.close (tie.spec (λ c κs. search needs) (λ c. search needs) (λ c. search needs) slice-aggregate-gram-matrix (λ c κs. search needs)
+    (λ c. search needs) (λ c. search needs) (λ c. search needs))

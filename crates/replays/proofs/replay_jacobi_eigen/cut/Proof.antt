@@ -15,4 +15,6 @@ slice-aggregate-held-2 c =
     sym (length-take-le _ (at-if2 .before .before .before .before .before .before .before .before .args .out .now) (at-if2 .if2 .left))
 
 pub cut-spec : {M : Type 1} → Rattle.replays.proofs.replay_jacobi_eigen.cut.Statement.statement M
-cut-spec = tie.close (tie.spec (λ c κs. search needs) (λ c κs. search needs) (λ c κs. search needs) (λ c. search needs) (λ c. search needs) (λ c. search needs) slice-aggregate-held (λ c. search needs) slice-aggregate-held-2 (λ c κs. search needs) (λ c. search needs) (λ c. search needs) (λ c. search needs))
+cut-spec = tie.close (tie.spec (λ c κs. search needs) (λ c κs. search needs) (λ c κs. search needs) (λ c. search needs) (λ c. search needs)
+    (λ c. search needs) slice-aggregate-held (λ c. search needs) slice-aggregate-held-2 (λ c κs. search needs) (λ c. search needs) (λ c. search needs)
+    (λ c. search needs))

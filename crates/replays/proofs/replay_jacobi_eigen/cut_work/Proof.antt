@@ -15,4 +15,5 @@ slice-aggregate-jacobi-eigen-2 c =
     sym (length-take-le _ (at-if2 .before .before .before .before .before .before .args .vectors .now) (at-if2 .if2 .left))
 
 pub cut-work-spec : {M : Type 1} → Rattle.replays.proofs.replay_jacobi_eigen.cut_work.Statement.statement M
-cut-work-spec = tie.close (tie.spec (λ c. search needs) (λ c. search needs) (λ c. search needs) slice-aggregate-jacobi-eigen (λ c. search needs) slice-aggregate-jacobi-eigen-2 (λ c κs. search needs) (λ c. search needs) (λ c. search needs) (λ c. search needs) (λ c. search needs))
+cut-work-spec = tie.close (tie.spec (λ c. search needs) (λ c. search needs) (λ c. search needs) slice-aggregate-jacobi-eigen (λ c. search needs)
+    slice-aggregate-jacobi-eigen-2 (λ c κs. search needs) (λ c. search needs) (λ c. search needs) (λ c. search needs) (λ c. search needs))

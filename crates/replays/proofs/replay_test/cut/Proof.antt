@@ -10,4 +10,5 @@ slice-aggregate-read c =
     sym (length-take-le _ (at-if1 .before .before .before .before .before .args .distances .now) (at-if1 .if1 .left))
 
 pub cut-spec : {M : Type 1} → Rattle.replays.proofs.replay_test.cut.Statement.statement M
-cut-spec = tie.close (tie.spec (λ c κs. search needs) (λ c κs. search needs) (λ c. search needs) (λ c. search needs) slice-aggregate-read (λ c κs. search needs) (λ c. search needs) (λ c. search needs))
+cut-spec = tie.close (tie.spec (λ c κs. search needs) (λ c κs. search needs) (λ c. search needs) (λ c. search needs) slice-aggregate-read
+    (λ c κs. search needs) (λ c. search needs) (λ c. search needs))

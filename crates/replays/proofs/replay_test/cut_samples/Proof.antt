@@ -20,4 +20,6 @@ slice-aggregate-held-3 c =
     sym (length-take-le _ (at-if3 .before .before .before .before .before .before .before .before .args .weights .now) (at-if3 .if3 .left))
 
 pub cut-samples-spec : {M : Type 1} → Rattle.replays.proofs.replay_test.cut_samples.Statement.statement M
-cut-samples-spec = tie.close (tie.spec (λ c. search needs) (λ c. search needs) (λ c. search needs) (λ c. search needs) slice-aggregate-held (λ c. search needs) slice-aggregate-held-2 (λ c. search needs) slice-aggregate-held-3 (λ c κs. search needs) (λ c. search needs) (λ c. search needs) (λ c. search needs) (λ c. search needs))
+cut-samples-spec = tie.close (tie.spec (λ c. search needs) (λ c. search needs) (λ c. search needs) (λ c. search needs) slice-aggregate-held
+    (λ c. search needs) slice-aggregate-held-2 (λ c. search needs) slice-aggregate-held-3 (λ c κs. search needs) (λ c. search needs)
+    (λ c. search needs) (λ c. search needs) (λ c. search needs))
