@@ -23,7 +23,7 @@
  *   5  fewer than two labels held by two samples
  *   6  ordination (pcoa, hash_pca, gram_matrix) of fewer than 3 samples
  *  13  no hash with frequency 2 to n - 1 (hash_pca, gram_matrix)
- *   7  over 4,096 such hashes
+ *   7  over 1,024 such hashes
  *   8  more than 20,000 ways
  *   9  fewer than 2 columns can be used: columns, or kept samples less groups less 1 if that is fewer
  *  10  a Cholesky pivot not above 0, which a NaN is not (no coordinates that pass 3 are known to lead there)
@@ -148,7 +148,7 @@ uint8_t lotjudge_pcoa_lengths(size_t n, size_t components, size_t lengths[5]);
  *   offsets        n + 1: the first 0, never falling, the last hashes_len
  *   out, eigenpairs, rotated, vectors   as for lotjudge_pcoa
  *   gram           work, at least n * n: the Gram matrix
- *   words          work, at least 64 * n: each set as a row of bits
+ *   words          work, at least 16 * n: each set as a row of bits, one for each hash that can be selected
  *   selected       the number of different hashes with frequency 2 to n - 1, every occurrence counted, repeats in a set too; one number
  */
 uint8_t lotjudge_hash_pca(const uint64_t *hashes, size_t hashes_len, const size_t *offsets, size_t offsets_len, size_t n,
@@ -207,7 +207,7 @@ uint8_t lotjudge_top_eigs_lengths(size_t n, size_t components, size_t lengths[4]
  *   out            output, at least n * n, of which so many are written, row by row, symmetric: for two sets the number of selected hashes that
  *                  both have, less the sum of the means of the selected hashes of each, plus the sum of the squares of all means; the mean of
  *                  a hash is its frequency over n
- *   words          work, at least 64 * n
+ *   words          work, at least 16 * n
  *   selected       as for lotjudge_hash_pca
  */
 uint8_t lotjudge_gram_matrix(const uint64_t *hashes, size_t hashes_len, const size_t *offsets, size_t offsets_len, size_t n,

@@ -162,12 +162,12 @@ fn inputs() -> Vec<(&'static str, String, Work)> {
             Work::Pcoa(pcoa::Input { distances, components: 16 }),
         ));
     }
-    for (kind, every) in [("4,096 selected", 4096), ("all different", u64::MAX)] {
+    for (kind, given, every) in [("1,024 selected", 64512, 1024), ("all different", 65536, u64::MAX)] {
         for n in [64, 256] {
             let hash = |at: usize| (at as u64 % every).wrapping_mul(0x9E37_79B9_7F4A_7C15);
-            let each = 65536 / n;
+            let each = given / n;
             let sets: Vec<Vec<u64>> = (0..n).map(|i| (i * each..i * each + each).map(hash).collect()).collect();
-            let input = format!("{n} samples, 65,536 hashes, {kind}");
+            let input = format!("{n} samples, {given} hashes, {kind}");
             all.push(("gram_matrix", input.clone(), Work::GramMatrix(gram_matrix::Input { sets: sets.clone() })));
             all.push(("hash_pca", input, Work::HashPca(hash_pca::Input { sets, components: 16 })));
         }

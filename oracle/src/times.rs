@@ -142,7 +142,7 @@ fn lines() -> Vec<(&'static str, Work)> {
         ("pcoa n=256 components=8", Work::Pcoa(spread(256))),
         ("hash_pca n=64 hashes=900 components=8", Work::HashPca(hashed(64, 900))),
         ("hash_pca n=64 4096 given, 1024 selected", Work::HashPca(given(64, 4096, 1024))),
-        ("hash_pca n=64 65536 given, 4096 selected", Work::HashPca(given(64, 65536, 4096))),
+        ("hash_pca n=64 64512 given, 1024 selected", Work::HashPca(given(64, 64512, 1024))),
         ("dapc n=256 columns=8 groups=4 in turn", Work::Dapc(scored(8, &turns(256, 4)))),
         ("dapc n=256 columns=8 groups=4 in blocks", Work::Dapc(scored(8, &blocks(256, 4)))),
         ("dapc n=64 columns=8 groups=4 in turn", Work::Dapc(scored(8, &turns(64, 4)))),

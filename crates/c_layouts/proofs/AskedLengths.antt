@@ -1,5 +1,6 @@
 -- How the lengths asked are told.
 use Rattle.lists.proofs.Base.{ℕ, _+_, _*_, _≤_, _≡_, sym, ap, _∙_, Bool, true, false, _||_, List, [], _∷_, ltb, ltb-false}
+use Rattle.limits.specs.Limits.{selectedWords}
 use Rattle.lists.proofs.Truths.{or-neither}
 use Rattle.ordination_coordinates.specs.Lengths.{pcoaAsks, hashPcaAsks}
 use Rattle.eigen_top.specs.TopLines.{topAsks}
@@ -19,9 +20,9 @@ pcoa-told n before e f g =
     (λ i. told 0 (e i ∷ n * n ∷ (n + n * n) ∷ n * n ∷ n * n ∷ [])) ∙ ap (λ (k : ℕ). told 0 (pcoaAsks n k)) f ∙ within _ before g
 
 pub hash-pca-told : (n : ℕ) {out k l : ℕ} {b : Bool} (before : List ℕ) → out ≡ k + k + n * k → k ≡ l → b ≡ false
-    → told 0 (out ∷ n * n ∷ (n + n * n) ∷ n * n ∷ n * n ∷ n * 64 ∷ []) ≡ tell b (hashPcaAsks n l) before
+    → told 0 (out ∷ n * n ∷ (n + n * n) ∷ n * n ∷ n * n ∷ n * selectedWords ∷ []) ≡ tell b (hashPcaAsks n l) before
 hash-pca-told n before e f g =
-    (λ i. told 0 (e i ∷ n * n ∷ (n + n * n) ∷ n * n ∷ n * n ∷ n * 64 ∷ [])) ∙ ap (λ (k : ℕ). told 0 (hashPcaAsks n k)) f ∙ within _ before g
+    (λ i. told 0 (e i ∷ n * n ∷ (n + n * n) ∷ n * n ∷ n * n ∷ n * selectedWords ∷ [])) ∙ ap (λ (k : ℕ). told 0 (hashPcaAsks n k)) f ∙ within _ before g
 
 pub top-told : (n : ℕ) {out k l : ℕ} {b : Bool} (before : List ℕ) → out ≡ k + k * n → k ≡ l → b ≡ false
     → told 0 (out ∷ (n + n * n) ∷ n * n ∷ n * n ∷ []) ≡ tell b (topAsks n l) before

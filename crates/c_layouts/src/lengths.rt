@@ -78,7 +78,7 @@ pub fn hash_pca_lengths(n: usize, components: usize, lengths: &mut [usize; 6]) -
     let k = eigen_top::checks::components_used(components, n);
     let out = ordination(n, k);
     let q = n * n;
-    *lengths = [out, q, n + q, q, q, n * 64];
+    *lengths = [out, q, n + q, q, q, n * limits::SELECTED_WORDS];
     0
 }
 
@@ -133,7 +133,7 @@ pub fn gram_lengths(n: usize, lengths: &mut [usize; 2]) -> u8
     if limits::MOST_SAMPLES < n {
         return 2;
     }
-    *lengths = [n * n, n * 64];
+    *lengths = [n * n, n * limits::SELECTED_WORDS];
     0
 }
 

@@ -21,7 +21,7 @@ use Rattle.cases.proofs.DapcCalls as dapc
 case-j : Holds j-gram
 unfolding over cleared add sub mul div neg ofBits toBits ofInt odd size upFrom table rows grid filter countIf any howMany contains insertUp upward
     sumFrom setAt sets selected frequency meanSum shared gram
-case-j = ap gramNumbers (case-j-call (replicate 17 2·0) (replicate 256 7) (omega arith) (omega arith))
+case-j = ap gramNumbers (case-j-call (replicate 17 2·0) (replicate 64 7) (omega arith) (omega arith))
 
 -- (k) the call of `jacobi_eigen`
 case-k : Holds k-values

@@ -59,7 +59,7 @@ everyWay lot = exhaustiveCall lot (lentWays (lot .n))
 
 -- `gram_matrix` of the sets {5}, {5}, {}, {}, with an output one longer than asked
 abbrev pub gramOfFour : gram.Called
-gramOfFour = gramCall 4 (5 ∷ 5 ∷ []) (0 ∷ 1 ∷ 2 ∷ 2 ∷ 2 ∷ []) (replicate 17 2·0) (replicate 256 7)
+gramOfFour = gramCall 4 (5 ∷ 5 ∷ []) (0 ∷ 1 ∷ 2 ∷ 2 ∷ 2 ∷ []) (replicate 17 2·0) (replicate 64 7)
 
 -- `jacobi_eigen` of the diagonal 1, 3, with an output and a work slice one longer than asked
 abbrev pub jacobiOfTwo : jacobi.Called
@@ -199,7 +199,7 @@ j-gram = sample (gramNumbers gramOfFour) (let p : ℕ = 0x3fd0_0000_0000_0000 in
     ∷ p ∷ p ∷ q ∷ q
     ∷ q ∷ q ∷ p ∷ p
     ∷ q ∷ q ∷ p ∷ p
-    ∷ bits 2·0 ∷ replicate 256 0)
+    ∷ bits 2·0 ∷ replicate 64 0)
 
 -- (k) diagonal 1, 3: values 3, 1
 abbrev pub k-values : Case

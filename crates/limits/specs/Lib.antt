@@ -1,2 +1,2 @@
--- The limits of document 01.
+-- The limits of documents 01 and 02.
 pub mod Limits

@@ -1,4 +1,4 @@
--- The limits of document 01, once for all definitions. Definitions only.
+-- The limits of documents 01 and 02, once for all definitions. Definitions only.
 use Prim.Native.Nat.{ℕ, _/_}
 
 -- n, the samples in a lot
@@ -20,12 +20,12 @@ judgedComponents = 8
 abbrev pub mostColumns : ℕ
 mostColumns = 16
 
--- hashes given, and hashes selected
+-- hashes given, and hashes selected (document 02, Q-7)
 abbrev pub mostHashes : ℕ
 mostHashes = 65536
 
 abbrev pub mostSelected : ℕ
-mostSelected = 4096
+mostSelected = 1024
 
 -- words of 64 bits that hold a bit for each selected hash
 abbrev pub selectedWords : ℕ

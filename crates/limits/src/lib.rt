@@ -1,4 +1,4 @@
-// The limits of document 01, once for all code. Each is the number of the same name in specs/.
+// The limits of documents 01 and 02, once for all code. Each is the number of the same name in specs/.
 
 // Samples in a lot.
 pub const MOST_SAMPLES: usize = 256;
@@ -15,7 +15,7 @@ pub const MOST_COLUMNS: usize = 16;
 // Hashes given, and hashes selected.
 pub const MOST_HASHES: usize = 65536;
 
-pub const MOST_SELECTED: usize = 4096;
+pub const MOST_SELECTED: usize = 1024;
 // Words of 64 bits that hold a bit for each selected hash.
 pub const SELECTED_WORDS: usize = MOST_SELECTED / 64;
 // Ways of the labels, and what stands for every number above.

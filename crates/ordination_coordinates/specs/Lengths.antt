@@ -12,7 +12,7 @@ pcoaAsks n k = (k + k + n * k) ∷ n * n ∷ (n + n * n) ∷ n * n ∷ n * n ∷
 unfoldable pub tooShort : ℕ → ℕ → ℕ → ℕ → ℕ → ℕ → ℕ → Bool
 tooShort k n out b w m v = short (out ∷ b ∷ w ∷ m ∷ v ∷ []) (pcoaAsks n k)
 
--- `hash_pca`: the same, and `words` must hold 64 words for each sample
+-- `hash_pca`: the same, and `words` must hold a bit for each hash that can be selected, for each sample
 abbrev pub hashPcaAsks : ℕ → ℕ → List ℕ
 hashPcaAsks n k = pcoaAsks n k ++ (n * selectedWords ∷ [])
 

@@ -44,7 +44,7 @@ fn too_short(n: usize, k: usize, out: usize, b: usize, w: usize, m: usize, v: us
     v < s
 }
 
-// The same for `hash_pca`, which lends words too; n * 64 must not wrap.
+// The same for `hash_pca`, which lends words too; the product of n with a row's words must not wrap.
 pub fn is_lacking(
     n: usize,
     k: usize,
@@ -61,7 +61,7 @@ pub fn is_lacking(
     if too_short(n, k, out, b, w, m, v) {
         return true;
     }
-    words / 64 < n
+    words / limits::SELECTED_WORDS < n
 }
 
 // Whether d distances do not fit n, or a slice of these lengths is short.

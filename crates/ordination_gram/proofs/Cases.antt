@@ -27,10 +27,10 @@ unfolding add sub mul div neg ofBits toBits ofInt odd size upFrom table rows gri
 case-j = refl
 
 -- the whole call: one selected hash, the matrix in front of what was lent, the rest as it was, and the words cleared
-pub case-j-call : (out : List Float) (words : List ℕ) → 16 ≤ length out → 256 ≤ length words
+pub case-j-call : (out : List Float) (words : List ℕ) → 16 ≤ length out → 64 ≤ length words
     → gramCall 4 hashes offsets out words ≡ leaves (answered 1) (over (gram 4 hashes offsets) out) (cleared 0 words)
 unfolding gramCall features output work first earlyLines lateLines gramLines badOffsets falls tooShort short upFrom range filter countIf any howMany insertUp upward selected
-case-j-call out words h k = rw (le-ltb (length out) 16 h, le-ltb (length words) 256 k)
+case-j-call out words h k = rw (le-ltb (length out) 16 h, le-ltb (length words) 64 k)
 
 -- ---- every occurrence counts: of the sets {1, 1, 2}, {2, 3}, {3}, {9} the hash 1 has frequency 2, in one set, and is selected; 9 is not
 pub repeats-count : selected 4 (1 ∷ 1 ∷ 2 ∷ 2 ∷ 3 ∷ 3 ∷ 9 ∷ []) ≡ 1 ∷ 2 ∷ 3 ∷ []

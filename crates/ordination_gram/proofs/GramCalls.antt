@@ -1,6 +1,7 @@
 -- The answer of `check_gram` and the whole call of `gram_matrix`: the lines may be asked in two parts, and no refusal touches what is lent.
 use Rattle.lists.proofs.Base.{_≡_, refl, sym, ap, ap₂, _∙_, subst, Bool, true, false, cond, List, map, ℕ, _*_, _≤_, arith, length, take, replicate, Float}
 use Rattle.float.specs.Floats.{zero⁺}
+use Rattle.limits.specs.Limits.{mostSelected}
 use Rattle.lists.specs.{Filters.all, Writes.over, Writes.cleared}
 use Rattle.outcome.specs.declared.Refusal.{Refusal}
 use Rattle.outcome.specs.{Refusals.first, Outcome.Outcome, Outcome.Told, Outcome.answered, Outcome.refused, Outcome.passed, Outcome.judged}
@@ -49,7 +50,7 @@ module _ (n : ℕ) (hashes offsets : List ℕ) (short beyond : Bool) where
       record { told = features-early n hashes offsets short beyond e; stored = λ m q. not-features r m q; averages = λ m q. not-features r m q }
 
   pub checked-late : {r : Answer} {m : ℕ} {chosen : List ℕ} {means : List Float} → passed ≡ asked n hashes offsets short beyond
-      → Selection n hashes m chosen means → outcomeOf r ≡ judged (first (lateLines m)) (answered m) → 4096 ≤ length chosen → 4096 ≤ length means
+      → Selection n hashes m chosen means → outcomeOf r ≡ judged (first (lateLines m)) (answered m) → mostSelected ≤ length chosen → mostSelected ≤ length means
       → Checked n hashes offsets short beyond r chosen means
   checked-late {r} {m} {chosen} {means} e c f g h = record {
     told = f ∙ ap (λ (k : ℕ). judged (first (lateLines k)) (answered k)) (c .counted) ∙ features-late n hashes offsets short beyond e;

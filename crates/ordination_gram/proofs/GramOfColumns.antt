@@ -7,7 +7,7 @@ use Rattle.lists.proofs.{Ranges.length-table, Ranges.getD-table, Filters.drop-m
 use Rattle.lists.proofs.{Truths.same-or-not, Truths.never, Grids.grid-ext, Tallies.contains-cons, Parts.getD-map-in}
 use Rattle.ordination_hashes.specs.Selected.{selected, frequency}
 use Rattle.ordination_sets.specs.Sets.{setAt, sets}
-use Rattle.limits.specs.Limits.{none}
+use Rattle.limits.specs.Limits.{none, mostSelected}
 use Rattle.ordination_hashes.specs.inner.Columns.{columnOf}
 use Rattle.lists.proofs.Upward.{Upward, upward-upward}
 use Rattle.ordination_hashes.proofs.Upward.{position-at, contains-at}
@@ -29,7 +29,7 @@ position-holds x (y ∷ l) s = one (same-or-not x y) (λ t. position-holds x l t
         let more = r (ap (λ (b : Bool). b || contains x l) (sym (ne-eqb x y d)) ∙ sym (contains-cons x y l) ∙ s) in
         rw (ne-eqb x y d) (omega (arith, more .0), more .1)
 
-module _ (chosen : List ℕ) (up : Upward chosen) (few : length chosen ≤ 4096) where
+module _ (chosen : List ℕ) (up : Upward chosen) (few : length chosen ≤ mostSelected) where
   column-yes : (h : ℕ) → contains h chosen ≡ true → columnOf chosen h ≡ position h chosen
   unfolding columnOf
   column-yes h s = ap (λ (b : Bool). cond b (position h chosen) none) s
@@ -112,7 +112,7 @@ module _ (chosen : List ℕ) (up : Upward chosen) (few : length chosen ≤ 4096)
 
 -- ---- the Gram matrix of the hashes
 
-module _ (n : ℕ) (hashes offsets : List ℕ) (few : length (selected n hashes) ≤ 4096) where
+module _ (n : ℕ) (hashes offsets : List ℕ) (few : length (selected n hashes) ≤ mostSelected) where
   abbrev chosen : List ℕ
   chosen = selected n hashes
 

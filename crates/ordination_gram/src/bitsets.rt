@@ -3,7 +3,7 @@ ghost use mathlib.Core.Path.{_≡_};
 ghost use Prim.Native.Nat.{_+_, _*_, _/_, _%_, _^_, _<_, _≤_};
 ghost use lib.ListN.{length, getD, set};
 ghost use lib.Bits.{bitOr};
-ghost use Rattle.limits.specs.Limits.{mostSelected};
+ghost use Rattle.limits.specs.Limits.{mostSelected, selectedWords};
 ghost use Rattle.lists.specs.Writes.{cleared};
 ghost use Rattle.ordination_gram.specs.inner.Bits.{common};
 
@@ -27,7 +27,7 @@ pub fn mark_bit(row: &mut [u64], c: usize)
 
 // How many bits two rows share.
 pub fn common_bits(x: &[u64], y: &[u64]) -> usize
-    requires { ⌜ (length (now y) ≡ length (now x)) × (length (now x) ≤ 64) ⌝ }
+    requires { ⌜ (length (now y) ≡ length (now x)) × (length (now x) ≤ selectedWords) ⌝ }
     ensures { λ r. ⌜ (r ≡ common (now (x .entry)) (now (y .entry))) × (r ≤ mostSelected) ⌝ }
 {
     let mut s: usize = 0;

@@ -5,7 +5,7 @@ ghost use mathlib.Core.List.{map, _++_};
 ghost use Prim.Native.Nat.{_+_, _*_, _<_, _≤_, min, max};
 ghost use lib.ListN.{length, getD, take, set, replicate};
 ghost use lib.Ieee.{nan};
-ghost use Rattle.limits.specs.Limits.{mostSelected};
+ghost use Rattle.limits.specs.Limits.{mostSelected, selectedWords};
 ghost use Rattle.lists.specs.Ranges.{range, table, rows, grid};
 ghost use Rattle.lists.specs.Loops.{inTurn};
 ghost use Rattle.lists.specs.Sums.{sum⁻};
@@ -120,7 +120,7 @@ fn mark_sets(
 
 // The entry of the sets i and j.
 fn entry(words: &[u64], w: usize, sums: &[f64], t: f64, i: usize, j: usize) -> f64
-    requires { ⌜ (i * w + w ≤ length (now words)) × (j * w + w ≤ length (now words)) × (w ≤ 64) × (i < length (now sums)) × (j < length (now sums)) ⌝ }
+    requires { ⌜ (i * w + w ≤ length (now words)) × (j * w + w ≤ length (now words)) × (w ≤ selectedWords) × (i < length (now sums)) × (j < length (now sums)) ⌝ }
     ensures { λ r. ⌜ r ≡ entryAt w (now (words .entry)) (now (sums .entry)) t i j ⌝ }
 {
     let c = bitsets::common_bits(&words[i * w..i * w + w], &words[j * w..j * w + w]);
@@ -129,7 +129,7 @@ fn entry(words: &[u64], w: usize, sums: &[f64], t: f64, i: usize, j: usize) -> f
 
 // Row i from the diagonal on.
 fn fill_row(row: &mut [f64], i: usize, words: &[u64], w: usize, sums: &[f64], t: f64)
-    requires { ⌜ (i < length (now row)) × (length (now row) * w ≤ length (now words)) × (w ≤ 64) × (length (now row) ≤ length (now sums)) ⌝ }
+    requires { ⌜ (i < length (now row)) × (length (now row) * w ≤ length (now words)) × (w ≤ selectedWords) × (length (now row) ≤ length (now sums)) ⌝ }
     ensures { λ _. ⌜ now (row .exit)
         ≡ take i (now (row .entry)) ++ map (entryAt w (now (words .entry)) (now (sums .entry)) t i) (range i (length (now (row .entry)))) ⌝ }
 {
@@ -150,7 +150,7 @@ fn mirror_row(out: &mut [f64], n: usize, i: usize)
 
 // The n by n entries, in front of `out`.
 fn fill(out: &mut [f64], n: usize, words: &[u64], w: usize, sums: &[f64], t: f64)
-    requires { ⌜ (n * n ≤ length (now out)) × (n * w ≤ length (now words)) × (w ≤ 64) × (n ≤ length (now sums)) ⌝ }
+    requires { ⌜ (n * n ≤ length (now out)) × (n * w ≤ length (now words)) × (w ≤ selectedWords) × (n ≤ length (now sums)) ⌝ }
     ensures { λ _. ⌜ now (out .exit)
         ≡ over (grid n n (λ i j. entryAt w (now (words .entry)) (now (sums .entry)) t (min i j) (max i j))) (now (out .entry)) ⌝ }
 {
@@ -160,7 +160,7 @@ fn fill(out: &mut [f64], n: usize, words: &[u64], w: usize, sums: &[f64], t: f64
     }
 }
 
-// The matrix of sets of hashes, in front of `out`, by their columns among the chosen ones, which go upward. `words` lends 64 words for each set, and is
+// The matrix of sets of hashes, in front of `out`, by their columns among the chosen ones, which go upward. `words` lends a row of bits for each set, and is
 // cleared; `sums` lends a number for each.
 pub fn fill_gram(
     out: &mut [f64],
@@ -173,7 +173,7 @@ pub fn fill_gram(
     n: usize,
 )
     requires { ⌜ Offsets n (now offsets) (length (now hashes)) × (length (now means) ≤ mostSelected) × Climbs (now chosen) ⌝ }
-    requires { ⌜ (n * n ≤ length (now out)) × (n * 64 ≤ length (now words)) × (n ≤ length (now sums)) ⌝ }
+    requires { ⌜ (n * n ≤ length (now out)) × (n * selectedWords ≤ length (now words)) × (n ≤ length (now sums)) ⌝ }
     ensures { λ _. ⌜ (now (out .exit)
         ≡ over (columnGram n (map (columnOf (now (chosen .entry))) (now (hashes .entry))) (now (offsets .entry)) (now (means .entry))) (now (out .entry)))
         × (now (words .exit) ≡ cleared 0 (now (words .entry))) ⌝ }

@@ -10,7 +10,7 @@ ghost use mathlib.Core.Path.{_≡_};
 ghost use mathlib.Core.Bool.{false};
 ghost use Prim.Native.Nat.{_*_, _≤_};
 ghost use lib.ListN.{length};
-ghost use Rattle.limits.specs.Limits.{mostSamples, mostSelected};
+ghost use Rattle.limits.specs.Limits.{mostSamples, mostSelected, selectedWords};
 ghost use Rattle.outcome.specs.Refusals.{first};
 ghost use Rattle.outcome.specs.Outcome.{answered, judged};
 ghost use Rattle.ordination_sets.specs.Lines.{lateLines};
@@ -72,7 +72,7 @@ fn matrix_in(
     beyond: bool,
 ) -> Answer
     requires { ⌜ (mostSelected ≤ length (now chosen)) × (mostSelected ≤ length (now means)) × (mostSamples ≤ length (now sums)) ⌝ }
-    requires { ⌜ (short ≡ false → (n * n ≤ length (now b)) × (n * 64 ≤ length (now words))) ⌝ }
+    requires { ⌜ (short ≡ false → (n * n ≤ length (now b)) × (n * selectedWords ≤ length (now words))) ⌝ }
     ensures { λ r. ⌜ called r (now (b .exit)) (now (words .exit))
         ≡ matrixCall n (now (hashes .entry)) (now (offsets .entry)) short beyond (now (b .entry)) (now (words .entry)) ⌝ }
 {
@@ -93,7 +93,7 @@ fn matrix_in(
     a
 }
 
-// The same, with 66 KiB of stack. Nothing lent may be written before the selection is known.
+// The same, with 18 KiB of stack. Nothing lent may be written before the selection is known.
 pub fn matrix(
     b: &mut [f64],
     words: &mut [u64],
@@ -103,7 +103,7 @@ pub fn matrix(
     short: bool,
     beyond: bool,
 ) -> Answer
-    requires { ⌜ (short ≡ false → (n * n ≤ length (now b)) × (n * 64 ≤ length (now words))) ⌝ }
+    requires { ⌜ (short ≡ false → (n * n ≤ length (now b)) × (n * selectedWords ≤ length (now words))) ⌝ }
     ensures { λ r. ⌜ called r (now (b .exit)) (now (words .exit))
         ≡ matrixCall n (now (hashes .entry)) (now (offsets .entry)) short beyond (now (b .entry)) (now (words .entry)) ⌝ }
 {
@@ -124,7 +124,7 @@ pub fn matrix(
     )
 }
 
-// The centred Gram matrix of n sets, in front of `out`. The set i has the hashes from offsets[i] to offsets[i + 1]. `words` lends 64 words for each set.
+// The centred Gram matrix of n sets, in front of `out`. The set i has the hashes from offsets[i] to offsets[i + 1]. `words` lends a row of bits for each set.
 pub fn gram_matrix(
     hashes: &[u64],
     offsets: &[usize],

@@ -42,7 +42,7 @@ fn ordinate_sets(
 
 // The coordinates of n samples on the leading components, by their sets of hashes: the set i has the hashes from offsets[i] to offsets[i + 1]. `out` gets k
 // values, k variance shares and coordinates n by k, where k is `components`, or n if that is less. The other slices are work: `gram`, `rotated` and
-// `vectors` of n * n entries, `eigenpairs` of n + n * n, `words` of 64 * n. The answer is the number of selected hashes.
+// `vectors` of n * n entries, `eigenpairs` of n + n * n, `words` of 16 * n. The answer is the number of selected hashes.
 pub fn hash_pca(
     hashes: &[u64],
     offsets: &[usize],

@@ -1,6 +1,7 @@
 -- The lines of the table: what holds of sets that no line turns away.
 use Rattle.lists.proofs.Base.{_≡_, sym, subst, Bool, false, not, _||_, List, [], _∷_, ℕ, zero, suc, _+_, _-_, _*_, _<_, _≤_}
 use Rattle.lists.proofs.Base.{le-refl, arith, eqb-true, eqb-false, ltb-false, not-false, eqb, ltb, length, getD}
+use Rattle.limits.specs.Limits.{mostSamples, mostHashes, mostSelected, selectedWords}
 use Rattle.outcome.specs.{Refusals.first, Outcome.answered, Outcome.passed, Outcome.judged}
 use Rattle.outcome.proofs.{Table.first-passed, Table.judged-passes, Lengths.long-at}
 use Rattle.ordination_hashes.specs.Selected.{selected}
@@ -44,24 +45,24 @@ pub record Accepted (n : ℕ) (hashes offsets : List ℕ) (short beyond : Bool) 
   pub sets : Offsets n offsets (length hashes)
   pub enough : short ≡ false
   pub limited : beyond ≡ false
-  pub few : n ≤ 256
-  pub bounded : length hashes ≤ 65536
+  pub few : n ≤ mostSamples
+  pub bounded : length hashes ≤ mostHashes
   pub three : 3 ≤ n
   pub some : length (selected n hashes) ≡ 0 → ⊥
-  pub most : length (selected n hashes) ≤ 4096
+  pub most : length (selected n hashes) ≤ mostSelected
 
 pub accepted : (n : ℕ) (hashes offsets : List ℕ) (short beyond : Bool) → first (gramLines n hashes offsets short beyond) ≡ passed → Accepted n hashes offsets short beyond
 unfolding gramLines earlyLines lateLines
 accepted n hashes offsets short beyond e =
     let m = length (selected n hashes) in
     let l₁ = first-passed _ _ (badOffsets n (length hashes) offsets || short) (sym e) in
-    let l₂ = first-passed _ _ (ltb 256 n || ltb 65536 (length hashes) || beyond) (l₁ .1) in
+    let l₂ = first-passed _ _ (ltb mostSamples n || ltb mostHashes (length hashes) || beyond) (l₁ .1) in
     let l₃ = first-passed _ _ (ltb n 3) (l₂ .1) in
     let l₆ = first-passed _ _ (eqb m 0) (l₃ .1) in
-    let l₇ = first-passed _ _ (ltb 4096 m) (l₆ .1) in
+    let l₇ = first-passed _ _ (ltb mostSelected m) (l₆ .1) in
     let a = or-neither (badOffsets n (length hashes) offsets) short (l₁ .0) in
-    let b = or-neither (ltb 256 n || ltb 65536 (length hashes)) beyond (l₂ .0) in
-    let c = or-neither (ltb 256 n) (ltb 65536 (length hashes)) (b .0) in
+    let b = or-neither (ltb mostSamples n || ltb mostHashes (length hashes)) beyond (l₂ .0) in
+    let c = or-neither (ltb mostSamples n) (ltb mostHashes (length hashes)) (b .0) in
     record {
       sets = offsets-fit n (length hashes) offsets (a .0);
       enough = a .1;
@@ -74,23 +75,23 @@ accepted n hashes offsets short beyond e =
     }
 
 -- sets that the lines pass which do not look at the hashes
-pub early-passed : (n : ℕ) (hashes offsets : List ℕ) (short beyond : Bool) → first (earlyLines n (length hashes) offsets short beyond) ≡ passed → (n ≤ 256) × (length hashes ≤ 65536)
+pub early-passed : (n : ℕ) (hashes offsets : List ℕ) (short beyond : Bool) → first (earlyLines n (length hashes) offsets short beyond) ≡ passed → (n ≤ mostSamples) × (length hashes ≤ mostHashes)
 unfolding earlyLines
 early-passed n hashes offsets short beyond e =
     let l₁ = first-passed _ _ (badOffsets n (length hashes) offsets || short) (sym e) in
-    let l₂ = first-passed _ _ (ltb 256 n || ltb 65536 (length hashes) || beyond) (l₁ .1) in
-    let b = or-neither (ltb 256 n || ltb 65536 (length hashes)) beyond (l₂ .0) in
-    let c = or-neither (ltb 256 n) (ltb 65536 (length hashes)) (b .0) in (ltb-false _ _ (c .0), ltb-false _ _ (c .1))
+    let l₂ = first-passed _ _ (ltb mostSamples n || ltb mostHashes (length hashes) || beyond) (l₁ .1) in
+    let b = or-neither (ltb mostSamples n || ltb mostHashes (length hashes)) beyond (l₂ .0) in
+    let c = or-neither (ltb mostSamples n) (ltb mostHashes (length hashes)) (b .0) in (ltb-false _ _ (c .0), ltb-false _ _ (c .1))
 
 -- an answer is a number of hashes only where the lines pass that look at them
-pub late-passes : (m k : ℕ) → answered m ≡ judged (first (lateLines k)) (answered k) → (m ≡ k) × (k ≤ 4096)
+pub late-passes : (m k : ℕ) → answered m ≡ judged (first (lateLines k)) (answered k) → (m ≡ k) × (k ≤ mostSelected)
 unfolding lateLines
 late-passes m k e =
     let p = judged-passes (first (lateLines k)) m k e in
     let l₆ = first-passed _ _ (eqb k 0) (sym (p .0)) in
-    let l₇ = first-passed _ _ (ltb 4096 k) (l₆ .1) in (p .1, ltb-false _ _ (l₇ .0))
+    let l₇ = first-passed _ _ (ltb mostSelected k) (l₆ .1) in (p .1, ltb-false _ _ (l₇ .0))
 
 -- slices that are not short
-pub long-enough : (n out words : ℕ) → tooShort n out words ≡ false → (n * n ≤ out) × (n * 64 ≤ words)
+pub long-enough : (n out words : ℕ) → tooShort n out words ≡ false → (n * n ≤ out) × (n * selectedWords ≤ words)
 unfolding tooShort
 long-enough n out words e = let at = long-at (out ∷ words ∷ []) (gramAsks n) e in (at 0 (omega arith) (omega arith), at 1 (omega arith) (omega arith))

@@ -1,7 +1,7 @@
--- The lines of `gram_matrix` and `hash_pca`: their order, and which of them tells a short lot from an empty catch.
-use Rattle.lists.proofs.Base.{_≡_, refl, Bool, false, _||_, List, [], _∷_, map, ℕ, _<_, _≤_, length, ltb, lt-ltb, le-ltb, eq-eqb}
+-- The lines of `gram_matrix` and `hash_pca`: their order, and which of them tells a short lot, an empty catch and a lot that is too wide.
+use Rattle.lists.proofs.Base.{_≡_, refl, Bool, false, _||_, List, [], _∷_, map, ℕ, _<_, _≤_, length, ltb, lt-ltb, le-ltb, eq-eqb, ne-eqb, arith}
 use Rattle.limits.specs.Limits.{mostHashes, mostSamples}
-use Rattle.outcome.specs.{Refusals.Line, Refusals.first, Outcome.refused}
+use Rattle.outcome.specs.{Refusals.Line, Refusals.first, Outcome.refused, Outcome.passed}
 use Rattle.ordination_hashes.specs.Selected.{selected}
 use Rattle.ordination_sets.specs.Lines.{badOffsets, gramLines, earlyLines, lateLines}
 
@@ -22,3 +22,15 @@ module _ (n : ℕ) (hashes offsets : List ℕ) (short beyond : Bool) where
       → length (selected n hashes) ≡ 0 → first (gramLines n hashes offsets short beyond) ≡ refused 13
   unfolding gramLines earlyLines lateLines first
   empty-catch fit limited h none = rw (fit, limited, le-ltb n 3 h, eq-eqb _ 0 none)
+
+  -- 1 to 1,024 hashes to select pass
+  pub widest-passes : (badOffsets n (length hashes) offsets || short) ≡ false → (ltb mostSamples n || ltb mostHashes (length hashes) || beyond) ≡ false → 3 ≤ n
+      → 1 ≤ length (selected n hashes) → length (selected n hashes) ≤ 1024 → first (gramLines n hashes offsets short beyond) ≡ passed
+  unfolding gramLines earlyLines lateLines first
+  widest-passes fit limited h some most = rw (fit, limited, le-ltb n 3 h, ne-eqb (length (selected n hashes)) 0 (λ none. omega arith), le-ltb 1024 _ most)
+
+  -- and 1,025 are 7
+  pub too-wide : (badOffsets n (length hashes) offsets || short) ≡ false → (ltb mostSamples n || ltb mostHashes (length hashes) || beyond) ≡ false → 3 ≤ n
+      → 1025 ≤ length (selected n hashes) → first (gramLines n hashes offsets short beyond) ≡ refused 7
+  unfolding gramLines earlyLines lateLines first
+  too-wide fit limited h wide = rw (fit, limited, le-ltb n 3 h, ne-eqb (length (selected n hashes)) 0 (λ none. omega arith), lt-ltb 1024 _ wide)

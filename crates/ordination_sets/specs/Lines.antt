@@ -1,4 +1,5 @@
--- Lines 1, 2, 6, 13 and 7 of the table for sets of hashes (document 01, "What a turned-away lot returns"; 13: document 02, Q-1). Definitions only.
+-- Lines 1, 2, 6, 13 and 7 of the table for sets of hashes (document 01, "What a turned-away lot returns"; document 02: Q-1 for 13, Q-7 for the limit of
+-- 7). Definitions only.
 use Prim.Native.Nat.{ℕ, _+_, _*_}
 use mathlib.Core.Bool.{Bool, not, _||_}
 use mathlib.Core.List.{List, [], _∷_, _++_}
@@ -19,7 +20,7 @@ unfoldable pub badOffsets : ℕ → ℕ → List ℕ → Bool
 badOffsets n hashes offsets =
     unfit offsets (n + 1) || not (eqb (getD offsets 0 0) 0) || not (eqb (getD offsets n 0) hashes) || falls n offsets
 
--- what is asked of the output, n by n, and of the work slice, 64 words of 64 bits for each sample
+-- what is asked of the output, n by n, and of the work slice, a bit for each hash that can be selected, for each sample
 abbrev pub gramAsks : ℕ → List ℕ
 gramAsks n = n * n ∷ n * selectedWords ∷ []
 

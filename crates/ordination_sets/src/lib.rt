@@ -52,7 +52,7 @@ pub fn too_short(n: usize, out: usize, words: usize) -> bool
     if out < n * n {
         return true;
     }
-    words < n * 64
+    words < n * limits::SELECTED_WORDS
 }
 
 // The lines that do not look at the hashes. `short` says that a slice of the operation is short, `beyond` that another of its arguments is beyond its limit.

@@ -34,7 +34,7 @@ fn cut_work(
     out: &mut [f64],
     words: &mut [u64],
 ) -> Answer {
-    let w = product(n, 64);
+    let w = product(n, limits::SELECTED_WORDS);
     if words.len() < w {
         return Answer::Refused(Refusal::Length);
     }
@@ -43,7 +43,7 @@ fn cut_work(
 
 // The same, with work of its own.
 fn ask(hashes: &[u64], offsets: &[usize], n: usize, out: &mut [f64]) -> Answer {
-    let mut words = [0u64; 16384];
+    let mut words = [0u64; limits::MOST_SAMPLES * limits::SELECTED_WORDS];
     cut_work(hashes, offsets, n, out, &mut words)
 }
 

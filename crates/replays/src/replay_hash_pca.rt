@@ -31,7 +31,7 @@ fn ask(hashes: &[u64], offsets: &[usize], n: usize, components: usize, out: &mut
     let mut eigenpairs = [0.0; 65792];
     let mut rotated = [0.0; 65536];
     let mut vectors = [0.0; 65536];
-    let mut words = [0u64; 16384];
+    let mut words = [0u64; limits::MOST_SAMPLES * limits::SELECTED_WORDS];
     hash_pca(
         hashes,
         offsets,

@@ -30,7 +30,7 @@ fn tell(ok: bool) {
 // Four sets: so many selected hashes, the matrix `expected` in front of `out`, whose rest stays, and `words` all zero.
 fn answered(hashes: &[u64], offsets: &[usize], m: usize, expected: &[f64]) -> bool {
     let mut out = [9.0; 18];
-    let mut words = [7u64; 260];
+    let mut words = [7u64; 68];
     let Answer::Features(k) = gram_matrix(hashes, offsets, 4, &mut out, &mut words) else {
         return false;
     };
@@ -89,11 +89,10 @@ fn repeats() -> bool {
     )
 }
 
-// Turned away with the number k: both slices untouched.
-fn refused(k: u8, hashes: &[u64], offsets: &[usize], n: usize) -> bool {
+// Turned away with the number k: the output and `words`, which came as 7, untouched.
+fn refused_with(k: u8, hashes: &[u64], offsets: &[usize], n: usize, words: &mut [u64]) -> bool {
     let mut out = [9.0; 16];
-    let mut words = [7u64; 256];
-    let Answer::Refused(r) = gram_matrix(hashes, offsets, n, &mut out, &mut words) else {
+    let Answer::Refused(r) = gram_matrix(hashes, offsets, n, &mut out, words) else {
         return false;
     };
     if number_of(r) != k {
@@ -102,11 +101,17 @@ fn refused(k: u8, hashes: &[u64], offsets: &[usize], n: usize) -> bool {
     if !all_are(&out, 9.0) {
         return false;
     }
-    all_words(&words, 7)
+    all_words(words, 7)
+}
+
+// The same, with the words that four sets take.
+fn refused(k: u8, hashes: &[u64], offsets: &[usize], n: usize) -> bool {
+    let mut words = [7u64; 64];
+    refused_with(k, hashes, offsets, n, &mut words)
 }
 
 // 0, 1, .., m - 1, over and over.
-fn over_and_over(h: &mut [u64], m: u64) {
+pub fn over_and_over(h: &mut [u64], m: u64) {
     if m == 0 {
         return;
     }
@@ -117,27 +122,57 @@ fn over_and_over(h: &mut [u64], m: u64) {
     }
 }
 
-// 4,096 selected hashes pass.
+// 1,024 selected hashes pass, with just the words that three sets take.
 fn widest() -> bool {
-    let mut h = [0u64; 8192];
-    over_and_over(&mut h, 4096);
+    let mut h = [0u64; 2048];
+    over_and_over(&mut h, 1024);
     let mut out = [9.0; 9];
-    let mut words = [7u64; 192];
-    let Answer::Features(k) = gram_matrix(&h, &[0, 4096, 8192, 8192], 3, &mut out, &mut words)
+    let mut words = [7u64; 48];
+    let Answer::Features(k) = gram_matrix(&h, &[0, 1024, 2048, 2048], 3, &mut out, &mut words)
     else {
         return false;
     };
-    if k != 4096 {
+    if k != 1024 {
         return false;
     }
     all_words(&words, 0)
 }
 
-// 4,097 are turned away.
+// One word less.
+fn widest_with_short_words() -> bool {
+    let mut h = [0u64; 2048];
+    over_and_over(&mut h, 1024);
+    let mut words = [7u64; 47];
+    refused_with(1, &h, &[0, 1024, 2048, 2048], 3, &mut words)
+}
+
+// 1,025 hashes to select are turned away.
 fn too_wide() -> bool {
-    let mut h = [0u64; 8194];
-    over_and_over(&mut h, 4097);
-    refused(7, &h, &[0, 4097, 8194, 8194], 3)
+    let mut h = [0u64; 2050];
+    over_and_over(&mut h, 1025);
+    let mut words = [7u64; 48];
+    refused_with(7, &h, &[0, 1025, 2050, 2050], 3, &mut words)
+}
+
+// The same with one word less: 1 is tested before 7.
+fn too_wide_with_short_words() -> bool {
+    let mut h = [0u64; 2050];
+    over_and_over(&mut h, 1025);
+    let mut words = [7u64; 47];
+    refused_with(1, &h, &[0, 1025, 2050, 2050], 3, &mut words)
+}
+
+// 1,024 selected hashes among 65,536 that are given: the first ones stand twice, all others once.
+fn many_given() -> bool {
+    let mut h = [0u64; 65536];
+    over_and_over(&mut h, 64512);
+    let mut out = [9.0; 9];
+    let mut words = [7u64; 48];
+    let Answer::Features(k) = gram_matrix(&h, &[0, 64512, 65536, 65536], 3, &mut out, &mut words)
+    else {
+        return false;
+    };
+    k == 1024
 }
 
 // 65,536 hashes pass the limit, and have none that can be used; one more is beyond it.
@@ -154,7 +189,7 @@ fn too_many() -> bool {
     let h = [5u64; 1];
     let offsets = [0usize; 258];
     let mut out = [9.0; 66049];
-    let mut words = [7u64; 16448];
+    let mut words = [7u64; 4112];
     let Answer::Refused(r) = gram_matrix(&h[..0], &offsets, 257, &mut out, &mut words) else {
         return false;
     };
@@ -191,7 +226,10 @@ pub fn run() {
     tell(refused(6, &two, &[0, 1, 2], 2));
     tell(refused(13, &other, &[0, 1, 2, 2, 2], 4));
     tell(widest());
+    tell(widest_with_short_words());
     tell(too_wide());
+    tell(too_wide_with_short_words());
+    tell(many_given());
     tell(longest());
     tell(too_many());
     catches();

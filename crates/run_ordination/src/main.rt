@@ -165,7 +165,7 @@ fn call_sets(hashes: &[u64], offsets: &[usize], n: usize, components: usize, wor
 }
 
 fn call_hashes(hashes: &[u64], offsets: &[usize], n: usize, components: usize) {
-    let mut words = [7u64; 257];
+    let mut words = [7u64; 65];
     call_sets(hashes, offsets, n, components, &mut words);
 }
 
@@ -177,7 +177,7 @@ fn sets() {
     call_hashes(&two, &[0, 1, 2], 2, 2);
     call_hashes(&[5, 6], &[0, 1, 2, 2, 2], 4, 2);
     call_hashes(&two, &[0, 1, 2, 2], 3, 17);
-    let mut words = [7u64; 255];
+    let mut words = [7u64; 63];
     call_sets(&two, &[0, 1, 2, 2, 2], 4, 2, &mut words);
 }
 
@@ -194,6 +194,31 @@ fn catches() {
     call_hashes(&none, &[0, 0, 0, 0], 3, 0);
 }
 
+// 1,024 hashes to select in three sets, and 1,025.
+fn call_widest(words: &mut [u64]) {
+    let mut h = [0u64; 2048];
+    grams::over_and_over(&mut h, 1024);
+    call_sets(&h, &[0, 1024, 2048, 2048], 3, 2, words);
+}
+
+fn call_wider(words: &mut [u64]) {
+    let mut h = [0u64; 2050];
+    grams::over_and_over(&mut h, 1025);
+    call_sets(&h, &[0, 1025, 2050, 2050], 3, 2, words);
+}
+
+// Each with just the words that three sets take, and with one word less.
+fn widths() {
+    let mut words = [7u64; 48];
+    call_widest(&mut words);
+    let mut short = [7u64; 47];
+    call_widest(&mut short);
+    let mut again = [7u64; 48];
+    call_wider(&mut again);
+    let mut short_again = [7u64; 47];
+    call_wider(&mut short_again);
+}
+
 fn main() {
     eigenpairs::run();
     grams::run();
@@ -202,4 +227,5 @@ fn main() {
     refusals();
     sets();
     catches();
+    widths();
 }

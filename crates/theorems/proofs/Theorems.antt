@@ -188,6 +188,18 @@ pub empty-catch : (n : ℕ) (hashes offsets : List ℕ) (short beyond : Bool) �
     → first (gramLines n hashes offsets short beyond) ≡ refused 13
 empty-catch = LineOrder.empty-catch
 
+-- There 1 to 1,024 hashes to select pass,
+pub widest-passes : (n : ℕ) (hashes offsets : List ℕ) (short beyond : Bool) → (badOffsets n (length hashes) offsets || short) ≡ false
+    → (ltb mostSamples n || ltb mostHashes (length hashes) || beyond) ≡ false → 3 ≤ n → 1 ≤ length (selected n hashes) → length (selected n hashes) ≤ 1024
+    → first (gramLines n hashes offsets short beyond) ≡ passed
+widest-passes = LineOrder.widest-passes
+
+-- and 1,025 or more are 7.
+pub too-wide : (n : ℕ) (hashes offsets : List ℕ) (short beyond : Bool) → (badOffsets n (length hashes) offsets || short) ≡ false
+    → (ltb mostSamples n || ltb mostHashes (length hashes) || beyond) ≡ false → 3 ≤ n → 1025 ≤ length (selected n hashes)
+    → first (gramLines n hashes offsets short beyond) ≡ refused 7
+too-wide = LineOrder.too-wide
+
 -- ---- lengths: line 1 of each operation holds the lengths of what is lent against its own list of those asked (`testAsks` beside `testCall`, and so for
 -- the others), and callers are told that list
 

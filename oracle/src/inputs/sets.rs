@@ -5,6 +5,12 @@ use crate::words::Reader;
 
 pub const KINDS: usize = 10;
 
+/// The hashes that the judge selects at most (document 02, Q-7).
+pub const MOST_SELECTED: usize = 1024;
+
+/// Words of 64 bits that it asks for each set, a bit for each of these.
+pub const SELECTED_WORDS: usize = MOST_SELECTED / 64;
+
 /// Sets of n samples over `width` hashes.
 pub fn sets(kind: usize, n: usize, width: usize, draw: &mut SplitMix) -> Vec<Vec<u64>> {
     let hashes = universe(width, draw);
@@ -59,16 +65,40 @@ fn universe(width: usize, draw: &mut SplitMix) -> Vec<u64> {
     hashes
 }
 
-/// The refusal of sets that the Rust gives None for: 6 for fewer than three, 13 where no hash has a frequency of 2 to n - 1.
+/// The sets of two records at the limit: the most hashes that are selected, and one more.
+pub fn at(record: usize) -> Option<Vec<Vec<u64>>> {
+    match record {
+        99 => Some(selecting(MOST_SELECTED)),
+        149 => Some(selecting(MOST_SELECTED + 1)),
+        _ => None,
+    }
+}
+
+/// Four sets with so many hashes to select.
+fn selecting(hashes: usize) -> Vec<Vec<u64>> {
+    let squares: Vec<u64> = (0..hashes as u64).map(|c| c * c).collect();
+    vec![squares.clone(), vec![], squares, vec![2]]
+}
+
+/// How many hashes have a frequency of 2 to n - 1.
+fn selected(sets: &[Vec<u64>]) -> usize {
+    let mut hashes = sets.concat();
+    hashes.sort_unstable();
+    hashes.chunk_by(|a, b| a == b).filter(|same| (2..sets.len()).contains(&same.len())).count()
+}
+
+/// The refusal of sets that the Rust gives None for: 6 for fewer than three, 13 where there is no hash to select.
 pub fn refusal(sets: &[Vec<u64>]) -> u64 {
     if sets.len() < 3 {
         return 6;
     }
-    let mut hashes = sets.concat();
-    hashes.sort_unstable();
-    let selected = hashes.chunk_by(|a, b| a == b).any(|same| (2..sets.len()).contains(&same.len()));
-    assert!(!selected, "None of the Rust for sets with a hash to select");
+    assert_eq!(selected(sets), 0, "None of the Rust for sets with a hash to select");
     13
+}
+
+/// 7 where there are more hashes to select than the judge takes; the Rust has no such limit.
+pub fn owed(sets: &[Vec<u64>]) -> Option<u64> {
+    (selected(sets) > MOST_SELECTED).then_some(7)
 }
 
 /// n, the n + 1 offsets of the sets in the list of hashes, and the list.

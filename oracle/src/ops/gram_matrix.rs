@@ -20,6 +20,7 @@ fn size(at: usize, draw: &mut SplitMix) -> (usize, usize) {
         24 => (draw.within(129, 255), draw.within(16, 40)),
         11 if at < 50 => (64, 900),
         11 if at > 200 => (draw.within(20, 64), draw.within(200, 900)),
+        36 if at > 200 => (draw.within(20, 64), draw.within(1000, 1060)),
         x if x % 10 == 7 => (draw.within(65, 90), draw.within(16, 60)),
         x if x % 10 == 3 => (64, draw.within(30, 70)),
         x if x % 3 == 1 => (draw.within(21, 63), draw.within(10, 60)),
@@ -35,7 +36,7 @@ impl Operation for GramMatrix {
     fn draw(at: usize, draw: &mut SplitMix) -> (usize, Input) {
         let kind = (at + at / 50) % sets::KINDS;
         let (n, width) = size(at, draw);
-        let sets = if at == 99 { widest() } else { sets::sets(kind, n, width, draw) };
+        let sets = sets::at(at).unwrap_or_else(|| sets::sets(kind, n, width, draw));
         (kind, Input { sets })
     }
 
@@ -62,10 +63,8 @@ impl Operation for GramMatrix {
     fn refusal(input: &Input) -> u64 {
         sets::refusal(&input.sets)
     }
-}
 
-/// 4,096 selected hashes, the most that document 01 accepts.
-fn widest() -> Vec<Vec<u64>> {
-    let hashes: Vec<u64> = (0..4096).map(|c| c * c).collect();
-    vec![hashes.clone(), vec![], hashes, vec![2]]
+    fn owed(input: &Input) -> Option<u64> {
+        sets::owed(&input.sets)
+    }
 }

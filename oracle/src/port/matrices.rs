@@ -2,6 +2,7 @@
 
 use super::library::Library;
 use super::{Asked, Lent, BEFORE, BEFORE_WORD};
+use crate::inputs::sets::{MOST_SELECTED, SELECTED_WORDS};
 use crate::ops::{gram_matrix, jacobi_eigen, top_eigs};
 
 /// The most samples that document 01 accepts.
@@ -169,7 +170,7 @@ impl GramCall {
         for set in sets {
             offsets.push(offsets[offsets.len() - 1] + set.len());
         }
-        let (words, selected) = (vec![BEFORE_WORD; 64 * n], vec![BEFORE_WORD]);
+        let (words, selected) = (vec![BEFORE_WORD; SELECTED_WORDS * n], vec![BEFORE_WORD]);
         GramCall { n, hashes: sets.concat(), offsets, out: room(n * n), words, selected }
     }
 }
@@ -219,7 +220,7 @@ impl Asked<gram_matrix::Input> for GramCall {
                 self.hashes.resize(65_537, 0);
                 *self.offsets.last_mut()? = 65_537;
             }
-            10 if self.n > 2 => *self = GramCall::of(&wide(self.n, 4097)),
+            10 if self.n > 2 => *self = GramCall::of(&wide(self.n, MOST_SELECTED as u64 + 1)),
             11 => *self = GramCall::of(&wide(2, 3)),
             _ => return None,
         }

@@ -2,6 +2,7 @@
 
 use super::library::Library;
 use super::{Asked, Lent, BEFORE, BEFORE_WORD};
+use crate::inputs::sets::SELECTED_WORDS;
 use crate::ops::{hash_pca, pcoa};
 
 /// The output and the work of an ordination. The matrix is Gower's or the Gram matrix.
@@ -109,7 +110,7 @@ impl Asked<hash_pca::Input> for HashPcaCall {
             offsets.push(offsets[offsets.len() - 1] + set.len());
         }
         let (hashes, components) = (input.sets.concat(), input.components);
-        let (words, selected) = (vec![BEFORE_WORD; 64 * n], vec![BEFORE_WORD]);
+        let (words, selected) = (vec![BEFORE_WORD; SELECTED_WORDS * n], vec![BEFORE_WORD]);
         HashPcaCall { n, hashes, offsets, components, room: Room::new(n, components), words, selected }
     }
 

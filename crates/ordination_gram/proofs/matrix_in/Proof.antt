@@ -1,5 +1,6 @@
 -- `ordination_gram::matrix_in` meets its contract: a refusal leaves everything as it was, and an answer the matrix and cleared words.
 use Rattle.lists.proofs.Base.{sym, ap, _∙_, _≤_, arith, needs, length, length-take-le}
+use Rattle.limits.specs.Limits.{mostSelected}
 use Rattle.ordination_gram.specs.declared.Answer.{Answer}
 use Rattle.ordination_gram.specs.Call.{called}
 use Rattle.ordination_sets.proofs.AcceptedSets.{Accepted}
@@ -16,7 +17,7 @@ checked c = c .before .before .before .before .before .before .before
 told : (c : tie.After-known-told) → let a = start (checked c) .args in
     let call = checked c .check-gram in
     let m = c .before .a .given .0 .0 in
-    Accepted (a .n) (a .hashes .now) (a .offsets .now) (a .short) (a .beyond) × (m ≤ 4096) × (m ≤ length (call .last .0)) × (m ≤ length (call .last .1 .0))
+    Accepted (a .n) (a .hashes .now) (a .offsets .now) (a .short) (a .beyond) × (m ≤ mostSelected) × (m ≤ length (call .last .0)) × (m ≤ length (call .last .1 .0))
 told c =
     let s = start (checked c) in
     let a = s .args in

@@ -1,4 +1,4 @@
--- `ordination_gram::columns::entry` meets its contract: the parts that are lent are the rows, and a count of at most 4,096 is an f64.
+-- `ordination_gram::columns::entry` meets its contract: the parts that are lent are the rows, and a count of selected hashes is an f64.
 use Rattle.lists.proofs.Base.{sym, ap, ap₂, _∙_, ℕ, _^_, arith, le→leb, getD, needs}
 use lib.Ieee.{nan, inFloat}
 use Rattle.float.specs.Floats.{_⊕_, _⊖_, num}

@@ -1,6 +1,7 @@
 -- `ordination_gram::columns::fill_gram` meets its contract: what the loops leave is the matrix, and the words are cleared at the end.
 use Rattle.lists.proofs.Base.{ap, _∙_, List, map, ℕ, _+_, _*_, _/_, _≤_, arith, needs, length, replicate, Float}
 use native.Mathlib.Nat.{mul-le-mul-left}
+use Rattle.limits.specs.Limits.{mostSelected, selectedWords}
 use Rattle.lists.specs.Writes.{over, cleared}
 use Rattle.ordination_hashes.specs.inner.Columns.{columnOf}
 use Rattle.ordination_gram.proofs.FilledMatrix.{matrix-is}
@@ -12,9 +13,9 @@ start c = c .before .before .before .before .before .before .before .before .bef
 abbrev marked : tie.After-square-sum → tie.After-mark-sets
 marked c = c .before .before .before .before .before
 
--- w words hold m bits, for m up to 4,096
-room : (n m words : ℕ) → m ≤ 4096 → n * 64 ≤ words → (n * ((m + 63) / 64) ≤ words) × (m ≤ (m + 63) / 64 * 64) × ((m + 63) / 64 ≤ 64)
-room n m words h g = let few : (m + 63) / 64 ≤ 64 = omega arith in (omega (arith, mul-le-mul-left n few), omega arith, few)
+-- w words hold m bits, for as many as can be selected
+room : (n m words : ℕ) → m ≤ mostSelected → n * selectedWords ≤ words → (n * ((m + 63) / 64) ≤ words) × (m ≤ (m + 63) / 64 * 64) × ((m + 63) / 64 ≤ selectedWords)
+room n m words h g = let few : (m + 63) / 64 ≤ selectedWords = omega arith in (omega (arith, mul-le-mul-left n few), omega arith, few)
 
 mark-sets-requires : tie.Need-mark-sets-requires
 mark-sets-requires c κs =
