@@ -20,7 +20,7 @@ fn size(at: usize, draw: &mut SplitMix) -> (usize, usize) {
         24 => (draw.within(129, 255), draw.within(16, 40)),
         11 if at < 50 => (64, 900),
         11 if at > 200 => (draw.within(20, 64), draw.within(200, 900)),
-        36 if at > 200 => (draw.within(20, 64), draw.within(1000, 1060)),
+        36 if at > 200 => (draw.within(20, 60), draw.within(1000, 1060)),
         x if x % 10 == 7 => (draw.within(65, 90), draw.within(16, 60)),
         x if x % 10 == 3 => (64, draw.within(30, 70)),
         x if x % 3 == 1 => (draw.within(21, 63), draw.within(10, 60)),

@@ -19,7 +19,7 @@ fn size(at: usize, draw: &mut SplitMix) -> (usize, usize) {
         0 => (at / 40 % 3, 8),
         13 if large(at / 40) => (draw.within(129, 256), draw.within(16, 40)),
         22 if at < 40 => (64, 900),
-        38 if at > 200 => (draw.within(20, 64), draw.within(1000, 1060)),
+        38 if at > 200 => (draw.within(20, 60), draw.within(1000, 1060)),
         x if x % 10 == 4 => (64, draw.within(30, 90)),
         x if x % 4 == 3 => (draw.within(65, 90), draw.within(16, 50)),
         x if x % 4 == 1 => (draw.within(21, 63), draw.within(10, 60)),
