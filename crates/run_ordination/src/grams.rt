@@ -146,20 +146,11 @@ fn widest_with_short_words() -> bool {
     refused_with(1, &h, &[0, 1024, 2048, 2048], 3, &mut words)
 }
 
-// 1,025 hashes to select are turned away.
-fn too_wide() -> bool {
+// 1,025 hashes to select are turned away, with the number k.
+fn too_wide(k: u8, words: &mut [u64]) -> bool {
     let mut h = [0u64; 2050];
     over_and_over(&mut h, 1025);
-    let mut words = [7u64; 48];
-    refused_with(7, &h, &[0, 1025, 2050, 2050], 3, &mut words)
-}
-
-// The same with one word less: 1 is tested before 7.
-fn too_wide_with_short_words() -> bool {
-    let mut h = [0u64; 2050];
-    over_and_over(&mut h, 1025);
-    let mut words = [7u64; 47];
-    refused_with(1, &h, &[0, 1025, 2050, 2050], 3, &mut words)
+    refused_with(k, &h, &[0, 1025, 2050, 2050], 3, words)
 }
 
 // 1,024 selected hashes among 65,536 that are given: the first ones stand twice, all others once.
@@ -173,6 +164,17 @@ fn many_given() -> bool {
         return false;
     };
     k == 1024
+}
+
+// Just the words that three sets take, and one less: 1 is tested before 7.
+fn widths() {
+    tell(widest());
+    tell(widest_with_short_words());
+    let mut words = [7u64; 48];
+    tell(too_wide(7, &mut words));
+    let mut short = [7u64; 47];
+    tell(too_wide(1, &mut short));
+    tell(many_given());
 }
 
 // 65,536 hashes pass the limit, and have none that can be used; one more is beyond it.
@@ -225,11 +227,7 @@ pub fn run() {
     tell(refused(1, &two, &[1, 1, 2, 2, 2], 4));
     tell(refused(6, &two, &[0, 1, 2], 2));
     tell(refused(13, &other, &[0, 1, 2, 2, 2], 4));
-    tell(widest());
-    tell(widest_with_short_words());
-    tell(too_wide());
-    tell(too_wide_with_short_words());
-    tell(many_given());
+    widths();
     tell(longest());
     tell(too_many());
     catches();
