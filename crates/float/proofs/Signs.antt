@@ -1,20 +1,23 @@
--- What the tests of `float::abs`, `max` and `signum` say of their arguments.
+-- What the tests of `float::abs`, `max`, `signum` and `axis_sign` say of their arguments.
 use mathlib.Core.Path.{_≡_, refl, sym, ap, ap₂, _∙_, subst}
 use Prim.Native.Nat.{ℕ, zero, suc, _+_, _*_, _/_, _%_, _≤_, _<_}
-use native.Mathlib.Nat.{not-le-of-lt, zero-lt-suc, zero-add, zero-mul, mul-one}
+use native.Mathlib.Nat.{not-le-of-lt, zero-lt-suc, zero-add, zero-mul, mul-one, mul-pos}
 use native.Mathlib.Omega.{arith}
 use mathlib.Core.Logic.{inl, inr, _↔_}
 use mathlib.Core.Bool.{Bool, true, false, not, _&&_, cond, true≢false, false≢true}
+use mathlib.Core.List.{[], _∷_, map}
 use lib.IntN.{ℤ}
-use lib.Dec.{T, leb, eqb}
+use lib.Dec.{T, leb, eqb, lt→ltb}
+use mir.Val.{boolByte}
 use borrow.Author.Tests.{le-leb, lt-leb}
-use lib.Ieee.{Float, nan, inf, fin, Format, binary64, up, down, fits, isNan, odd, round, sum, neg, add, sub, lt, eq, le, ne, prec, low, hid, ones, top, ofFields, ofBits, toBits}
+use lib.Ieee.{Float, nan, inf, fin, Format, binary64, up, down, fits, isNan, odd, round, sum, size, neg, add, sub, mul, lt, eq, le, ne, ofInt, prec, low, hid, ones, top, ofFields, ofBits, toBits}
 use lib.Ieee.Bits.{ofBits-toBits, cond-no}
 use lib.Ieee.Compare.{differs-from-itself, nan-differs}
-use lib.Ieee.Fits.{down-pos}
+use lib.Ieee.Fits.{up-pos, down-pos}
 use lib.Ieee.Exact.{HasValue}
-use Rattle.float.specs.{Floats.zero⁺, Floats.1·0, Floats.-1·0, Value.sign, Value.SignedLe, Order.magnitude, Order.larger, Order.signum}
-use Rattle.float.proofs.{Tests.fails, Tests.either-way, Signed.SignedEq}
+use Rattle.float.specs.{Floats.zero⁺, Floats.zero⁻, Floats.1·0, Floats.-1·0, Floats.2·0, Floats._⊖_, Floats._⊗_, Floats.num, Value.sign, Value.SignedLe}
+use Rattle.float.specs.Order.{magnitude, larger, signum, belowZero}
+use Rattle.float.proofs.{Tests.fails, Tests.same-test, Tests.either-way, Signed.SignedEq}
 use Rattle.float.proofs.Value.{first-zero, sign-fits, unique, zeroOf, zero-fits}
 use Rattle.float.proofs.{Order.le-over, Order.lt-over, Order.eq-over, Order.lt-value, Rounding.round-own, Sum.add-at}
 
@@ -34,6 +37,9 @@ module _ (s : Bool) (m : ℕ) (e : ℤ) where
 
   pub zero-lt : T (lt zero⁺ (fin s m e)) ↔ (SignedLe s (m * up e) false 0 → ⊥)
   zero-lt = lt-over zero⁺ (fin s m e) false 0 s (m * up e) (down e) (down-pos e) zero-over own
+
+  lt-zero : T (lt (fin s m e) zero⁺) ↔ (SignedLe false 0 s (m * up e) → ⊥)
+  lt-zero = lt-over (fin s m e) zero⁺ s (m * up e) false 0 (down e) (down-pos e) own zero-over
 
 -- so a value that equals zero is a zero, and is written in one way
 none : (s : Bool) (a : ℕ) → SignedEq s a false 0 → a ≡ 0
@@ -183,3 +189,29 @@ signum-clear x p h l = signum-sign x false h (sym (sign-bits binary64 x p h) ∙
 
 pub signum-set : (x : Float) → T (fits binary64 x) → T (not (isNan x)) → top binary64 ≤ toBits binary64 x → -1·0 ≡ signum x
 signum-set x p h l = signum-sign x true h (sym (sign-bits binary64 x p h) ∙ le-leb (top binary64) (toBits binary64 x) l)
+
+-- ---- `axis_sign`
+-- the comparison with zero tells what is below zero
+pub below-zero : (x : Float) → lt x zero⁺ ≡ belowZero x
+unfolding belowZero
+below-zero nan = unfold lt in refl
+below-zero (inf s) = unfold lt ofBits in refl
+below-zero (fin false m e) = same-test _ false (λ h. lt-zero false m e .0 h (omega arith)) (λ h. absurd h)
+below-zero (fin true zero e) = same-test _ false (λ h. lt-zero true 0 e .0 h (omega (arith, zero-mul (up e)))) (λ h. absurd h)
+below-zero (fin true (suc m) e) =
+    same-test _ _ (λ h. lt→ltb 0 (suc m) (zero-lt-suc m)) (λ h. lt-zero true (suc m) e .1 (λ k. omega (arith, mul-pos (zero-lt-suc m) (up-pos e))))
+
+-- a test cast to a number, 1 or 0
+pub one-minus-twice : (b : Bool) → 1·0 ⊖ 2·0 ⊗ num (boolByte b) ≡ cond b -1·0 1·0
+unfolding sub mul ofInt ofBits neg odd size
+one-minus-twice true = refl
+one-minus-twice false = refl
+
+-- so one minus twice the number that a test is cast to is, for every float, -1 exactly below zero and else 1
+pub axis-sign : (x : Float) → 1·0 ⊖ 2·0 ⊗ num (boolByte (lt x zero⁺)) ≡ cond (belowZero x) -1·0 1·0
+axis-sign x = one-minus-twice (lt x zero⁺) ∙ ap (λ (t : Bool). cond t -1·0 1·0) (below-zero x)
+
+-- for both zeros, NaN and both infinities too
+pub axis-sign-edges : map (λ (x : Float). 1·0 ⊖ 2·0 ⊗ num (boolByte (lt x zero⁺))) (zero⁺ ∷ zero⁻ ∷ nan ∷ inf false ∷ inf true ∷ []) ≡ 1·0 ∷ 1·0 ∷ 1·0 ∷ 1·0 ∷ -1·0 ∷ []
+unfolding sub mul ofInt ofBits neg odd size lt
+axis-sign-edges = refl

@@ -1,8 +1,10 @@
-// Section 1 of document 01: absolute value, the larger of two, finiteness, the sign; and the tolerance of sections 6 and 8. The square
-// root is `square_root`.
+// Section 1 of document 01: absolute value, the larger of two, finiteness, the sign; the sign of an axis of section 4; and the tolerance of
+// sections 6 and 8. The square root is `square_root`.
 ghost use mathlib.Core.Path.{_≡_};
+ghost use mathlib.Core.Bool.{cond};
 ghost use lib.Ieee.Scale.{finite};
-ghost use Rattle.float.specs.Order.{magnitude, larger};
+ghost use Rattle.float.specs.Floats.{1·0, -1·0};
+ghost use Rattle.float.specs.Order.{magnitude, larger, belowZero};
 ghost use Rattle.float.specs.Order as Order;
 ghost use Rattle.float.specs.Tolerance.{asLarge};
 ghost use Rattle.float.specs.Tolerance as Tolerance;
@@ -50,6 +52,13 @@ pub fn signum(x: f64) -> f64
         return 1.0;
     }
     -1.0
+}
+
+// -1 where x is below zero, else 1, of both zeros and NaN too. No branch: one minus twice a number that is 1 below zero and else 0.
+pub fn axis_sign(x: f64) -> f64
+    ensures { λ r. ⌜ r ≡ cond (belowZero x) -1·0 1·0 ⌝ }
+{
+    1.0 - 2.0 * ((x < 0.0) as u8 as f64)
 }
 
 // F - 1e-12·|F|.

@@ -25,14 +25,11 @@ fn largest(v: &[f64]) -> f64
     m
 }
 
-// The sign that makes it positive.
+// The sign that makes it positive, without a branch.
 fn orient(v: &[f64]) -> f64
     ensures { λ r. ⌜ r ≡ orient (now (v .entry)) ⌝ }
 {
-    if largest(v) < 0.0 {
-        return -1.0;
-    }
-    1.0
+    float::axis_sign(largest(v))
 }
 
 // The sign of each vector, a row of n.

@@ -6,6 +6,7 @@
 --   `sqrt`          `root`                            square_root/specs/Root
 --   `abs`, `max`    `magnitude`, `larger`             float/specs/Order
 --   `signum`        `signum`                          float/specs/Order
+--   `axis_sign`     -1 or 1, by `belowZero`           float/specs/Order
 --   `is_finite`     `finite`                          of the toolchain, lib.Ieee.Scale
 --   `threshold`     `threshold`                       float/specs/Tolerance
 --   `as_large`      `asLarge`                         float/specs/Tolerance
@@ -22,16 +23,18 @@
 --   `judge`         `judgeText`, written by `onto`    judge/specs/Judge, judge_printing/specs/Page
 -- The functions of include/lotjudge.h lay the same out as numbers and arrays (lotjudge_c/specs/Exported, c_layouts/specs/Layouts).
 use mathlib.Core.Path.{_≡_}
-use mathlib.Core.Bool.{Bool, true, false, not, _&&_, _||_}
+use mathlib.Core.Bool.{Bool, true, false, not, _&&_, _||_, cond}
 use mathlib.Core.List.{List, [], _∷_, _++_, map}
 use Prim.Native.Nat.{ℕ, _+_, _*_, _≤_, _<_}
 use lib.Dec.{T, leb, ltb}
 use lib.ListN.{length, take, getD}
-use lib.Ieee.{Float, Format, binary64, fits, le, round}
+use lib.Ieee.{Float, nan, inf, Format, binary64, fits, lt, le, round}
 use lib.Ieee.Scale.{finite}
 use lib.Ieee.Positive.{positive}
 use Rattle.limits.specs.Limits.{mostPrinted, mostText, mostSamples, mostHashes}
-use Rattle.float.specs.{Value.rank, Value.SignedLe, Tolerance.threshold}
+use mir.Val.{boolByte}
+use Rattle.float.specs.Floats.{_⊖_, _⊗_, num, zero⁺, zero⁻, 1·0, -1·0, 2·0}
+use Rattle.float.specs.{Value.rank, Value.SignedLe, Order.belowZero, Tolerance.threshold}
 use Rattle.square_root.specs.{Root.root, Nearest.NearestRoot}
 use Rattle.lists.specs.Filters.{any, countIf}
 use Rattle.outcome.specs.declared.Refusal.{Refusal}
@@ -56,6 +59,7 @@ use Rattle.square_root.proofs.Nearest as Nearest
 use Rattle.float.proofs.Rank as Rank
 use Rattle.float.proofs.Rounding as Rounding
 use Rattle.float.proofs.Tolerance as Tolerance
+use Rattle.float.proofs.Signs as Signs
 use Rattle.outcome.proofs.Names as Names
 use Rattle.outcome.proofs.Lengths as Lengths
 use Rattle.lot.proofs.Relabelled as Relabelled
@@ -101,6 +105,21 @@ threshold-le = Tolerance.threshold-le
 -- are the whole-number sums bit for bit, and total and within divide these.
 pub exact-sums : (lot : Lot) (short beyond : Bool) → first (testLines lot short beyond) ≡ passed → inexact lot ≡ false → Exact lot
 exact-sums = ExactSums.exact-sums
+
+-- ---- section 4: the sign of an axis
+
+-- The comparison with zero tells which floats are below zero.
+pub below-zero : (x : Float) → lt x zero⁺ ≡ belowZero x
+below-zero = Signs.below-zero
+
+-- One minus twice the number that this comparison is cast to, 1 or 0, is for every float -1 exactly where it is below zero, and else 1:
+pub axis-sign : (x : Float) → 1·0 ⊖ 2·0 ⊗ num (boolByte (lt x zero⁺)) ≡ cond (belowZero x) -1·0 1·0
+axis-sign = Signs.axis-sign
+
+-- of 0.0, -0.0, NaN and +infinity 1, and of -infinity -1.
+pub axis-sign-edges : map (λ (x : Float). 1·0 ⊖ 2·0 ⊗ num (boolByte (lt x zero⁺))) (zero⁺ ∷ zero⁻ ∷ nan ∷ inf false ∷ inf true ∷ [])
+    ≡ 1·0 ∷ 1·0 ∷ 1·0 ∷ 1·0 ∷ -1·0 ∷ []
+axis-sign-edges = Signs.axis-sign-edges
 
 -- ---- section 6: every way
 
