@@ -1,8 +1,8 @@
--- `ordination_coordinates::signs::orient` meets its contract: the largest is compared with zero, which tells whether it is below.
+-- `ordination_coordinates::signs::orient` meets its contract: the leaf goes by what is below zero and the meaning by a comparison with zero, and both are one.
 use Rattle.lists.proofs.Base.{sym, ap, _∙_, needs, Bool, Float, cond, lt}
 use Rattle.float.specs.Floats.{zero⁺, 1·0, -1·0}
 use Rattle.float.proofs.Signs.{below-zero}
-use Rattle.ordination_coordinates.specs.Signs.{largest, orient}
+use Rattle.ordination_coordinates.specs.Signs.{orient}
 use Rattle.ordination_coordinates.proofs.signs.orient.Tie as tie
 
 returns : tie.Need-returns
