@@ -11,6 +11,7 @@ pub mod Rank
 pub mod Rounding
 pub mod Sum
 pub mod Product
+pub mod Equal
 pub mod Whole
 pub mod Tolerance
 pub mod Signs

@@ -2,7 +2,7 @@
 use Rattle.lists.proofs.Base.{_≡_, refl, sym, _∙_, Bool, true, false, not, _&&_, _||_, true≢false, List, _++_, ℕ, _*_, _≤_, eqb-true, ltb-false, not-false, eqb, ltb, length, Float}
 use Rattle.lists.specs.Filters.{any, all}
 use Rattle.outcome.specs.{Outcome.passed, Outcome.refused, Refusals.first, Slices.untouched}
-use Rattle.lot.specs.{Lot.Lot, Kept.groupCount}
+use Rattle.lot.specs.{Lot.Lot, Kept.groupCount, Mirror.unmirrored}
 use Rattle.lot.specs.Lines.{badDistance, badWeight, misfits, sizeLines, matrixLines, labelLines, testLines}
 use Rattle.lists.proofs.Truths.{or-neither}
 use Rattle.outcome.proofs.Table.{first-passed, first-after, first-both, first-untouched}
@@ -46,9 +46,13 @@ sizes-known misfit n beyond e =
     let one = first-passed 1 _ misfit (sym e) in
     let two = or-neither (ltb 256 n) beyond (first-passed 2 _ _ (one .1) .0) in record { fit = one .0; few = ltb-false _ _ (two .0); within = two .1 }
 
--- 3
-pub values-known : (d : List Float) → first (matrixLines d) ≡ passed → any badDistance d ≡ false
-values-known d e = first-passed 3 _ _ (sym e) .0
+-- 3 and 14
+pub record Mirrored (n : ℕ) (d : List Float) : Type 0 where
+  pub values : any badDistance d ≡ false
+  pub mirrors : unmirrored n d ≡ false
+
+pub matrix-known : (n : ℕ) (d : List Float) → first (matrixLines n d) ≡ passed → Mirrored n d
+matrix-known n d e = let three = first-passed 3 _ _ (sym e) in record { values = three .0; mirrors = first-passed 14 _ _ (three .1) .0 }
 
 -- 4 and 5
 pub record Labelled (labels : List ℕ) (weighted : Bool) (weights : List Float) : Type 0 where
@@ -64,22 +68,22 @@ labels-known labels weighted weights e =
 -- by the groups
 pub record Clear (lot : Lot) (short beyond : Bool) : Type 0 where
   pub sizes : first (sizeLines (misfits lot || short) (lot .n) beyond) ≡ passed
-  pub matrix : first (matrixLines (lot .distances)) ≡ passed
+  pub matrix : first (matrixLines (lot .n) (lot .distances)) ≡ passed
   pub labels : first (labelLines (lot .labels) (lot .weighted) (lot .weights)) ≡ passed
 
 module _ (lot : Lot) (short beyond : Bool) where
   pub passed-clear : first (testLines lot short beyond) ≡ passed → Clear lot short beyond
   unfolding testLines
   passed-clear e =
-      let sizes = first-both (sizeLines (misfits lot || short) (lot .n) beyond) (matrixLines (lot .distances) ++ labelLines (lot .labels) (lot .weighted) (lot .weights)) e in
-      let rest = first-both (matrixLines (lot .distances)) (labelLines (lot .labels) (lot .weighted) (lot .weights)) (sizes .1) in
+      let sizes = first-both (sizeLines (misfits lot || short) (lot .n) beyond) (matrixLines (lot .n) (lot .distances) ++ labelLines (lot .labels) (lot .weighted) (lot .weights)) e in
+      let rest = first-both (matrixLines (lot .n) (lot .distances)) (labelLines (lot .labels) (lot .weighted) (lot .weights)) (sizes .1) in
       record { sizes = sizes .0; matrix = rest .0; labels = rest .1 }
 
   pub clear-passed : Clear lot short beyond → first (testLines lot short beyond) ≡ passed
   unfolding testLines
   clear-passed c =
-      first-after (sizeLines (misfits lot || short) (lot .n) beyond) (matrixLines (lot .distances) ++ labelLines (lot .labels) (lot .weighted) (lot .weights)) (c .sizes)
-      ∙ first-after (matrixLines (lot .distances)) (labelLines (lot .labels) (lot .weighted) (lot .weights)) (c .matrix) ∙ c .labels
+      first-after (sizeLines (misfits lot || short) (lot .n) beyond) (matrixLines (lot .n) (lot .distances) ++ labelLines (lot .labels) (lot .weighted) (lot .weights)) (c .sizes)
+      ∙ first-after (matrixLines (lot .n) (lot .distances)) (labelLines (lot .labels) (lot .weighted) (lot .weights)) (c .matrix) ∙ c .labels
 
 -- what is known of it
 pub record Passes (lot : Lot) (short beyond : Bool) : Type 0 where
@@ -88,6 +92,7 @@ pub record Passes (lot : Lot) (short beyond : Bool) : Type 0 where
   pub few : lot .n ≤ 256
   pub within : beyond ≡ false
   pub values : any badDistance (lot .distances) ≡ false
+  pub mirrors : unmirrored (lot .n) (lot .distances) ≡ false
   pub weights : (lot .weighted && any badWeight (lot .weights)) ≡ false
   pub groups : 2 ≤ groupCount (lot .labels)
 
@@ -96,13 +101,15 @@ passes lot short beyond e =
     let clear = passed-clear lot short beyond e in
     let sized = sizes-known (misfits lot || short) (lot .n) beyond (clear .sizes) in
     let one = or-neither (misfits lot) short (sized .fit) in
+    let mirrored = matrix-known (lot .n) (lot .distances) (clear .matrix) in
     let labelled = labels-known (lot .labels) (lot .weighted) (lot .weights) (clear .labels) in
     record {
       fits = parts-fit lot (one .0);
       long = one .1;
       few = sized .few;
       within = sized .within;
-      values = values-known (lot .distances) (clear .matrix);
+      values = mirrored .values;
+      mirrors = mirrored .mirrors;
       weights = labelled .weighed;
       groups = labelled .groups;
     }

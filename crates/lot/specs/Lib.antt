@@ -3,6 +3,7 @@ pub mod Lot
 pub mod Kept
 pub mod Strata
 pub mod Way
+pub mod Mirror
 pub mod Lines
 pub mod Cases
 pub mod inner

@@ -1,4 +1,4 @@
--- Lines 1 to 5 of the table for a lot of any n (document 01, "What a turned-away lot returns"). Definitions only.
+-- Lines 1 to 5 of the table, and 14, for a lot of any n (document 01, "What a turned-away lot returns", and document 02, Q-4). Definitions only.
 use Prim.Native.Nat.{ℕ, _*_}
 use mathlib.Core.Bool.{Bool, not, _&&_, _||_}
 use mathlib.Core.List.{List, [], _∷_, _++_}
@@ -10,6 +10,7 @@ use Rattle.lists.specs.Filters.{any}
 use Rattle.outcome.specs.Refusals.{Line, _when_, unfit}
 use Rattle.lot.specs.Lot.{Lot}
 use Rattle.lot.specs.Kept.{groupCount}
+use Rattle.lot.specs.Mirror.{unmirrored}
 
 -- a distance is 0 to 2^20, a weight 2^-20 to 2^20
 abbrev pub badDistance : Float → Bool
@@ -30,9 +31,9 @@ misfits lot =
 abbrev pub sizeLines : Bool → ℕ → Bool → List Line
 sizeLines misfit n beyond = (1 when misfit) ∷ (2 when ltb mostSamples n || beyond) ∷ []
 
--- 3, of distances alone
-abbrev pub matrixLines : List Float → List Line
-matrixLines distances = (3 when any badDistance distances) ∷ []
+-- 3 and 14, of n by n distances alone
+abbrev pub matrixLines : ℕ → List Float → List Line
+matrixLines n distances = (3 when any badDistance distances) ∷ (14 when unmirrored n distances) ∷ []
 
 -- 4 and 5, of labels and weights
 abbrev pub labelLines : List ℕ → Bool → List Float → List Line
@@ -40,4 +41,4 @@ labelLines labels weighted weights = (4 when weighted && any badWeight weights) 
 
 -- Both tests: `short` says that an output or work slice is short, `beyond` that another argument is beyond its limit.
 unfoldable pub testLines : Lot → Bool → Bool → List Line
-testLines lot short beyond = sizeLines (misfits lot || short) (lot .n) beyond ++ matrixLines (lot .distances) ++ labelLines (lot .labels) (lot .weighted) (lot .weights)
+testLines lot short beyond = sizeLines (misfits lot || short) (lot .n) beyond ++ matrixLines (lot .n) (lot .distances) ++ labelLines (lot .labels) (lot .weighted) (lot .weights)

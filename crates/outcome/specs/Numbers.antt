@@ -1,7 +1,7 @@
 -- This paper's number for each name that the code has for a line of the table. Definitions only.
 use Prim.Native.Nat.{ℕ}
 use Rattle.outcome.specs.declared.Refusal.{Refusal}
-use Rattle.outcome.specs.declared.Refusal.the-variants.{Length, Limit, Value, Weight, Labels, Ordination, Hashes, Ways, Columns, Pivot, Unordered, Frame, NoHashes}
+use Rattle.outcome.specs.declared.Refusal.the-variants.{Length, Limit, Value, Weight, Labels, Ordination, Hashes, Ways, Columns, Pivot, Unordered, Frame, NoHashes, Mirror}
 use Rattle.outcome.specs.declared.Check.{Check}
 use Rattle.outcome.specs.declared.Check.the-variants.{Passed, Refused}
 use Rattle.outcome.specs.Outcome.{Told, passed, refused}
@@ -20,6 +20,7 @@ number Pivot = 10
 number Unordered = 11
 number Frame = 12
 number NoHashes = 13
+number Mirror = 14
 
 -- what a check that the code returns says
 abbrev pub told : Check → Told

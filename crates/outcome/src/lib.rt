@@ -30,6 +30,8 @@ pub enum Refusal {
     Frame,
     // 13: no hash with frequency 2 to n - 1
     NoHashes,
+    // 14: a distance that differs from its mirror, or one on the diagonal other than zero
+    Mirror,
 }
 
 // What the table says of a call's arguments.
@@ -56,5 +58,6 @@ pub fn number_of(r: Refusal) -> u8
         Refusal::Unordered => 11,
         Refusal::Frame => 12,
         Refusal::NoHashes => 13,
+        Refusal::Mirror => 14,
     }
 }
