@@ -7,6 +7,7 @@ pub mod Informing
 pub mod Places
 pub mod FewGroups
 pub mod AcceptedLots
+pub mod Transposed
 pub mod Tallies
 pub mod GroupsAndStrata
 pub mod WaysOnSamples
