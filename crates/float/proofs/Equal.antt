@@ -1,15 +1,16 @@
--- Equal as numbers: the test is symmetric (`ne-comm`), and equal numbers have one square (`square-same`), -0.0 and 0.0 among them.
+-- Equal as numbers: the test is symmetric (`ne-comm`), what equals something equals itself (`ne-self`), and equal numbers have one square (`square-same`), -0.0 and 0.0
+-- among them.
 use mathlib.Core.Path.{_≡_, refl, sym, ap, _∙_, subst}
 use mathlib.Core.Bool.{Bool, true, false, not, _&&_}
 use Prim.Native.Nat.{ℕ, _*_}
 use native.Mathlib.Nat.{mul-mul-mul-comm, mul-pos}
 use lib.Dec.{T, eqb, eqb→eq}
-use lib.IntN.{ℤ}
-use lib.Ieee.{Float, nan, inf, fin, Format, unlike, up, down, round, mul, level, eq, ne}
+use lib.Ieee.{Float, nan, inf, fin, Format, unlike, up, down, round, mul, level, eq, ne, isNan}
 use lib.Ieee.Fits.{down-pos, and-l}
 use lib.Ieee.Scale.{round-same}
 use Rattle.float.proofs.Tests.{same-test}
 use Rattle.float.proofs.Signed.{level-iff}
+use Rattle.float.proofs.Nan.{nan-ne}
 
 level-comm : (s : Bool) (a : ℕ) (t : Bool) (b : ℕ) → level s a t b ≡ level t b s a
 level-comm s a t b = same-test (level s a t b) (level t b s a) (turn s a t b) (turn t b s a)
@@ -35,6 +36,13 @@ eq-comm (fin s m e) (fin t n d) = level-comm s (m * up e * down d) t (n * up d *
 pub ne-comm : (x y : Float) → ne x y ≡ ne y x
 unfolding ne
 ne-comm x y = ap not (eq-comm x y)
+
+-- only a NaN differs from itself, and it differs from everything
+pub ne-self : (x y : Float) → ne x y ≡ false → ne x x ≡ false
+unfolding ne eq isNan
+ne-self nan y e = e
+ne-self (inf s) y e = nan-ne (inf s)
+ne-self (fin s m d) y e = nan-ne (fin s m d)
 
 -- the sign of a square
 like : (s : Bool) → unlike s s ≡ false

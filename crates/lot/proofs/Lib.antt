@@ -6,6 +6,7 @@ pub mod Numbering
 pub mod Informing
 pub mod Places
 pub mod FewGroups
+pub mod Mirrored
 pub mod AcceptedLots
 pub mod Transposed
 pub mod Tallies

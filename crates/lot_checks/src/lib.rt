@@ -1,4 +1,4 @@
-// Lines 1 to 5 of the table, in three groups: sizes, which the ordination shares, the matrix, which it shares too, and labels with their weights.
+// Lines 1 to 5 of the table, and 14, in three groups: sizes, which the ordination shares, the matrix, which it shares too, and labels with their weights.
 use lot_design::kept;
 use outcome::Check;
 use outcome::Refusal;
@@ -7,13 +7,16 @@ ghost use Prim.Native.Nat.{_*_, _<_};
 ghost use mathlib.Core.Bool.{_&&_, _||_, not};
 ghost use lib.Dec.{eqb, ltb};
 ghost use lib.ListN.{length, getD};
-ghost use lib.Ieee.{le};
+ghost use lib.Ieee.{le, ne};
 ghost use Rattle.lists.specs.Filters.{any, firstAt};
+ghost use Rattle.lists.specs.Rows.{entry};
 ghost use Rattle.outcome.specs.Numbers.{told};
 ghost use Rattle.outcome.specs.Refusals.{first};
 ghost use Rattle.limits.specs.Limits.{none};
 ghost use Rattle.lot.specs.Lot.{lotOf};
 ghost use Rattle.lot.specs.Kept as spec;
+ghost use Rattle.lot.specs.Mirror as mirror;
+ghost use Rattle.lot.specs.inner.Mirror.{rowUnmirrored};
 ghost use Rattle.lot.specs.Lines.{badWeight, sizeLines, matrixLines, labelLines, testLines};
 
 // The least weight, 2 ^ -20, and the most that a weight or a distance may be, 2 ^ 20.
@@ -88,6 +91,44 @@ pub fn any_outside(lo: f64, hi: f64, xs: &[f64]) -> bool
     false
 }
 
+// ---- the matrix and its mirror
+
+// Whether entry i, j of n by n distances differs from its mirror. As numbers: -0.0 is 0.0.
+fn differs(distances: &[f64], n: usize, i: usize, j: usize) -> bool
+    requires { ⌜ (length (now distances) ≡ n * n) × (i < n) × (j < n) ⌝ }
+    ensures { λ r. ⌜ r ≡ ne (entry n (now (distances .entry)) i j) (entry n (now (distances .entry)) j i) ⌝ }
+{
+    distances[i * n + j] != distances[j * n + i]
+}
+
+// Whether an entry of row i left of the diagonal differs from its mirror, or the one on the diagonal from zero.
+fn row_unmirrored(distances: &[f64], n: usize, i: usize) -> bool
+    requires { ⌜ (length (now distances) ≡ n * n) × (i < n) ⌝ }
+    ensures { λ r. ⌜ r ≡ rowUnmirrored n (now (distances .entry)) i ⌝ }
+{
+    for j in 0..i {
+        if differs(distances, n, i, j) {
+            return true;
+        }
+    }
+    distances[i * n + i] != 0.0
+}
+
+// Whether some entry differs from its mirror, or some entry of the diagonal from zero. Each pair of mirrors is looked at once.
+fn unmirrored(distances: &[f64], n: usize) -> bool
+    requires { ⌜ length (now distances) ≡ n * n ⌝ }
+    ensures { λ r. ⌜ r ≡ mirror.unmirrored n (now (distances .entry)) ⌝ }
+{
+    for i in 0..n {
+        if row_unmirrored(distances, n, i) {
+            return true;
+        }
+    }
+    false
+}
+
+// ---- labels and weights
+
 // The first label that two samples have, other than l; none where there is no such label.
 fn other_label(labels: &[u16], l: u16) -> u16
     requires { ⌜ length (now labels) < 65536 ⌝ }
@@ -141,12 +182,16 @@ pub fn check_sizes(misfit: bool, n: usize, beyond: bool) -> Check
     Check::Passed
 }
 
-// Line 3, by the distances alone.
-pub fn check_matrix(distances: &[f64]) -> Check
-    ensures { λ r. ⌜ told r ≡ first (matrixLines (now (distances .entry))) ⌝ }
+// Lines 3 and 14, by n by n distances alone.
+pub fn check_matrix(distances: &[f64], n: usize) -> Check
+    requires { ⌜ length (now distances) ≡ n * n ⌝ }
+    ensures { λ r. ⌜ told r ≡ first (matrixLines n (now (distances .entry))) ⌝ }
 {
     if any_outside(0.0, MOST, distances) {
         return Check::Refused(Refusal::Value);
+    }
+    if unmirrored(distances, n) {
+        return Check::Refused(Refusal::Mirror);
     }
     Check::Passed
 }
@@ -193,7 +238,7 @@ pub fn check_lot(
     let Check::Passed = sizes else {
         return sizes;
     };
-    let matrix = check_matrix(distances);
+    let matrix = check_matrix(distances, n);
     let Check::Passed = matrix else {
         return matrix;
     };
