@@ -1,8 +1,9 @@
 -- Distances enter the statistics by their squares alone: a lot with other distances and the same squares has the same of every way, and the same summary.
-use Rattle.lists.proofs.Base.{_≡_, Bool, not, _&&_, List, map, ℕ, _+_, eqb, ltb, Float, lt}
-use Rattle.float.specs.Floats.{_⊗_, 0·5}
+use Rattle.lists.proofs.Base.{_≡_, Bool, not, _&&_, List, ℕ, _+_, eqb, ltb, Float, lt}
+use Rattle.float.specs.Floats.{0·5}
 use Rattle.lists.specs.Filters.{any}
 use Rattle.lot.specs.{Lot.Lot, Kept.groups, Kept.keptCount, Kept.groupCount, Kept.leftOut, Mirror.withDistances}
+use Rattle.lot.proofs.Transposed.{SameSquares}
 use Rattle.lot.specs.Strata.{heldStrata, strata, informativeCount, fraction}
 use Rattle.permanova_sums.specs.Squares.{weightsOf}
 use Rattle.permanova_sums.proofs.SameSquares.{same-terms, same-weighted}
@@ -12,7 +13,7 @@ use Rattle.permanova_p_values.specs.WarningBits.{warningBits}
 use Rattle.permanova_statistics.specs.Statistics.{totalOf, withinOf, locationF, rSquaredOf, zOf, someNegative, dispersionOf, dispersionF}
 use Rattle.permanova_statistics.specs.{Warnings.uninformed, Warnings.sizesOf, Warnings.warned, Summaries.summaryOf}
 
-module _ (lot : Lot) (e : List Float) (same : map (λ x. x ⊗ x) e ≡ map (λ x. x ⊗ x) (lot .distances)) where
+module _ (lot : Lot) (e : List Float) (same : SameSquares e (lot .distances)) where
   same-total : totalOf (withDistances lot e) ≡ totalOf lot
   unfolding totalOf weightsOf
   same-total = λ i. location.total (same-terms lot e same i) (weightsOf lot) (keptCount (lot .labels))

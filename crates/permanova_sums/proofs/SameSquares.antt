@@ -1,12 +1,12 @@
 -- Distances enter terms and weighted squares by their squares alone: a lot with other distances and the same squares has the same.
-use Rattle.lists.proofs.Base.{_≡_, sym, ap, _∙_, List, map, ℕ, getD, Float, nan}
+use Rattle.lists.proofs.Base.{_≡_, sym, ap, _∙_, List, ℕ, getD, Float, nan}
 use Rattle.float.specs.Floats.{_⊗_}
 use Rattle.lists.specs.{Ranges.grid, Rows.entry}
 use Rattle.lot.specs.{Lot.Lot, Kept.kept, Kept.keptCount, Mirror.withDistances}
-use Rattle.lot.proofs.Transposed.{entry-squares}
+use Rattle.lot.proofs.Transposed.{SameSquares, entry-squares}
 use Rattle.permanova_sums.specs.Squares.{squareAt, pairTermAt, weightedSquareAt, pairTerms, weightedSquares, weightsOf, pairTermsOf, weightedSquaresOf}
 
-module _ (lot : Lot) (e : List Float) (same : map (λ x. x ⊗ x) e ≡ map (λ x. x ⊗ x) (lot .distances)) where
+module _ (lot : Lot) (e : List Float) (same : SameSquares e (lot .distances)) where
   same-square : (ks : List ℕ) (a b : ℕ) → squareAt e (lot .n) ks a b ≡ squareAt (lot .distances) (lot .n) ks a b
   unfolding squareAt
   same-square ks a b =
