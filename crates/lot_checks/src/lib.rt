@@ -7,9 +7,8 @@ ghost use Prim.Native.Nat.{_*_, _<_};
 ghost use mathlib.Core.Bool.{_&&_, _||_, not};
 ghost use lib.Dec.{eqb, ltb};
 ghost use lib.ListN.{length, getD};
-ghost use lib.Ieee.{le, ne};
+ghost use lib.Ieee.{le};
 ghost use Rattle.lists.specs.Filters.{any, firstAt};
-ghost use Rattle.lists.specs.Rows.{entry};
 ghost use Rattle.outcome.specs.Numbers.{told};
 ghost use Rattle.outcome.specs.Refusals.{first};
 ghost use Rattle.limits.specs.Limits.{none};
@@ -93,25 +92,17 @@ pub fn any_outside(lo: f64, hi: f64, xs: &[f64]) -> bool
 
 // ---- the matrix and its mirror
 
-// Whether entry i, j of n by n distances differs from its mirror. As numbers: -0.0 is 0.0.
-fn differs(distances: &[f64], n: usize, i: usize, j: usize) -> bool
-    requires { ⌜ (length (now distances) ≡ n * n) × (i < n) × (j < n) ⌝ }
-    ensures { λ r. ⌜ r ≡ ne (entry n (now (distances .entry)) i j) (entry n (now (distances .entry)) j i) ⌝ }
-{
-    distances[i * n + j] != distances[j * n + i]
-}
-
-// Whether an entry of row i left of the diagonal differs from its mirror, or the one on the diagonal from zero.
+// Whether an entry of row i left of the diagonal differs from its mirror, or the one on the diagonal from zero. As numbers: -0.0 is 0.0.
 fn row_unmirrored(distances: &[f64], n: usize, i: usize) -> bool
     requires { ⌜ (length (now distances) ≡ n * n) × (i < n) ⌝ }
     ensures { λ r. ⌜ r ≡ rowUnmirrored n (now (distances .entry)) i ⌝ }
 {
     for j in 0..i {
-        if differs(distances, n, i, j) {
+        if lists::cell(distances, n, i, j) != lists::cell(distances, n, j, i) {
             return true;
         }
     }
-    distances[i * n + i] != 0.0
+    lists::cell(distances, n, i, i) != 0.0
 }
 
 // Whether some entry differs from its mirror, or some entry of the diagonal from zero. Each pair of mirrors is looked at once.

@@ -23,7 +23,7 @@ fn row_sum(t: &[f64], m: usize, a: usize) -> f64
 {
     let mut s = -0.0;
     for b in a + 1..m {
-        s = s + squares::pair_term(t, m, a, b);
+        s = s + lists::cell(t, m, a, b);
     }
     s
 }
@@ -59,7 +59,7 @@ fn add_entry(t: &[f64], m: usize, mem: &[u16], a: usize, y: usize, s: f64) -> f6
     ensures { λ r. ⌜ r ≡ s ⊕ entry m (now (t .entry)) a (getD (now (mem .entry)) y 0) ⌝ }
 {
     let b = lists::entry(mem, y);
-    s + squares::pair_term(t, m, a, b)
+    s + lists::cell(t, m, a, b)
 }
 
 // The entries of row a at the samples `mem`, added to s.

@@ -4,18 +4,9 @@ ghost use mathlib.Core.List.{map};
 ghost use Prim.Native.Nat.{_+_, _*_, _<_};
 ghost use lib.ListN.{length};
 ghost use Rattle.lists.specs.inner.Numbers.{Below};
-ghost use Rattle.lists.specs.Rows.{entry};
 ghost use mathlib.Core.Bool.{true};
 ghost use Rattle.lists.specs.Ranges.{table};
 ghost use Rattle.permanova_sums.specs.Squares.{squareAt, pairTermAt, pairTerms, weightedSquareAt, weightedSquares, weightAt};
-
-// Term a, b.
-pub fn pair_term(t: &[f64], m: usize, a: usize, b: usize) -> f64
-    requires { ⌜ (length (now t) ≡ m * m) × (a < m) × (b < m) ⌝ }
-    ensures { λ r. ⌜ r ≡ entry m (now (t .entry)) a b ⌝ }
-{
-    t[a * m + b]
-}
 
 // ---- squares, weights and terms of the kept samples `ks`
 
@@ -26,7 +17,7 @@ fn square(d: &[f64], n: usize, ks: &[u16], a: usize, b: usize) -> f64
 {
     let i = lists::entry(ks, a);
     let j = lists::entry(ks, b);
-    let x = pair_term(d, n, i, j);
+    let x = lists::cell(d, n, i, j);
     x * x
 }
 

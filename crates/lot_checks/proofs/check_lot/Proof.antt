@@ -4,7 +4,7 @@ use Rattle.outcome.specs.{Numbers.told, Refusals.Line, Refusals.first}
 use Rattle.outcome.proofs.Table.{check-refused, check-next, told-passed}
 use Rattle.lists.proofs.Truths.{or-neither}
 use Rattle.lot.specs.{Lot.Lot, Lot.lotOf, Lines.misfits, Lines.sizeLines, Lines.matrixLines, Lines.labelLines, Lines.testLines}
-use Rattle.lot.proofs.AcceptedLots.{Sized, sizes-known, parts-fit}
+use Rattle.lot.proofs.AcceptedLots.{Fits, Sized, sizes-known, parts-fit}
 use Rattle.lot_checks.proofs.check_lot.Tie as tie
 
 -- ---- once the sizes are judged
@@ -20,7 +20,7 @@ abbrev sizes : tie.Start → List Line
 sizes s = sizeLines (misfits (lot s) || s .args .short) (s .args .n) (s .args .beyond)
 
 abbrev matrix : tie.Start → List Line
-matrix s = matrixLines (s .args .distances .now)
+matrix s = matrixLines (s .args .n) (s .args .distances .now)
 
 abbrev labels : tie.Start → List Line
 labels s = labelLines (s .args .labels .now) (s .args .weighted) (s .args .weights .now)
@@ -36,6 +36,9 @@ asked c = c .before .before
 
 known : (c : tie.After-enum-told) → Sized (misfits (lot (start (asked c))) || start (asked c) .args .short) (start (asked c) .args .n) (start (asked c) .args .beyond)
 known c = sizes-known _ _ _ (sym (told-passed (sized (asked c)) (c .enum-told .given .1)))
+
+fits : (c : tie.After-enum-told) → Fits (lot (start (asked c)))
+fits c = parts-fit (lot (start (asked c))) (or-neither _ _ (known c .fit) .0)
 
 -- ---- what is left
 
@@ -53,8 +56,7 @@ returns-2 c =
 
 check-labels-requires : tie.Need-check-labels-requires
 check-labels-requires c κs =
-    let passed = c .before .before .before in
-    let s = start (asked passed) in omega (arith, parts-fit (lot s) (or-neither _ _ (known passed .fit) .0) .labelsFit, known passed .few)
+    let passed = c .before .before .before in omega (arith, fits passed .labelsFit, known passed .few)
 
 returns-3 : tie.Need-returns-3
 unfolding testLines
@@ -67,4 +69,4 @@ returns-3 c =
 
 pub check-lot-spec : {M : Type 1} → Rattle.lot_checks.proofs.check_lot.Statement.statement M
 check-lot-spec = tie.close (tie.spec (λ c κs. search needs) (λ c κs. search needs) (λ c. search needs) (λ c. search needs) returns
-    (λ c κs. search needs) (λ c. search needs) (λ c. search needs) returns-2 check-labels-requires returns-3)
+    (λ c κs. fits c .distancesFit) (λ c. search needs) (λ c. search needs) returns-2 check-labels-requires returns-3)

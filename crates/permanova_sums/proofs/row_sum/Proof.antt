@@ -18,5 +18,5 @@ loop-holds c = (omega arith, refl)
 pub row-sum-spec : {M : Type 1} → Rattle.permanova_sums.proofs.row_sum.Statement.statement M
 row-sum-spec = tie.close (tie.spec Inv-loop μ-loop (λ c. omega arith) loop-holds
     (λ c κs. (c .before .before .before .pre .0, c .before .before .before .pre .1, omega arith)) (λ c. omega arith) (λ c. omega arith)
-    (λ c. (omega arith, sum-turn (entry _ _ _) _ _ _ (omega arith) (c .pair-term .ensures) refl (c .before .before .loop .inv .1)))
+    (λ c. (omega arith, sum-turn (entry _ _ _) _ _ _ (omega arith) (c .cell .ensures) refl (c .before .before .loop .inv .1)))
     (λ c. sum-end (entry _ _ _) _ _ _ (omega arith) (c .before .loop .inv .1)))

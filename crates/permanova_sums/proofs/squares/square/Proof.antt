@@ -5,15 +5,15 @@ use Rattle.lists.specs.Rows.{entry}
 use Rattle.permanova_sums.specs.Squares.{squareAt}
 use Rattle.permanova_sums.proofs.squares.square.Tie as tie
 
-pair-term-requires : tie.Need-pair-term-requires
-pair-term-requires c κs =
+cell-requires : tie.Need-cell-requires
+cell-requires c κs =
     let args = c .before .before .before .before .args in
     let pre = c .before .before .before .before .pre in
     (pre .0, omega (arith, c .before .entry .ensures, pre .1 (args .a) (omega arith)), omega (arith, c .entry2 .ensures, pre .1 (args .b) (omega arith)))
 
 returns : tie.Need-returns
 unfolding squareAt
-returns c = rw (c .pair-term .ensures, c .before .entry2 .ensures, c .before .before .entry .ensures)
+returns c = rw (c .cell .ensures, c .before .entry2 .ensures, c .before .before .entry .ensures)
 
 pub square-spec : {M : Type 1} → Rattle.permanova_sums.proofs.squares.square.Statement.statement M
-square-spec = tie.close (tie.spec (λ c κs. search needs) (λ c κs. search needs) pair-term-requires returns)
+square-spec = tie.close (tie.spec (λ c κs. search needs) (λ c κs. search needs) cell-requires returns)
