@@ -2,10 +2,11 @@
 use Rattle.lists.proofs.Base.{_≡_, refl, sym, ap, _∙_, ap₂, Bool, true, false, _||_, cond, true≢false, _⊎_, inl, inr, ⊎-elim, ℕ, zero}
 use Rattle.lists.proofs.Base.{suc, _+_, _-_, _<_, _≤_, suc-le-suc, le-refl, ℕ-discrete, arith, eqb-true, eq-eqb, eqb, length, getD}
 use mathlib.Core.List.{List, [], _∷_, _++_, map, List·Memᴰ as Member, List·Memᴰ·head as here, List·Memᴰ·tail as there, List·Memᴰ·cases-cons as cases-cons}
-use mathlib.Core.List.{List·Memᴰ·append-cases as append-cases, List·Memᴰ·not-nil as not-nil, Memᴰ·append-left, Memᴰ·append-right, Memᴰ·cast, foldl}
+use mathlib.Core.List.{List·Memᴰ·append-cases as append-cases, List·Memᴰ·not-nil as not-nil, Memᴰ·append-left, Memᴰ·append-right, Memᴰ·cast, Memᴰ·of-map, foldl}
 use Rattle.lists.specs.{Filters.filter, Filters.any, Filters.countIf, Numbers.contains, Numbers.howMany, Numbers.dedup}
 use Rattle.lists.specs.inner.Numbers.{Below}
-use Rattle.lists.specs.Ranges.{upFrom, range, rows}
+use Rattle.lists.specs.Ranges.{upFrom, range, table, rows, grid}
+use Rattle.lists.proofs.Truths.{both-ways}
 
 -- ---- ranges
 
@@ -88,6 +89,12 @@ module _ {A : Type 0} (p : A → Bool) where
       one : (b : Bool) → p x ≡ b → p x ≡ false
       one true h = absurd (true≢false (sym (member-any xs x m h) ∙ e))
       one false h = h
+
+  -- equal members, equal tests of the whole
+  pub any-members : (xs ys : List A) → ((x : A) → Member x xs → Member x ys) → ((x : A) → Member x ys → Member x xs) → any p xs ≡ any p ys
+  any-members xs ys f g = both-ways (any p xs) (any p ys)
+      (λ e. let r = any-member xs e in member-any ys (r .0) (f (r .0) (r .1)) (r .2))
+      (λ e. let r = any-member ys e in member-any xs (r .0) (g (r .0) (r .1)) (r .2))
 
 -- ---- equal tests
 
@@ -177,6 +184,14 @@ module _ {A : Type 0} where
     | yes e ↦ Memᴰ·append-right (rows n f) (rw e at m)
     | no d ↦ Memᴰ·append-left (f n) (rows-member n f x i (omega arith) m)
   ]
+
+  -- an entry of a grid
+  pub member-grid : (n w : ℕ) (f : ℕ → ℕ → A) (x : A) → Member x (grid n w f) → (i : ℕ) × (j : ℕ) × (i < n) × (j < w) × (f i j ≡ x)
+  unfolding grid table
+  member-grid n w f x m =
+      let r = member-rows n (λ i. table w (f i)) x m in
+      let c = Memᴰ·of-map (f (r .0)) (upFrom 0 w) (r .2) in
+      (r .0, c .0, r .1, omega (arith, member-upFrom 0 w (c .0) (c .1) .1), c .2)
 
 -- ---- what is kept of a range is below its end
 

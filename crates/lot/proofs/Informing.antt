@@ -5,7 +5,7 @@ use mathlib.Core.List.{List, List·Memᴰ as Member}
 use Rattle.lists.specs.{Ranges.range, Filters.any, Numbers.inGroup, Numbers.members}
 use Rattle.lot.specs.{Strata.informs, Strata.informative, Way.tally}
 use Rattle.lot.proofs.Tallies.{Counted, tally-own, tally-some}
-use Rattle.lists.proofs.Truths.{and-both}
+use Rattle.lists.proofs.Truths.{and-both, both-ways}
 use Rattle.lists.proofs.Members.{member-range, range-member, member-filter, filter-member, member-any, any-member, none-any, any-fails}
 use Rattle.lists.proofs.{Filters.countIf-below, Ranges.length-range}
 
@@ -112,11 +112,6 @@ differing-same ss gs hs m s fits fit-g fit-h same d =
       b-in = y .1 .stratum;
       apart = λ e. d .apart (sym (x .1 .label) ∙ e ∙ y .1 .label);
     }
-
-both-ways : (a b : Bool) → (a ≡ true → b ≡ true) → (b ≡ true → a ≡ true) → a ≡ b
-both-ways true b f g = sym (f refl)
-both-ways false true f g = g refl
-both-ways false false f g = refl
 
 pub informs-same : (ss gs hs : List ℕ) (m : ℕ) → length ss ≡ m → length gs ≡ m → length hs ≡ m → ((s j : ℕ) → tally ss hs s j ≡ tally ss gs s j)
     → (s : ℕ) → informs ss hs m s ≡ informs ss gs m s

@@ -9,6 +9,7 @@ pub mod FewGroups
 pub mod Mirrored
 pub mod LineOrder
 pub mod AcceptedLots
+pub mod Transposed
 pub mod Tallies
 pub mod GroupsAndStrata
 pub mod WaysOnSamples

@@ -79,6 +79,11 @@ module _ {A : Type 0} where
   judged-refused (answered _) r a e = cc
   judged-refused (refused q) r a e = let same : r ≡ q = cc in cc
 
+  -- outcomes that are one where the lines pass
+  pub judged-same : (t : Told) {x y : Outcome A} → (t ≡ passed → x ≡ y) → judged t x ≡ judged t y
+  judged-same (answered _) e = e refl
+  judged-same (refused k) e = refl
+
 -- ---- what a check that the code returns says
 
 module _ {c : Check} {t : Told} (e : told c ≡ t) where

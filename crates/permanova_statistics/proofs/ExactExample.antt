@@ -1,6 +1,6 @@
 -- The exact case at a lot of five samples, four of them kept, with weights 1 and a distance of -0.0: the statement, and every sum evaluated.
 use Rattle.lists.proofs.Base.{_≡_, refl, true, false, List, [], _∷_, map, ℕ, replicate}
-use lib.Ieee.{add, mul, neg, lt, le, eq, ofBits, ofInt, toUnsigned, odd, size}
+use lib.Ieee.{add, mul, neg, lt, le, eq, ne, ofBits, ofInt, toUnsigned, odd, size}
 use Rattle.float.specs.Floats.{num, zero⁻, 1·0}
 use Rattle.lists.specs.Ranges.{upFrom, range, table, rows, grid}
 use Rattle.lists.specs.Filters.{filter, countIf, any, firstAt, pairs}
@@ -9,7 +9,7 @@ use Rattle.outcome.specs.Outcome as outcome
 use Rattle.outcome.specs.Refusals.{first}
 use Rattle.lot.specs.Lot.{Lot, lotOf}
 use Rattle.lot.specs.Kept.{twice, kept, gathered, keptLabels, groupLabels, groups, keptCount, groupCount}
-use Rattle.lot.specs.Lines.{misfits, testLines}
+use Rattle.lot.specs.{Mirror.asymmetric, Mirror.nonzeroDiagonal, Mirror.unmirrored, Lines.misfits, Lines.testLines}
 use Rattle.permanova_sums.specs.Squares.{squareAt, weightAt, pairTermAt, pairTerms, weightsOf, pairTermsOf}
 use Rattle.permanova_sums.specs.PairSums.{rowSum, rowsSum, pairSum}
 use Rattle.permanova_statistics.specs.Exact.{inexact, wholeSquare, wholeTotal, wholeWithin, Exact}
@@ -29,7 +29,8 @@ five = lotOf 5 (num 0 ∷ zero⁻ ∷ map num (5 ∷ 8 ∷ 1000
 
 -- it is accepted and of the exact case
 accepted : first (testLines five false false) ≡ outcome.passed
-unfolding first testLines misfits any lt le eq neg ofBits ofInt odd size groupCount groupLabels keptLabels gathered kept twice howMany countIf filter range upFrom upward insertUp
+unfolding first testLines misfits any lt le eq ne neg ofBits ofInt odd size unmirrored asymmetric nonzeroDiagonal entry
+    groupCount groupLabels keptLabels gathered kept twice howMany countIf filter range upFrom upward insertUp
 accepted = refl
 
 whole : inexact five ≡ false
