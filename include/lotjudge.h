@@ -19,6 +19,8 @@
  *   2  n above 256; n_perm above 999,999; components 0 or above 16; over 65,536 hashes; columns above 16
  *   3  a distance NaN, below 0 or above 2^20; a coordinate NaN or beyond 2^40 in magnitude; an entry of the matrix of jacobi_eigen or
  *      top_eigs NaN or infinite. -0.0 is not below 0
+ *  14  an entry of distances that differs as a number from its mirror (i, j from j, i), or one on the diagonal other than zero (test,
+ *      exhaustive, pcoa). All n * n entries are looked at, of samples that are not kept too; -0.0 and 0.0 are equal
  *   4  a weight not within 2^-20 to 2^20
  *   5  fewer than two labels held by two samples
  *   6  ordination (pcoa, hash_pca, gram_matrix) of fewer than 3 samples
@@ -28,14 +30,14 @@
  *   9  fewer than 2 columns can be used: columns, or kept samples less groups less 1 if that is fewer
  *  10  a Cholesky pivot not above 0, which a NaN is not (no coordinates that pass 3 are known to lead there)
  *  11  a NaN among values to be ordered
- * test returns 0 to 5; exhaustive 0 to 5, 8 and 11; pcoa 0 to 3, 6 and 11; hash_pca 0, 1, 2, 6, 7, 11 and 13; dapc 0 to 3, 5, 9, 10
- * and 11; jacobi_eigen and top_eigs 0 to 3 and 11; gram_matrix 0, 1, 2, 6, 7 and 13.
- * judge tells 3, 5, 8 and 11 in its text, and 12: the text is not in the form that README.md has.
+ * test returns 0 to 5 and 14; exhaustive 0 to 5, 8, 11 and 14; pcoa 0 to 3, 6, 11 and 14; hash_pca 0, 1, 2, 6, 7, 11 and 13; dapc 0 to
+ * 3, 5, 9, 10 and 11; jacobi_eigen and top_eigs 0 to 3 and 11; gram_matrix 0, 1, 2, 6, 7 and 13.
+ * judge tells 3, 5, 8 and 11 in its text, and 12: the text is not in the form that README.md has. A lot that it reads mirrors itself.
  *
  * WHAT ARRAYS HOLD AFTERWARDS, by the number returned:
  *                outputs                                             work        values, numbers, selected, sweeps
  *   0            the first entries are written, the rest as before   all 0       written
- *   1 to 9, 13   as before                                           as before   as before
+ *   1 to 9, 13, 14   as before                                       as before   as before
  *   10, 11       the same first entries are 0, the rest as before    all 0       as before
  * Each function says how many entries of an output are the first ones. Work is 0 to its end, past the length that is asked too. Inputs
  * are never written.
@@ -77,8 +79,8 @@ extern "C" {
 #endif
 
 /* PERMANOVA (location) and PERMDISP (dispersion), with n_perm shuffles of the labels within strata.
- *   distances      n * n, row by row. Refusal 3 looks at all of them. Location reads those above the diagonal, dispersion those between kept
- *                  samples of one group, both ways and on the diagonal: lend a symmetric matrix with a diagonal of 0
+ *   distances      n * n, row by row, a matrix that mirrors itself: distances[i * n + j] equals distances[j * n + i], and the diagonal is 0.
+ *                  Refusals 3 and 14 look at all of them
  *   labels         n
  *   strata         n; neither they nor their length are looked at unless strata_given
  *   weights        n; neither they nor their length are looked at unless weights_given
@@ -128,7 +130,7 @@ uint8_t lotjudge_exhaustive(size_t n, const double *distances, size_t distances_
 uint8_t lotjudge_exhaustive_lengths(size_t n, size_t lengths[9]);
 
 /* Principal coordinates. With k = components, or n if that is less:
- *   distances      n * n, row by row; lend a symmetric matrix with a diagonal of 0
+ *   distances      n * n, row by row, a matrix that mirrors itself, as for lotjudge_test
  *   out            output, at least k + k + n * k, all of which are written: k values, falling; k shares of the variance; coordinates n by k,
  *                  row by row
  *   centred        work, at least n * n: Gower's centred matrix
