@@ -1,14 +1,14 @@
 -- Judged samples of the trade: (d) to (i) through calls of `exhaustive`.
 use Rattle.lists.proofs.Base.{_≡_, refl, ap, _∙_, List, [], _∷_, _++_, ℕ, getD, replicate}
-use lib.Ieee.{Float, le, ofBits, toBits, ofInt, odd, size}
+use lib.Ieee.{Float, le, ne, ofBits, toBits, ofInt, odd, size}
 use Rattle.float.specs.Floats.{zero⁺, f64}
-use Rattle.lists.specs.{Ranges.upFrom, Ranges.range, Ranges.table, Filters.filter, Filters.countIf, Filters.any, Filters.firstAt}
+use Rattle.lists.specs.{Ranges.upFrom, Ranges.range, Ranges.table, Filters.filter, Filters.countIf, Filters.any, Filters.firstAt, Rows.entry}
 use Rattle.lists.specs.Numbers.{productℕ, factorial, howMany, contains, position, dedup, insertUp, upward}
 use Rattle.outcome.specs.{Refusals.first, Refusals.short, Outcome.Outcome, Outcome.answered, Outcome.refused, Outcome.andThen}
 use Rattle.outcome.specs.Slices.{output, work}
 use Rattle.lot.specs.{Lot.Lot, Cases.example, Cases.zeros}
 use Rattle.lot.specs.Kept.{twice, kept, gathered, keptLabels, groupLabels, groups, groupCount}
-use Rattle.lot.specs.{Strata.named, Strata.numbered, Strata.heldStrata, Strata.strata, Way.δ, Way.mark, Way.tally, Lines.misfits, Lines.testLines}
+use Rattle.lot.specs.{Strata.named, Strata.numbered, Strata.heldStrata, Strata.strata, Way.δ, Way.mark, Way.tally, Mirror.asymmetric, Mirror.nonzeroDiagonal, Mirror.unmirrored, Lines.misfits, Lines.testLines}
 use Rattle.permanova_p_values.specs.Hits.{statistic}
 use Rattle.ordination_coordinates.specs.Finish.{Coordinates}
 use Rattle.exhaustive_hits.specs.declared.judgement.Judgement.{Judgement}
@@ -25,7 +25,7 @@ use Rattle.cases.proofs.CaseOrdinations.{of-example, of-zeros, of-sixte
 passes : (everyWay (example (0 ∷ 1 ∷ 0 ∷ 1 ∷ [])) .answer ≡ exhaustive (example (0 ∷ 1 ∷ 0 ∷ 1 ∷ [])))
     × (everyWay (example (0 ∷ 1 ∷ 1 ∷ 0 ∷ [])) .answer ≡ exhaustive (example (0 ∷ 1 ∷ 1 ∷ 0 ∷ []))) × (everyWay zeros .answer ≡ exhaustive zeros)
     × (everyWay apart .answer ≡ exhaustive apart) × (everyWay (halves 8) .answer ≡ exhaustive (halves 8))
-unfolding exhaustiveCall callBy callIn outcomeOf exhaustiveLines tooShort short any first testLines misfits le ofBits ofInt odd size
+unfolding exhaustiveCall callBy callIn outcomeOf exhaustiveLines tooShort short any first testLines misfits unmirrored asymmetric nonzeroDiagonal entry ne le ofBits ofInt odd size
     wayCount wayCountOf sizeFactorials labelFactorials productℕ factorial tally mark δ strata numbered named dedup heldStrata contains groups position
     firstAt groupCount groupLabels keptLabels gathered kept twice howMany countIf filter table range upFrom upward insertUp
 passes = (refl, refl, refl, refl, refl)
@@ -73,14 +73,14 @@ case-i-eight = ap (told many) (passes .4) ∙ answers (halves 8) many _ (λ x i.
 
 -- (h) labels 0, 0, 1: 5, and every slice as it was
 pub case-h : Holds h-every
-unfolding output work exhaustiveCall callBy callIn outcomeOf exhaustiveLines tooShort short any first testLines misfits le ofBits
+unfolding output work exhaustiveCall callBy callIn outcomeOf exhaustiveLines tooShort short any first testLines misfits unmirrored asymmetric nonzeroDiagonal entry ne le ofBits
     ofInt odd size wayCount wayCountOf sizeFactorials labelFactorials productℕ factorial tally mark δ strata numbered named dedup heldStrata contains
     groups position firstAt groupCount groupLabels keptLabels gathered kept twice howMany countIf filter table range upFrom upward insertUp
 case-h = refl
 
 -- (i) 9 and 9: 48,620 ways, so 8, and every slice as it was
 pub case-i-nine : Holds i-nine
-unfolding output work exhaustiveCall callBy callIn outcomeOf exhaustiveLines tooShort short any first testLines misfits le ofBits
+unfolding output work exhaustiveCall callBy callIn outcomeOf exhaustiveLines tooShort short any first testLines misfits unmirrored asymmetric nonzeroDiagonal entry ne le ofBits
     ofInt odd size wayCount wayCountOf sizeFactorials labelFactorials productℕ factorial tally mark δ strata numbered named dedup heldStrata contains
     groups position firstAt groupCount groupLabels keptLabels gathered kept twice howMany countIf filter table range upFrom upward insertUp
 case-i-nine = refl

@@ -9,7 +9,7 @@ use Rattle.lists.specs.Numbers.{productℕ, factorial, howMany, position, inser
 use Rattle.lists.specs.{Sums.sumFrom, Rows.entry}
 use Rattle.outcome.specs.{Refusals.first, Refusals.short, Outcome.refused}
 use Rattle.lot.specs.Kept.{twice, kept, gathered, keptLabels, groupLabels, groups, keptCount, groupCount}
-use Rattle.lot.specs.{Strata.strata, Way.δ, Way.mark, Way.tally, Lines.badDistance, Lines.misfits, Lines.testLines, Cases.example, Cases.zeros}
+use Rattle.lot.specs.{Strata.strata, Way.δ, Way.mark, Way.tally, Mirror.unmirrored, Lines.badDistance, Lines.misfits, Lines.testLines, Cases.example, Cases.zeros}
 use Rattle.permanova_sums.specs.Squares.{squareAt, weightAt, pairTermAt, weightedSquareAt, pairTerms, weightedSquares, weightsOf, pairTermsOf, weightedSquaresOf}
 use Rattle.permanova_sums.specs.PairSums.{rowSum, rowsSum, pairSum}
 use Rattle.permanova_location.specs.Location.{total, groupWeight, groupWithin, within, fRatio, pseudoF}
@@ -57,7 +57,7 @@ unfolding hits statistic hit threshold magnitude ways waysOf deal spend tally ma
     position firstAt keptCount groupCount groupLabels keptLabels gathered kept twice howMany countIf filter upward insertUp
 case-f-dispersion = refl
 
--- (i) 9 and 9 in one stratum: 48,620 ways, so 8, whatever the distances allowed, with slices that are long enough
+-- (i) 9 and 9 in one stratum: 48,620 ways, so 8, whatever the distances allowed, that mirror themselves, with slices that are long enough
 long-fits : (n : ℕ) (s : Slices) → Long n s → tooShort n s ≡ false
 unfolding tooShort short
 long-fits n s l = rw (
@@ -72,7 +72,8 @@ long-fits n s l = rw (
   le-ltb (length (s .labelCounts)) (n * n) (l .labelCounts),
 ) refl
 
-pub case-i : (d : List Float) (s : Slices) → length d ≡ 324 → any badDistance d ≡ false → Long 18 s → outcomeOf (ways-cases.halves d 9) s ≡ refused 8
+pub case-i : (d : List Float) (s : Slices) → length d ≡ 324 → any badDistance d ≡ false → unmirrored 18 d ≡ false → Long 18 s
+    → outcomeOf (ways-cases.halves d 9) s ≡ refused 8
 unfolding outcomeOf exhaustiveLines first testLines misfits groupCount groupLabels keptLabels gathered kept twice howMany countIf filter range upFrom
     upward insertUp wayCount wayCountOf sizeFactorials labelFactorials productℕ factorial tally mark δ groups position firstAt strata table
-case-i d s e v l = rw (long-fits 18 s l, e, v) refl
+case-i d s e v m l = rw (long-fits 18 s l, e, v, m) refl

@@ -1,5 +1,5 @@
 -- Where a call answers, no line of the table holds, and so it is for each way handed in, with slices that are no shorter.
-use Rattle.lists.proofs.Base.{_≡_, refl, sym, ap, _∙_, Bool, false, not, _&&_, _||_, List, [], _∷_, ℕ, _*_, _≤_, arith, eqb, ltb, length, ltb-false, le-ltb}
+use Rattle.lists.proofs.Base.{_≡_, refl, sym, ap, _∙_, Bool, false, not, _&&_, _||_, List, [], _∷_, map, ℕ, _*_, _≤_, arith, eqb, ltb, length, ltb-false, le-ltb}
 use Rattle.lists.specs.Filters.{any}
 use Rattle.outcome.specs.Refusals.{Line, _when_, first, short, unfit}
 use Rattle.outcome.specs.Outcome.{Outcome, passed, answered, refused, andThen}
@@ -86,3 +86,8 @@ module _ (lot : Lot) (way : List ℕ) (is-way : IsWay lot way) where
       let c = clear-again s t l (passed-clear lot (tooShort (lot .n) s) false (apart lot s e .0)) in
       first-after (testLines (relabelled lot way) (tooShort (lot .n) t) false) (waysLine (wayCount (relabelled lot way))) (clear-passed (relabelled lot way) (tooShort (lot .n) t) false c)
       ∙ ap (λ (m : ℕ). first (waysLine m)) (same-count lot way is-way) ∙ apart lot s e .1
+
+-- the numbers of the lines, in the order in which they are tested
+pub tested-in-order : (lot : Lot) (s : Slices) → map (λ (l : Line). l .returned) (exhaustiveLines lot s) ≡ 1 ∷ 2 ∷ 3 ∷ 14 ∷ 4 ∷ 5 ∷ 8 ∷ []
+unfolding exhaustiveLines testLines
+tested-in-order lot s = refl

@@ -57,7 +57,7 @@ lengthsOf s =
 unfoldable pub tooShort : ℕ → Slices → Bool
 tooShort n s = short (lengthsOf s) (exhaustiveAsks n)
 
--- lines 1 to 5 and 8
+-- lines 1 to 5, with 14 after 3, and 8
 unfoldable pub exhaustiveLines : Lot → Slices → List Line
 exhaustiveLines lot s = testLines lot (tooShort (lot .n) s) false ++ ((8 when ltb mostWays (wayCount lot)) ∷ [])
 

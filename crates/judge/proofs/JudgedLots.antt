@@ -1,16 +1,17 @@
 -- From what `exhaustive` leaves to what is found of a lot that was read.
-use Rattle.lists.proofs.Base.{ℕ, _+_, _*_, _≤_, _≡_, ap, _∙_, Bool, false, _||_, List, [], _∷_, _++_, arith, mul-le-mul, ltb, replicate, le-ltb}
+use Rattle.lists.proofs.Base.{ℕ, _+_, _*_, _≤_, _≡_, refl, ap, _∙_, Bool, true, false, _||_, List, [], _∷_, _++_, arith, mul-le-mul, ltb, replicate, le-ltb}
 use Rattle.float.specs.Floats.{zero⁺}
 use Rattle.outcome.specs.{Refusals.Line, Refusals._when_, Refusals.first, Refusals.short, Outcome.Told, Outcome.passed, Outcome.judged}
 use Rattle.outcome.proofs.Table.{first-after}
-use Rattle.lot.specs.{Lot.Lot, Lines.misfits, Lines.sizeLines, Lines.matrixLines, Lines.labelLines, Lines.testLines}
+use Rattle.lists.specs.Filters.{any}
+use Rattle.lot.specs.{Lot.Lot, Lines.badDistance, Lines.misfits, Lines.sizeLines, Lines.matrixLines, Lines.labelLines, Lines.testLines}
 use Rattle.limits.specs.Limits.{mostWays}
 use Rattle.exhaustive_ways.specs.Ways.{wayCount}
 use Rattle.exhaustive_hits.specs.declared.every_way.Answer.{Answer}
 use Rattle.exhaustive_hits.specs.Exhaustive.{exhaustive}
 use Rattle.exhaustive_hits.specs.Call as test
 use Rattle.judge_frames.specs.Fits.{Fits}
-use Rattle.judge_frames.proofs.Fits.{fits-well}
+use Rattle.judge_frames.proofs.Fits.{fits-well, read-mirrors}
 use Rattle.judge.specs.Judged.{lotLines, judgement}
 
 -- slices for 32 samples
@@ -30,13 +31,17 @@ sizes-pass : (lot : Lot) (short : Bool) → Fits lot → short ≡ false → fir
 unfolding first
 sizes-pass lot short f e = rw (fits-well lot f, e, le-ltb 256 (lot .n) (omega (arith, f .few)))
 
--- nor does 4
+-- nor do 14 and 4
 rest : Lot → List Line
-rest lot = matrixLines (lot .distances) ++ labelLines (lot .labels) (lot .weighted) (lot .weights) ++ ((8 when ltb mostWays (wayCount lot)) ∷ [])
+rest lot = matrixLines (lot .n) (lot .distances) ++ labelLines (lot .labels) (lot .weighted) (lot .weights) ++ ((8 when ltb mostWays (wayCount lot)) ∷ [])
 
 rest-left : (lot : Lot) → Fits lot → first (rest lot) ≡ first (lotLines lot)
 unfolding rest lotLines first
-rest-left lot f = rw (f .unweighted)
+rest-left lot f = by (any badDistance (lot .distances)) refl
+  where
+    by : (b : Bool) → any badDistance (lot .distances) ≡ b → first (rest lot) ≡ first (lotLines lot)
+    by true e = rw e
+    by false e = rw (e, read-mirrors lot f e, f .unweighted)
 
 left-over : (lot : Lot) (s : test.Slices) → Fits lot → test.tooShort (lot .n) s ≡ false → first (test.exhaustiveLines lot s) ≡ first (lotLines lot)
 unfolding test.exhaustiveLines testLines rest

@@ -1,11 +1,15 @@
--- Every lot that is read fits its n, is symmetric and has a diagonal of 0; so the table's first line does not hold for it.
+-- Every lot that is read fits its n, is symmetric and has a diagonal of 0; so the table's first line does not hold for it, and where 3 does not hold 14 does not.
 use Rattle.lists.proofs.Base.{ℕ, zero, suc, _+_, _*_, _≡_, refl, sym, ap, ap₂, _∙_, subst, Bool, true, false, _&&_, _||_, cond, List, [], _∷_, _++_}
-use Rattle.lists.proofs.Base.{map, ⊎-elim, arith, zero-add, eqb, leb, ltb, length, length-append, Float, eq-eqb, leb-true, ltb-true, lt-ltb}
-use Rattle.float.specs.Floats.{f64, zero⁺}
-use Rattle.lists.specs.Filters.{all}
-use Rattle.lists.proofs.{Ranges.length-grid, Rows.entry-grid}
+use Rattle.lists.proofs.Base.{map, ⊎-elim, arith, zero-add, eqb, leb, ltb, length, length-append, getD, nan, isNan, Float, eq-eqb, leb-true, ltb-true, lt-ltb, not, not-false, _<_}
+use lib.Dec.{T}
+use lib.Ieee.{le, ne}
+use Rattle.float.specs.Floats.{f64, zero⁺, 2^20}
+use Rattle.lists.specs.{Filters.all, Filters.any, Rows.entry}
+use Rattle.lists.proofs.{Ranges.length-grid, Rows.entry-grid, Rows.cell-below, Members.member-getD, Members.any-fails, Truths.and-both}
 use Rattle.outcome.specs.Outcome.{Outcome, answered, refused, andThen}
-use Rattle.lot.specs.{Lot.Lot, Lines.misfits}
+use Rattle.float.proofs.{Tests.passes, Nan.nan-ne, Order.right-number}
+use Rattle.lot.specs.{Lot.Lot, Mirror.unmirrored, Lines.badDistance, Lines.misfits}
+use Rattle.lot.proofs.Mirrored.{mirrors-unmirrored}
 use Rattle.judge_frames.specs.declared.reader.Frame.{Frame}
 use Rattle.judge_frames.specs.{Frame.frame, TextLines.textLines, Places.isEnd, Places.head, Places.tail}
 use Rattle.judge_frames.specs.Frames.{isHeader, isSample, joins, isPair, pairCount, malformed, Taken, several, distance, described, lotIn, readLot}
@@ -128,3 +132,24 @@ fits-well lot f =
     neither : (b : Bool) → ((b && false) || false) ≡ false
     neither true = refl
     neither false = refl
+
+-- a distance that line 3 lets pass equals itself
+equals-itself : (x : Float) → badDistance x ≡ false → ne x x ≡ false
+equals-itself x e = nan-ne x ∙ number (isNan x) (right-number zero⁺ x (passes (and-both (le zero⁺ x) (le x 2^20) (not-false _ e) .0)))
+  where
+    number : (b : Bool) → T (not b) → b ≡ false
+    number true h = absurd h
+    number false h = refl
+
+-- nor does 14, where 3 does not
+pub read-mirrors : (lot : Lot) → Fits lot → any badDistance (lot .distances) ≡ false → unmirrored (lot .n) (lot .distances) ≡ false
+unfolding entry
+read-mirrors lot f e =
+    let n = lot .n in
+    let d = lot .distances in
+    let itself : (i j : ℕ) → i < n → j < n → ne (entry n d i j) (entry n d i j) ≡ false =
+    λ i j g k. equals-itself (entry n d i j) (any-fails badDistance d e (entry n d i j) (member-getD d (i * n + j) nan (omega (arith, cell-below n n i j g k, f .distances)))) in
+    mirrors-unmirrored n d (record {
+      symmetric = λ i j g k. ap (ne (entry n d i j)) (sym (f .symmetric i j g k)) ∙ itself i j g k;
+      diagonal = λ i g. ap (ne (entry n d i i)) (sym (f .diagonal i g)) ∙ itself i i g g;
+    })

@@ -7,6 +7,7 @@ pub mod Informing
 pub mod Places
 pub mod FewGroups
 pub mod Mirrored
+pub mod LineOrder
 pub mod AcceptedLots
 pub mod Transposed
 pub mod Tallies

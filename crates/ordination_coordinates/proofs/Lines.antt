@@ -1,5 +1,5 @@
 -- Lengths that fit, the lines of the table, and what the lengths are where no line holds.
-use Rattle.lists.proofs.Base.{_≡_, sym, ap, ap₂, _∙_, Bool, false, _||_, List, [], _∷_, _++_, ℕ, _+_, _*_, _≤_, min, mul-le-mul}
+use Rattle.lists.proofs.Base.{_≡_, refl, sym, ap, ap₂, _∙_, Bool, false, _||_, List, [], _∷_, _++_, map, ℕ, _+_, _*_, _≤_, min, mul-le-mul}
 use Rattle.lists.proofs.Base.{min-le-left, min-le-right, arith, not-false, eqb-true, ltb-false, eqb, ltb, length, Float}
 use Rattle.outcome.specs.{Outcome.Told, Outcome.passed, Refusals.Line, Refusals.first, Refusals.unfit}
 use Rattle.lists.proofs.Truths.{or-neither}
@@ -73,7 +73,7 @@ pub passed-fits : (components n : ℕ) (d : List Float) (out b w m v : ℕ) {k :
 unfolding pcoaLines
 passed-fits components n d out b w m v {k} e p =
     let k′ = min components n in
-    let sizes = first-both (sizesOf components n d out b w m v) (matrixLines d ++ fewLines n) (sym p) .0 in
+    let sizes = first-both (sizesOf components n d out b w m v) (matrixLines n d ++ fewLines n) (sym p) .0 in
     let sized = sizes-known (misfit components n d out b w m v k′) n (badComponents components) sizes in
     let one = or-neither (unfit d (n * n)) (tooShort k′ n out b w m v) (sized .fit) in
     record {
@@ -82,3 +82,8 @@ passed-fits components n d out b w m v {k} e p =
       asks = asked components n (sized .within) e;
       room = rw e (long-enough k′ n out b w m v (one .1));
     }
+
+-- the numbers of the lines, in the order in which they are tested
+pub tested-in-order : (components n : ℕ) (d : List Float) (out b w m v : ℕ) → map (λ (l : Line). l .returned) (pcoaLines components n d out b w m v) ≡ 1 ∷ 2 ∷ 3 ∷ 14 ∷ 6 ∷ []
+unfolding pcoaLines
+tested-in-order components n d out b w m v = refl

@@ -1,4 +1,4 @@
--- Section 4: lines 1 to 3 of the table, and 6, for `pcoa`. Definitions only.
+-- Section 4: lines 1 to 3 of the table, 14 and 6, for `pcoa`. Definitions only.
 use Prim.Native.Nat.{ℕ, _*_, min}
 use mathlib.Core.Bool.{Bool, _||_}
 use mathlib.Core.List.{List, [], _∷_, _++_}
@@ -17,6 +17,6 @@ badComponents components = eqb components 0 || ltb mostComponents components
 abbrev pub fewLines : ℕ → List Line
 fewLines n = (6 when ltb n 3) ∷ []
 
--- sizes and the matrix as for the tests, then 6; components above n mean n
+-- sizes and the matrix (3 and 14) as for the tests, then 6; components above n mean n
 unfoldable pub pcoaLines : ℕ → ℕ → List Float → ℕ → ℕ → ℕ → ℕ → ℕ → List Line
-pcoaLines components n d out b w m v = sizeLines (unfit d (n * n) || tooShort (min components n) n out b w m v) n (badComponents components) ++ matrixLines d ++ fewLines n
+pcoaLines components n d out b w m v = sizeLines (unfit d (n * n) || tooShort (min components n) n out b w m v) n (badComponents components) ++ matrixLines n d ++ fewLines n

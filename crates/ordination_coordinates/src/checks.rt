@@ -75,7 +75,7 @@ fn misfits(d: usize, n: usize, k: usize, out: usize, b: usize, w: usize, m: usiz
     too_short(n, k, out, b, w, m, v)
 }
 
-// The lines of the table for `pcoa`, for slices of these lengths and k leading components: sizes and the matrix as for the tests, then 6.
+// The lines of the table for `pcoa`, for slices of these lengths and k leading components: sizes and the matrix (3 and 14) as for the tests, then 6.
 pub fn check(
     d: &[f64],
     n: usize,
@@ -95,7 +95,7 @@ pub fn check(
     let Check::Passed = sizes else {
         return sizes;
     };
-    let matrix = lot_checks::check_matrix(d);
+    let matrix = lot_checks::check_matrix(d, n);
     let Check::Passed = matrix else {
         return matrix;
     };

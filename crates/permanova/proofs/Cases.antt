@@ -1,6 +1,6 @@
 -- Judged samples of the trade: cases (c) to (f), as far as they speak of the sampled test.
 use Rattle.lists.proofs.Base.{_≡_, refl, [], _∷_, ℕ, _≤_, le-ltb, length}
-use lib.Ieee.{add, sub, mul, div, neg, lt, le, ofBits, ofInt, odd, size}
+use lib.Ieee.{add, sub, mul, div, neg, lt, le, ne, ofBits, ofInt, odd, size}
 use Rattle.float.specs.{Floats.f64, Floats.num, Floats.zero⁺, Order.larger}
 use Rattle.square_root.specs.Root.{root}
 use Rattle.lists.specs.Ranges.{upFrom, range, table, rows, grid}
@@ -9,7 +9,7 @@ use Rattle.lists.specs.{Numbers.howMany, Numbers.position, Numbers.insertUp, Nu
 use Rattle.outcome.specs.{Outcome.passed, Refusals.first, Refusals.short}
 use Rattle.lot.specs.Cases.{example, zeros}
 use Rattle.lot.specs.Kept.{twice, kept, gathered, keptLabels, groupLabels, groups, keptCount, groupCount}
-use Rattle.lot.specs.Lines.{misfits, testLines}
+use Rattle.lot.specs.{Mirror.asymmetric, Mirror.nonzeroDiagonal, Mirror.unmirrored, Lines.misfits, Lines.testLines}
 use Rattle.permanova_sums.specs.Squares.{squareAt, weightAt, pairTermAt, weightedSquareAt, pairTerms, weightedSquares, weightsOf, pairTermsOf, weightedSquaresOf}
 use Rattle.permanova_sums.specs.PairSums.{rowSum, rowsSum, pairSum}
 use Rattle.permanova_location.specs.Location.{total, groupWeight, groupWithin, within, fRatio, pseudoF}
@@ -58,7 +58,7 @@ case-e = refl
 -- such a call passes, with slices of 4 entries and of 16 or more
 pub example-passes : (n : ℕ) (s : Slices) → n ≤ 999999 → 4 ≤ length (s .labels) → 4 ≤ length (s .counts) → 4 ≤ length (s .means) →
     16 ≤ length (s .pairTerms) → 16 ≤ length (s .weightedSquares) → testCheck (example (0 ∷ 0 ∷ 1 ∷ 1 ∷ [])) n s ≡ passed
-unfolding testCheck tooShort short any first testLines misfits le ofBits ofInt odd size groupCount groupLabels keptLabels gathered kept twice howMany countIf filter range upFrom upward insertUp
+unfolding testCheck tooShort short any first testLines misfits unmirrored asymmetric nonzeroDiagonal entry ne le ofBits ofInt odd size groupCount groupLabels keptLabels gathered kept twice howMany countIf filter range upFrom upward insertUp
 example-passes n s h a b c d e = rw (le-ltb _ _ a, le-ltb _ _ b, le-ltb _ _ c, le-ltb _ _ d, le-ltb _ _ e, le-ltb _ _ h)
 
 -- ---- (f) all distances 0: neither F is finite, and neither has a p, whatever the seed and however many shuffles

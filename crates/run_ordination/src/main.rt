@@ -126,6 +126,17 @@ fn bounds() {
     call(&[0.0, p, p, p, 0.0, p, p, p, below], 3, 2);
 }
 
+// An entry that is not its mirror; one on the diagonal; two samples, one half filled, where 14 comes before 6; 17 components and a NaN, which come before 14. Zeros of
+// both signs mirror each other, on the diagonal too.
+fn mirrors() {
+    call(&[0.0, 3.0, 4.0, 3.0, 0.0, 5.0, 4.0, 5.000000000000001, 0.0], 3, 2);
+    call(&[0.0, 3.0, 4.0, 3.0, 0.0, 5.0, 4.0, 5.0, 5e-324], 3, 2);
+    call(&[0.0, 1.0, 0.0, 0.0], 2, 2);
+    call(&[0.0, 3.0, 4.0, 0.0, 0.0, 5.0, 0.0, 0.0, 0.0], 3, 17);
+    call(&[0.0, 3.0, 4.0, 0.0, 0.0, 5.0, 0.0, 0.0, 0.0 / 0.0], 3, 2);
+    call(&[-0.0, 0.0, -0.0, -0.0, 0.0, 0.0, 0.0, -0.0, -0.0], 3, 1);
+}
+
 // Two samples; no component and 17 of them; distances that do not fit n, also where n * n wraps to their number; an output that is short.
 fn refusals() {
     call(&[0.0, 1.0, 1.0, 0.0], 2, 2);
@@ -224,6 +235,7 @@ fn main() {
     grams::run();
     answers();
     bounds();
+    mirrors();
     refusals();
     sets();
     catches();

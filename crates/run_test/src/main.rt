@@ -3,7 +3,7 @@ use libc::STDOUT_FILENO;
 use permanova::checks::Answer;
 use permanova_p_values::PValue;
 use permanova_sampling::TestResult;
-ghost use Prim.Native.Nat.{_≤_};
+ghost use Prim.Native.Nat.{_<_, _≤_};
 
 // ---- what is printed
 
@@ -271,6 +271,15 @@ fn with_distance(x: f64) {
     call_four(4, &d, &[0, 0, 1, 1], false, &[], false, &[], 9);
 }
 
+// Entry k of the example is x, and its mirror stays.
+fn with_entry(k: usize, x: f64)
+    requires { ⌜ k < 16 ⌝ }
+{
+    let mut d = example();
+    d[k] = x;
+    call_four(4, &d, &[0, 0, 1, 1], false, &[], false, &[], 9);
+}
+
 // The second sample weighs x.
 fn with_weight(x: f64) {
     let d = example();
@@ -327,6 +336,51 @@ fn distances() {
     with_distance(1048576.0000000002);
 }
 
+// Of one half filled, all above the diagonal.
+const HALF: [f64; 16] = [
+    0.0,
+    2.0,
+    8.0,
+    10.0,
+    0.0,
+    0.0,
+    6.0,
+    8.0,
+    0.0,
+    0.0,
+    0.0,
+    2.0,
+    0.0,
+    0.0,
+    0.0,
+    0.0,
+];
+
+// An entry next to its mirror, above the diagonal and below it; on the diagonal the smallest number, and 1 in the last place; one half filled. A zero of either sign
+// passes on the diagonal.
+fn mirrors() {
+    with_entry(1, 2.0000000000000004);
+    with_entry(14, 1.9999999999999998);
+    with_entry(0, 5e-324);
+    with_entry(15, 1.0);
+    call_four(4, &HALF, &[0, 0, 1, 1], false, &[], false, &[], 9);
+    with_entry(5, -0.0);
+}
+
+// A zero whose mirror has the other sign, on either side: what two zeros give. An entry that differs from its mirror between samples that are not kept.
+fn mirrored_zeros() {
+    let mut d = example();
+    d[1] = 0.0;
+    d[4] = -0.0;
+    call_four(4, &d, &[0, 0, 1, 1], false, &[], false, &[], 9);
+    d[1] = -0.0;
+    d[4] = 0.0;
+    call_four(4, &d, &[0, 0, 1, 1], false, &[], false, &[], 9);
+    let mut star = STAR;
+    star[29] = 1.0;
+    call_sixteen(6, &star, &[0, 0, 1, 1, 65535, 65535], false, &[]);
+}
+
 // Weights: 2^-20 and 2^20, and their neighbours outside.
 fn weights() {
     with_weight(0.00000095367431640625);
@@ -368,7 +422,7 @@ fn sizes() {
     with_none(0x8000_0000_0000_0000);
 }
 
-// The lower number wins: 1 before 2, 2 before 3, 3 before 4, 4 before 5.
+// The first line wins: 1 before 2, 2 before 3, 3 before 14 and 4, 4 before 5; then 1, 2 and 3 before 14, and 14 before 4 and 5.
 fn order() {
     let mut d = example();
     call_four(
@@ -386,6 +440,14 @@ fn order() {
     call_four(4, &d, &[0, 0, 1, 1], false, &[], true, &[0.0; 4], 9);
     d[3] = 10.0;
     call_four(4, &d, &[0, 0, 1, 2], false, &[], true, &[0.0; 4], 9);
+    d[3] = 9.0;
+    call_four(4, &d, &[0, 0, 1], false, &[], false, &[], 9);
+    call_four(4, &d, &[0, 0, 1, 1], false, &[], false, &[], 1000000);
+    d[12] = -9.0;
+    call_four(4, &d, &[0, 0, 1, 1], false, &[], false, &[], 9);
+    d[12] = 10.0;
+    call_four(4, &d, &[0, 0, 1, 1], false, &[], true, &[0.0; 4], 9);
+    call_four(4, &d, &[0, 0, 1, 2], false, &[], false, &[], 9);
 }
 
 // ---- the warnings
@@ -607,6 +669,8 @@ fn main() {
     lengths();
     misfits();
     distances();
+    mirrors();
+    mirrored_zeros();
     weights();
     labels();
     strata();

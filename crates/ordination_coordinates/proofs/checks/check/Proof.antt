@@ -17,7 +17,7 @@ abbrev sizes : tie.Start → List Line
 sizes s = let a = s .args in sizesOf (a .components) (a .n) (a .d .now) (a .out) (a .b) (a .w) (a .m) (a .v)
 
 abbrev rest : tie.Start → List Line
-rest s = matrixLines (s .args .d .now) ++ fewLines (s .args .n)
+rest s = matrixLines (s .args .n) (s .args .d .now) ++ fewLines (s .args .n)
 
 sized : (c : tie.After-check-sizes) → told (c .check-sizes .result) ≡ first (sizes (start c))
 sized c =
@@ -36,14 +36,14 @@ refused c =
     let at = c .before .before in
     let s = start (asked at) in
     check-next (sizes s) (rest s) (sized (asked at)) (at .before .enum-told .given .1)
-    (check-refused (matrixLines (s .args .d .now)) (fewLines (s .args .n)) (at .check-matrix .ensures) (c .enum-told4 .given .1))
+    (check-refused (matrixLines (s .args .n) (s .args .d .now)) (fewLines (s .args .n)) (at .check-matrix .ensures) (c .enum-told4 .given .1))
 
 passed : (c : tie.After-enum-told3) {t : Told} → let s = start (asked (c .before .before)) in t ≡ first (fewLines (s .args .n)) → t ≡ first (sizes s ++ rest s)
 passed c e =
     let at = c .before .before in
     let s = start (asked at) in
     check-next (sizes s) (rest s) (sized (asked at)) (at .before .enum-told .given .1)
-    (check-next (matrixLines (s .args .d .now)) (fewLines (s .args .n)) (at .check-matrix .ensures) (c .enum-told3 .given .1) e)
+    (check-next (matrixLines (s .args .n) (s .args .d .now)) (fewLines (s .args .n)) (at .check-matrix .ensures) (c .enum-told3 .given .1) e)
 
 -- ---- what is left
 
