@@ -6,10 +6,13 @@ use crate::ops::{
 use crate::port::answers::{left, Ported};
 use crate::port::library::Library;
 use crate::port::Asked;
-use crate::replay::drawn;
+use crate::replay::{drawn, place};
 
 /// The lines of documents 01 and 02 in the order in which they are looked at.
 const ORDER: [u64; 13] = [1, 2, 3, 14, 4, 5, 6, 13, 7, 8, 9, 10, 11];
+
+/// Apart from the numbers of the operations, for the draws of what is damaged.
+const DAMAGE: u64 = 11;
 
 #[derive(Default)]
 struct Count {
@@ -49,7 +52,7 @@ fn ask<O: Ported>(seed: u64, count: usize) -> usize {
             println!("{} record {at}, kind {kind}: another answer", O::NAME);
             sum.different += 1;
         }
-        if !refuses::<O>(&input, at, &mut sum) {
+        if !refuses::<O>(&input, place(DAMAGE, seed, at).word() as usize, &mut sum) {
             println!("{} record {at}, kind {kind}, damaged: another refusal", O::NAME);
             sum.different += 1;
         }

@@ -1,5 +1,6 @@
 //! Demand 3 on runs: every way of small lots is handed in as the observed one, and the three properties are counted.
 
+use crate::inputs::distances::{KINDS, UNLIKE};
 use crate::ops::exhaustive;
 use crate::ops::test::Input;
 use crate::port::library::Library;
@@ -21,11 +22,15 @@ struct Answer {
     assigned: Told,
 }
 
+/// The kind in the place of the one that does not mirror itself, whose lots would all be refused.
+const LIKE: usize = 7;
+
 /// So many lots of 4 to 12 samples.
 pub fn print(seed: u64, count: usize) -> Result<(), String> {
     let (mut accepted, mut refused, mut calls) = (0, 0, 0);
     for at in 0..count {
-        let lot = exhaustive::small(at, &mut SplitMix::new(seed.wrapping_add(at as u64)));
+        let kind = if at % KINDS == UNLIKE { LIKE } else { at % KINDS };
+        let lot = exhaustive::small(at, kind, &mut SplitMix::new(seed.wrapping_add(at as u64)));
         match judged(&lot) {
             Ok(0) => refused += 1,
             Ok(made) => {

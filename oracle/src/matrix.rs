@@ -26,7 +26,7 @@ impl Matrix {
         Matrix { n, upper, cells: Cells::Full(cells) }
     }
 
-    /// The entries as sixteen bits each: whole numbers as they are where they fit, else the nearest multiples.
+    /// The entries as sixteen bits each: whole numbers as they are where they fit, else the nearest multiples. A zero has no sign.
     pub fn packed(n: usize, entries: &[f64]) -> Self {
         let (upper, cells) = half(n, entries);
         let largest = cells.iter().fold(0.0f64, |m, x| if x.abs() > m { x.abs() } else { m });

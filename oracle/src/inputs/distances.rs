@@ -1,8 +1,13 @@
-//! Distance matrices, all within what document 01 accepts: no NaN, from 0 (or -0.0) to 2^20.
+//! Distance matrices, all within what document 01 accepts: no NaN, from 0 (or -0.0) to 2^20. All mirror themselves as numbers, with
+//! zeros of both signs among them, but those of one kind: the judge owes 14 for these (document 02, Q-4).
 
+use crate::matrix::Matrix;
 use crate::splitmix::{two_to, SplitMix};
 
 pub const KINDS: usize = 14;
+
+/// The kind that does not mirror itself.
+pub const UNLIKE: usize = 8;
 
 /// A matrix of the kind, n by n, row by row; `clusters` has a number for each sample.
 pub fn distances(kind: usize, clusters: &[usize], draw: &mut SplitMix) -> Vec<f64> {
@@ -25,17 +30,20 @@ pub fn distances(kind: usize, clusters: &[usize], draw: &mut SplitMix) -> Vec<f6
         // ties
         3 => symmetric(n, |_, _| draw.below(4) as f64),
         4 => symmetric(n, |_, _| draw.below(1001) as f64),
-        // mostly zero
-        5 => symmetric(n, |_, _| if draw.chance(75) { 0.0 } else { draw.unit() }),
+        // mostly zero, of either sign
+        5 => {
+            let all = symmetric(n, |_, _| if draw.chance(75) { 0.0 } else { draw.unit() });
+            signed(n, all, draw)
+        }
         // all zero, some of them -0.0
         6 => {
             let minus = draw.pick(&[0, 50]);
-            symmetric(n, |_, _| if draw.chance(minus) { -0.0 } else { 0.0 })
+            let all = symmetric(n, |_, _| if draw.chance(minus) { -0.0 } else { 0.0 });
+            signed(n, all, draw)
         }
         // not Euclidean
         7 => symmetric(n, |_, _| draw.unit()),
-        // neither symmetric nor zero on the diagonal
-        8 => (0..n * n).map(|_| draw.unit() * 4.0).collect(),
+        UNLIKE => unlike(clusters, draw),
         // subnormal, or with a square that is subnormal or zero
         9 => symmetric(n, |_, _| match draw.below(4) {
             0 => f64::from_bits(draw.word() >> 12),
@@ -69,6 +77,76 @@ pub fn distances(kind: usize, clusters: &[usize], draw: &mut SplitMix) -> Vec<f6
             let again: Vec<Vec<f64>> = (0..n).map(|_| found[draw.below(stand)].clone()).collect();
             between(&again, scale(draw))
         }
+    }
+}
+
+/// Zeros of another sign: half of those beside the diagonal or none, so that 0.0 may mirror -0.0, and half of those on it or none.
+fn signed(n: usize, mut all: Vec<f64>, draw: &mut SplitMix) -> Vec<f64> {
+    let (beside, on) = (draw.pick(&[0, 50]), draw.pick(&[0, 50]));
+    for (at, x) in all.iter_mut().enumerate() {
+        if *x == 0.0 && draw.chance(if at / n == at % n { on } else { beside }) {
+            *x = -*x;
+        }
+    }
+    all
+}
+
+/// Does not mirror itself, in one of five ways, where it is large enough for that.
+fn unlike(clusters: &[usize], draw: &mut SplitMix) -> Vec<f64> {
+    let n = clusters.len();
+    let mut all = between(&points(clusters, 3, 1.0, 0.0, draw), 1.0);
+    let (way, either) = (draw.below(5), draw.chance(50));
+    match way {
+        // neither symmetric nor zero on the diagonal
+        0 => all.fill_with(|| draw.unit() * 4.0),
+        // one entry, by a unit in the last place or to 0
+        1 => {
+            if let Some(at) = beside(n, draw.below(1 << 16)) {
+                all[at] = if draw.chance(30) { 0.0 } else { next_to(all[at], either) };
+            }
+        }
+        // one entry of the diagonal
+        2 if n > 0 => all[draw.below(n) * (n + 1)] = if either { 1.0 } else { f64::from_bits(1) },
+        // one half filled
+        3 => (0..n * n).filter(|at| (at / n > at % n) == either).for_each(|at| all[at] = 0.0),
+        // another last row, or another last column
+        _ => (1..n).for_each(|k| all[if either { n * n - 1 - k } else { n * (n - k) - 1 }] = draw.unit() * 4.0),
+    }
+    all
+}
+
+/// Where an entry beside the diagonal stands, by its place among them; the entries of the diagonal are n + 1 apart.
+pub fn beside(n: usize, place: usize) -> Option<usize> {
+    let at = place.checked_rem(n * n - n)?;
+    Some(at + at / n + 1)
+}
+
+/// The f64 after a distance or the one before, from 0 to 2^20.
+pub fn next_to(x: f64, after: bool) -> f64 {
+    if x == 0.0 || after && x < two_to(20) {
+        x.next_up()
+    } else {
+        x.next_down()
+    }
+}
+
+/// Whether every entry equals its mirror as a number and the diagonal is zero: -0.0 is 0.0.
+pub fn mirrors(n: usize, all: &[f64]) -> bool {
+    (0..n).all(|i| all[i * n + i] == 0.0 && (0..i).all(|j| all[i * n + j] == all[j * n + i]))
+}
+
+/// 14 where the matrix does not mirror itself, which the Rust does not look at.
+pub fn owed(distances: &Matrix) -> Option<u64> {
+    (!mirrors(distances.n, &distances.entries())).then_some(14)
+}
+
+/// In full, or packed where that is allowed and there is no -0.0 and nothing without its mirror to lose.
+pub fn kept(n: usize, all: &[f64], exact: bool) -> Matrix {
+    let minus_zero = all.iter().any(|x| x.to_bits() == (-0.0f64).to_bits());
+    if exact || minus_zero || !mirrors(n, all) {
+        Matrix::full(n, all)
+    } else {
+        Matrix::packed(n, all)
     }
 }
 

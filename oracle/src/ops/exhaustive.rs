@@ -32,7 +32,10 @@ impl Operation for Exhaustive {
     fn draw(at: usize, draw: &mut SplitMix) -> (usize, Input) {
         match at % 3 {
             0 => Test::draw(at / 3, draw),
-            1 => (at / 3 % distances::KINDS, small(at / 3, draw)),
+            1 => {
+                let kind = at / 3 % distances::KINDS;
+                (kind, small(at / 3, kind, draw))
+            }
             _ => {
                 let (kind, mut input) = Test::draw(at / 3, draw);
                 input.strata = Some(sessions(input.labels.len(), draw));
@@ -87,6 +90,10 @@ impl Operation for Exhaustive {
             _ if number_of_ways(lot) > MOST_WAYS => 8,
             _ => 0,
         }
+    }
+
+    fn owed(lot: &Input) -> Option<u64> {
+        Test::owed(lot)
     }
 }
 
@@ -200,7 +207,7 @@ fn sessions(n: usize, draw: &mut SplitMix) -> Vec<u16> {
 }
 
 /// Of 4 to 12 samples: with and without strata and weights, with ties, zero distances, unlabelled samples and single labels.
-pub fn small(at: usize, draw: &mut SplitMix) -> Input {
+pub fn small(at: usize, kind: usize, draw: &mut SplitMix) -> Input {
     let n = draw.within(4, if at % 3 == 0 { 12 } else { 9 });
     let groups = draw.within(2, 3);
     let mut labels: Vec<u16> = (0..n).map(|_| draw.below(groups) as u16).collect();
@@ -211,7 +218,6 @@ pub fn small(at: usize, draw: &mut SplitMix) -> Input {
         labels[draw.below(n)] = 40;
     }
     let clusters: Vec<usize> = labels.iter().map(|&l| l as usize % 3).collect();
-    let kind = at % distances::KINDS;
     let strata =
         (at % 2 == 1).then(|| (0..n).map(|_| if draw.chance(10) { NONE } else { draw.below(3) as u16 }).collect());
     let weights = draw.chance(30).then(|| (0..n).map(|_| 0.5 + draw.unit()).collect());

@@ -38,10 +38,7 @@ impl Operation for Pcoa {
         let clusters: Vec<usize> = (0..n).map(|_| draw.below(parts)).collect();
         let entries = distances::distances(kind, &clusters, draw);
         let exact = n <= 40 || at % 20 == 7;
-        let input = Input {
-            distances: if exact { Matrix::full(n, &entries) } else { Matrix::packed(n, &entries) },
-            components: draw.within(1, 16),
-        };
+        let input = Input { distances: distances::kept(n, &entries, exact), components: draw.within(1, 16) };
         (kind, input)
     }
 
@@ -60,5 +57,9 @@ impl Operation for Pcoa {
 
     fn refusal(_: &Input) -> u64 {
         6
+    }
+
+    fn owed(input: &Input) -> Option<u64> {
+        distances::owed(&input.distances)
     }
 }

@@ -119,7 +119,7 @@ impl Operation for Test {
         let entries = distances::distances(kind, &clusters, draw);
         let exact = n < 64 || at % 240 == 19 || at % 120 == 49 || at % 20 == 4;
         let input = Input {
-            distances: if exact { Matrix::full(n, &entries) } else { Matrix::packed(n, &entries) },
+            distances: distances::kept(n, &entries, exact),
             strata: if clear { None } else { lots::strata(&labels, draw) },
             weights: lots::weights(n, draw),
             labels,
@@ -167,5 +167,9 @@ impl Operation for Test {
 
     fn refusal(_: &Input) -> u64 {
         5
+    }
+
+    fn owed(input: &Input) -> Option<u64> {
+        distances::owed(&input.distances)
     }
 }

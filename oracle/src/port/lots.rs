@@ -1,7 +1,7 @@
 //! `test` and `exhaustive`.
 
 use super::library::Library;
-use super::{Asked, Lent, BEFORE, BEFORE_NUMBER, BEFORE_WORD};
+use super::{unlike, Asked, Lent, BEFORE, BEFORE_NUMBER, BEFORE_WORD};
 use crate::ops::test;
 
 /// What both take, and what both are lent.
@@ -45,8 +45,8 @@ impl Lot {
         ]
     }
 
-    /// In one of eleven ways, for a lot of one sample or more.
-    fn damage(&mut self, way: usize) -> Option<u8> {
+    /// In one of fourteen ways, for a lot of one sample or more. The place is that of an entry without its mirror.
+    fn damage(&mut self, way: usize, place: usize) -> Option<u8> {
         let last = self.distances.len() - 1;
         match way {
             0 => self.distances[last / 2] = f64::NAN,
@@ -59,7 +59,8 @@ impl Lot {
             7 => drop(self.labels.pop()),
             8 => drop(self.weighted_squares.pop()),
             9 => drop(self.means.pop()),
-            _ => self.n = 1 << 63,
+            10 => self.n = 1 << 63,
+            _ => return unlike(self.n, &mut self.distances, way - 11, place),
         }
         Some([3, 3, 3, 3, 4, 4, 1, 1, 1, 1, 1][way])
     }
@@ -110,14 +111,15 @@ impl Asked<test::Input> for TestCall {
     }
 
     fn damage(&mut self, way: usize) -> Option<u8> {
-        match way % 12 {
+        let place = way / 15;
+        match way % 15 {
             _ if self.lot.distances.is_empty() => None,
             6 => {
                 self.n_perm = 1_000_000;
                 Some(2)
             }
-            way if way > 6 => self.lot.damage(way - 1),
-            way => self.lot.damage(way),
+            way if way > 6 => self.lot.damage(way - 1, place),
+            way => self.lot.damage(way, place),
         }
     }
 }
@@ -183,12 +185,13 @@ impl Asked<test::Input> for ExhaustiveCall {
     }
 
     fn damage(&mut self, way: usize) -> Option<u8> {
-        match way % 15 {
+        let place = way / 18;
+        match way % 18 {
             _ if self.lot.distances.is_empty() => return None,
-            way if way < 11 => return self.lot.damage(way),
-            11 => drop(self.coords.pop()),
-            12 => drop(self.eigenpairs.pop()),
-            13 => drop(self.vectors.pop()),
+            way if way < 14 => return self.lot.damage(way, place),
+            14 => drop(self.coords.pop()),
+            15 => drop(self.eigenpairs.pop()),
+            16 => drop(self.vectors.pop()),
             _ => drop(self.label_counts.pop()),
         }
         Some(1)

@@ -9,6 +9,7 @@ pub mod matrices;
 pub mod ordinations;
 
 use crate::implementation::Call;
+use crate::inputs::distances;
 use crate::splitmix::SplitMix;
 use crate::words::bits;
 use library::Library;
@@ -33,6 +34,18 @@ pub trait Asked<Input> {
     fn sign(&self) -> u64;
     /// Damages the call in one of several ways; the refusal that is due, or None where the input has no place for it.
     fn damage(&mut self, way: usize) -> Option<u8>;
+}
+
+/// Damages only the mirror of a matrix, in one of three ways: an entry beside the diagonal is moved to the next f64 or to the one before,
+/// or one on the diagonal is the least above 0. 14 is due, or None where there is no such entry or the matrix mirrors itself now.
+fn unlike(n: usize, all: &mut [f64], way: usize, place: usize) -> Option<u8> {
+    if way < 2 {
+        let at = distances::beside(n, place)?;
+        all[at] = distances::next_to(all[at], way == 0);
+    } else {
+        all[place % n * (n + 1)] = f64::from_bits(1);
+    }
+    (!distances::mirrors(n, all)).then_some(14)
 }
 
 pub enum Lent<'a> {

@@ -1,7 +1,7 @@
 //! `pcoa` and `hash_pca`.
 
 use super::library::Library;
-use super::{Asked, Lent, BEFORE, BEFORE_WORD};
+use super::{unlike, Asked, Lent, BEFORE, BEFORE_WORD};
 use crate::inputs::sets::SELECTED_WORDS;
 use crate::ops::{hash_pca, pcoa};
 
@@ -72,7 +72,7 @@ impl Asked<pcoa::Input> for PcoaCall {
 
     fn damage(&mut self, way: usize) -> Option<u8> {
         let last = self.distances.len().checked_sub(1)?;
-        match way % 8 {
+        match way % 11 {
             0 => self.distances[last / 2] = f64::NAN,
             1 => self.distances[last] = -1.0,
             2 => self.distances[0] = f64::from_bits(1048576f64.to_bits() + 1),
@@ -83,9 +83,10 @@ impl Asked<pcoa::Input> for PcoaCall {
             }
             5 => drop(self.distances.pop()),
             6 => drop(self.room.eigenpairs.pop()),
-            _ => self.n = 1 << 63,
+            7 => self.n = 1 << 63,
+            mirror => return unlike(self.n, &mut self.distances, mirror - 8, way / 11),
         }
-        Some([3, 3, 3, 2, 2, 1, 1, 1][way % 8])
+        Some([3, 3, 3, 2, 2, 1, 1, 1][way % 11])
     }
 }
 
