@@ -43,13 +43,14 @@ rest-left lot f = by (any badDistance (lot .distances)) refl
     by true e = rw e
     by false e = rw (e, read-mirrors lot f e, f .unweighted)
 
-left-over : (lot : Lot) (s : test.Slices) → Fits lot → test.tooShort (lot .n) s ≡ false → first (test.exhaustiveLines lot s) ≡ first (lotLines lot)
+-- so the lines of `exhaustive` come down to 3, 5 and 8
+pub read-lines : (lot : Lot) (s : test.Slices) → Fits lot → test.tooShort (lot .n) s ≡ false → first (test.exhaustiveLines lot s) ≡ first (lotLines lot)
 unfolding test.exhaustiveLines testLines rest
-left-over lot s f e =
+read-lines lot s f e =
     first-after (sizeLines (misfits lot || test.tooShort (lot .n) s) (lot .n) false) (rest lot) (sizes-pass lot (test.tooShort (lot .n) s) f e) ∙ rest-left lot f
 
 -- what `exhaustive` answers of it
 pub judged-by : (lot : Lot) (r : Answer) {after : test.Slices} → Fits lot → test.called r after ≡ test.exhaustiveCall lot room → test.answerOf r ≡ judgement lot
 unfolding judgement test.exhaustiveCall test.callBy test.callIn test.outcomeOf
 judged-by lot r f e =
-    ap (λ (c : test.Called). c .answer) e ∙ ap (λ (k : Told). judged k (exhaustive lot)) (left-over lot room f (roomy (lot .n) (f .few)))
+    ap (λ (c : test.Called). c .answer) e ∙ ap (λ (k : Told). judged k (exhaustive lot)) (read-lines lot room f (roomy (lot .n) (f .few)))

@@ -129,7 +129,11 @@ fn bounds() {
 // An entry that is not its mirror; one on the diagonal; two samples, one half filled, where 14 comes before 6; 17 components and a NaN, which come before 14. Zeros of
 // both signs mirror each other, on the diagonal too.
 fn mirrors() {
-    call(&[0.0, 3.0, 4.0, 3.0, 0.0, 5.0, 4.0, 5.000000000000001, 0.0], 3, 2);
+    call(
+        &[0.0, 3.0, 4.0, 3.0, 0.0, 5.0, 4.0, 5.000000000000001, 0.0],
+        3,
+        2,
+    );
     call(&[0.0, 3.0, 4.0, 3.0, 0.0, 5.0, 4.0, 5.0, 5e-324], 3, 2);
     call(&[0.0, 1.0, 0.0, 0.0], 2, 2);
     call(&[0.0, 3.0, 4.0, 0.0, 0.0, 5.0, 0.0, 0.0, 0.0], 3, 17);

@@ -28,7 +28,7 @@ use mathlib.Core.List.{List, [], _∷_, _++_, map}
 use Prim.Native.Nat.{ℕ, _+_, _*_, _≤_, _<_}
 use lib.Dec.{T, leb, ltb}
 use lib.ListN.{length, take, getD}
-use lib.Ieee.{Float, nan, inf, Format, binary64, fits, lt, le, round}
+use lib.Ieee.{Float, nan, inf, Format, binary64, fits, lt, le, ne, mul, round}
 use lib.Ieee.Scale.{finite}
 use lib.Ieee.Positive.{positive}
 use Rattle.limits.specs.Limits.{mostPrinted, mostText, mostSamples, mostHashes}
@@ -39,30 +39,41 @@ use Rattle.square_root.specs.{Root.root, Nearest.NearestRoot}
 use Rattle.lists.specs.Filters.{any, countIf}
 use Rattle.outcome.specs.declared.Refusal.{Refusal}
 use Rattle.outcome.specs.{Numbers.number, Outcome.passed, Outcome.answered, Outcome.refused, Refusals.Line, Refusals.first, Refusals.short}
-use Rattle.lot.specs.{Lot.Lot, Kept.kept, Kept.keptCount, Kept.groupCount, Lines.testLines, Way.IsWay, Way.relabelled, Way.SameLot}
+use Rattle.lot.specs.{Lot.Lot, Kept.kept, Kept.keptCount, Kept.groupCount, Way.IsWay, Way.relabelled, Way.SameLot}
+use Rattle.lot.specs.{Mirror.unmirrored, Mirror.transposed, Mirror.transposedLot, Lines.badDistance, Lines.misfits, Lines.sizeLines, Lines.testLines}
 use Rattle.permanova_statistics.specs.Exact.{Exact, inexact}
+use Rattle.permanova.specs.Call as test
 use Rattle.ordination_hashes.specs.Selected.{selected}
 use Rattle.ordination_sets.specs.Lines.{badOffsets, gramLines}
+use Rattle.ordination_coordinates.specs.Lines.{pcoaLines}
+use Rattle.ordination_pcoa.specs.Call.{pcoaCall}
 use Rattle.exhaustive_ways.specs.{Ways.ways, Every.Every, Level.Ranks}
 use Rattle.exhaustive_hits.specs.declared.judgement.Judgement.{Judgement}
 use Rattle.exhaustive_hits.specs.{Assignments.columnsOf, Assignments.assignment, Level.Level}
-use Rattle.exhaustive_hits.specs.Call.{Slices, NoShorter, Called, exhaustiveCall}
+use Rattle.exhaustive_hits.specs.Call.{Slices, NoShorter, Called, tooShort, exhaustiveLines, exhaustiveCall}
 use Rattle.exhaustive_walk.specs.inner.WayStatistics.{frameOf, assignmentBy}
 use Rattle.judge_frames.specs.declared.Header.{Header}
 use Rattle.judge_frames.specs.declared.Answer.the-variants.{Read}
 use Rattle.judge_frames.specs.declared.reader.Frame.{Frame}
 use Rattle.judge_frames.specs.{Frames.readLot, Frames.several, Frames.isPair, Frames.pairCount, Frames.joins, Frames.Taken}
 use Rattle.judge_frames.specs.{Fits.Fits, Call.readCall, Call.called, Call.fronts}
-use Rattle.judge.specs.Judge.{judgeText}
+use Rattle.judge.specs.{Judged.lotLines, Judge.judgeText}
 use Rattle.cases.specs.{Text.bytes, Example.input, Example.upper, Example.output, Cases.cases, Cases.Hold}
 use Rattle.square_root.proofs.Nearest as Nearest
 use Rattle.float.proofs.Rank as Rank
 use Rattle.float.proofs.Rounding as Rounding
 use Rattle.float.proofs.Tolerance as Tolerance
 use Rattle.float.proofs.Signs as Signs
+use Rattle.float.proofs.Equal as Equal
 use Rattle.outcome.proofs.Names as Names
 use Rattle.outcome.proofs.Lengths as Lengths
 use Rattle.lot.proofs.Relabelled as Relabelled
+use Rattle.lot.proofs.LineOrder as TestOrder
+use Rattle.permanova.proofs.Transposed as TestTransposed
+use Rattle.ordination_coordinates.proofs.Lines as PcoaLines
+use Rattle.ordination_pcoa.proofs.Transposed as PcoaTransposed
+use Rattle.exhaustive_hits.proofs.Lines as ExhaustiveLines
+use Rattle.exhaustive_hits.proofs.Transposed as ExhaustiveTransposed
 use Rattle.ordination_sets.proofs.LineOrder as LineOrder
 use Rattle.permanova_statistics.proofs.Exact as ExactSums
 use Rattle.exhaustive_ways.proofs.ListLevels as ListLevels
@@ -74,6 +85,7 @@ use Rattle.judge_frames.proofs.ReadFronts as ReadFronts
 use Rattle.judge_frames.proofs.AllPairs as AllPairs
 use Rattle.judge_frames.proofs.LongestText as LongestText
 use Rattle.judge.proofs.JudgedTexts as JudgedTexts
+use Rattle.judge.proofs.JudgedLots as JudgedLots
 use Rattle.cases.proofs.JudgedCases as JudgedCases
 use Rattle.cases.proofs.ExampleJudged as ExampleJudged
 
@@ -98,6 +110,27 @@ round-le = Rounding.round-le
 -- The threshold F - 1e-12·|F|, as rounded, is at most F: a finite F is as large as itself.
 pub threshold-le : (x : Float) → T (fits binary64 x) → T (finite x) → T (le (threshold x) x)
 threshold-le = Tolerance.threshold-le
+
+-- Equal numbers have one square: -0.0 and 0.0 too.
+pub square-same : (f : Format) (x y : Float) → ne x y ≡ false → mul f x x ≡ mul f y y
+square-same = Equal.square-same
+
+-- ---- the matrix mirrors itself (document 02, Q-4)
+
+-- The transposed matrix has the same outcome of every call of `test`, be it accepted or refused: the same answer, and the same in all that is lent. That the
+-- distances have n by n entries is all that is asked of it; every accepted call has them.
+pub test-transposed : (lot : Lot) (seed k : ℕ) (s : test.Slices) → length (lot .distances) ≡ lot .n * lot .n
+    → test.testCall (transposedLot lot) seed k s ≡ test.testCall lot seed k s
+test-transposed = TestTransposed.test-transposed
+
+-- And so of every call of `exhaustive`
+pub exhaustive-transposed : (lot : Lot) (s : Slices) → length (lot .distances) ≡ lot .n * lot .n → exhaustiveCall (transposedLot lot) s ≡ exhaustiveCall lot s
+exhaustive-transposed = ExhaustiveTransposed.exhaustive-transposed
+
+-- and of `pcoa`.
+pub pcoa-transposed : (components n : ℕ) (d out b w m v : List Float) → length d ≡ n * n
+    → pcoaCall components n (transposed n d) out b w m v ≡ pcoaCall components n d out b w m v
+pcoa-transposed = PcoaTransposed.pcoa-transposed
 
 -- ---- section 2: the exact case
 
@@ -163,6 +196,14 @@ demand-3 = Demand.demand-3
 pub read-fits : (text : List ℕ) (lot : Lot) → readLot text ≡ answered lot → Fits lot
 read-fits = Fitting.read-fits
 
+-- So 14 never turns it away: where every distance is allowed (else it is 3), no entry differs from its mirror, and none on the diagonal from zero;
+pub read-mirrors : (lot : Lot) → Fits lot → any badDistance (lot .distances) ≡ false → unmirrored (lot .n) (lot .distances) ≡ false
+read-mirrors = Fitting.read-mirrors
+
+-- and of the lines of `exhaustive` 3, 5 and 8 are left.
+pub read-lines : (lot : Lot) (s : Slices) → Fits lot → tooShort (lot .n) s ≡ false → first (exhaustiveLines lot s) ≡ first (lotLines lot)
+read-lines = JudgedLots.read-lines
+
 -- After a call of `read_lot` that read a lot, the fronts of the slices hold the lot that the text describes.
 pub read-fronts : {h : Header} {labels strata : List ℕ} {distances : List Float} (text : List ℕ) → called (Read h) labels strata distances ≡ readCall text
     → readLot text ≡ answered (fronts h labels strata distances)
@@ -190,6 +231,27 @@ example = (ExampleJudged.example .judged, ExampleJudged.example .inUpperCase, Ex
 -- No two refusals have one number: a contract that fixes the number fixes the name.
 pub number-injective : (r s : Refusal) → number r ≡ number s → r ≡ s
 number-injective = Names.number-injective
+
+-- The lines of `test` by their numbers, in the order in which they are tested, and those of `exhaustive` and `pcoa`.
+pub test-in-order : (lot : Lot) (short beyond : Bool) → map (λ (l : Line). l .returned) (testLines lot short beyond) ≡ 1 ∷ 2 ∷ 3 ∷ 14 ∷ 4 ∷ 5 ∷ []
+test-in-order = TestOrder.tested-in-order
+
+pub exhaustive-in-order : (lot : Lot) (s : Slices) → map (λ (l : Line). l .returned) (exhaustiveLines lot s) ≡ 1 ∷ 2 ∷ 3 ∷ 14 ∷ 4 ∷ 5 ∷ 8 ∷ []
+exhaustive-in-order = ExhaustiveLines.tested-in-order
+
+pub pcoa-in-order : (components n : ℕ) (d : List Float) (out b w m v : ℕ)
+    → map (λ (l : Line). l .returned) (pcoaLines components n d out b w m v) ≡ 1 ∷ 2 ∷ 3 ∷ 14 ∷ 6 ∷ []
+pcoa-in-order = PcoaLines.tested-in-order
+
+-- Where lines 1 and 2 of both tests pass, a distance that is not allowed is 3, whatever its mirror is,
+pub distance-refused : (lot : Lot) (short beyond : Bool) → first (sizeLines (misfits lot || short) (lot .n) beyond) ≡ passed
+    → any badDistance (lot .distances) ≡ true → first (testLines lot short beyond) ≡ refused 3
+distance-refused = TestOrder.distance-refused
+
+-- and a matrix of allowed distances that does not mirror itself is 14, whatever labels and weights are.
+pub mirror-refused : (lot : Lot) (short beyond : Bool) → first (sizeLines (misfits lot || short) (lot .n) beyond) ≡ passed
+    → any badDistance (lot .distances) ≡ false → unmirrored (lot .n) (lot .distances) ≡ true → first (testLines lot short beyond) ≡ refused 14
+mirror-refused = TestOrder.mirror-refused
 
 -- The lines of `gram_matrix` and `hash_pca` by their numbers, in the order in which they are tested.
 pub tested-in-order : (n : ℕ) (hashes offsets : List ℕ) (short beyond : Bool)
