@@ -1,8 +1,7 @@
 -- The transposed matrix makes the same call of `test`, be it accepted or refused: the same answer, and the same in everything lent.
-use Rattle.lists.proofs.Base.{_≡_, refl, ap, _∙_, List, ℕ, _*_, ltb, length, Float}
+use Rattle.lists.proofs.Base.{_≡_, refl, ap, _∙_, List, ℕ, _*_, length, Float}
 use Rattle.float.specs.Floats.{zero⁺}
 use Rattle.lists.specs.Writes.{over, cleared}
-use Rattle.limits.specs.Limits.{mostShuffles}
 use Rattle.outcome.specs.Outcome.{Told, passed, answered, refused, judged}
 use Rattle.outcome.specs.{Refusals.first, Slices.output, Slices.work}
 use Rattle.lot.specs.{Lot.Lot, Kept.groupLabels, Kept.groups, Kept.keptCount, Kept.groupCount, Mirror.withDistances, Mirror.transposedLot}
@@ -12,7 +11,7 @@ use Rattle.permanova_statistics.specs.Warnings.{sizesOf}
 use Rattle.permanova_statistics.proofs.SameSquares.{same-z}
 use Rattle.permanova_sampling.specs.Tested.{tested}
 use Rattle.permanova_sampling.proofs.SameSquares.{same-tested}
-use Rattle.permanova.specs.Call.{Slices, tooShort, testCheck, leaves, testCall}
+use Rattle.permanova.specs.Call.{Slices, testCheck, leaves, testCall}
 
 -- by what the table says of both: an accepted lot with the same squares is answered the same, and a refusal reads no distance
 same-leaves : (lot : Lot) (e : List Float) (seed k : ℕ) (s : Slices) (t : Told) → (t ≡ passed → SameSquares e (lot .distances))

@@ -1,5 +1,5 @@
 -- Distances enter the statistics by their squares alone: a lot with other distances and the same squares has the same of every way, and the same summary.
-use Rattle.lists.proofs.Base.{_≡_, Bool, not, _&&_, List, ℕ, _+_, eqb, ltb, Float, lt}
+use Rattle.lists.proofs.Base.{_≡_, not, _&&_, List, ℕ, _+_, eqb, ltb, Float, lt}
 use Rattle.float.specs.Floats.{0·5}
 use Rattle.lists.specs.Filters.{any}
 use Rattle.lot.specs.{Lot.Lot, Kept.groups, Kept.keptCount, Kept.groupCount, Kept.leftOut, Mirror.withDistances}
@@ -40,8 +40,8 @@ module _ (lot : Lot) (e : List Float) (same : SameSquares e (lot .distances)) wh
 
   same-warned : warned (withDistances lot e) ≡ warned lot
   unfolding warned uninformed sizesOf fraction informativeCount strata heldStrata
-  same-warned = λ i. warningBits (leftOut (lot .labels)) (uninformed lot) (lt (fraction lot) 0·5 && not (eqb (informativeCount lot) 0)) (any (λ c. ltb c 5) (sizesOf lot))
-      (same-negative (groups (lot .labels)) i)
+  same-warned = λ i. warningBits (leftOut (lot .labels)) (uninformed lot) (lt (fraction lot) 0·5 && not (eqb (informativeCount lot) 0))
+      (any (λ c. ltb c 5) (sizesOf lot)) (same-negative (groups (lot .labels)) i)
 
   pub same-summary : (more : ℕ) → summaryOf (withDistances lot e) more ≡ summaryOf lot more
   unfolding summaryOf rSquaredOf fraction informativeCount strata heldStrata
