@@ -1,8 +1,8 @@
 -- The transposed matrix: the lines of `pcoa` say the same of it, and where they pass its coordinates are the same, since distances enter them by their
 -- squares alone.
-use Rattle.lists.proofs.Base.{_≡_, ap, _∙_, Bool, _||_, List, _++_, not, ℕ, _*_, min, eqb, length, Float}
+use Rattle.lists.proofs.Base.{_≡_, _||_, List, _++_, ℕ, _*_, min, length, Float}
 use Rattle.lists.specs.Ranges.{grid}
-use Rattle.outcome.specs.{Outcome.Outcome, Outcome.passed, Refusals.first, Refusals.unfit}
+use Rattle.outcome.specs.{Outcome.passed, Refusals.first, Refusals.unfit}
 use Rattle.outcome.proofs.Table.{first-both}
 use Rattle.lot.specs.{Mirror.transposed, Lines.sizeLines, Lines.matrixLines}
 use Rattle.lot.proofs.AcceptedLots.{matrix-known}
@@ -26,6 +26,7 @@ module _ (components n : ℕ) (d : List Float) (out b w m v : ℕ) (long : lengt
   pub pcoa-accepted-transposed : first (pcoaLines components n d out b w m v) ≡ passed → pcoa components n (transposed n d) ≡ pcoa components n d
   unfolding pcoaLines
   pcoa-accepted-transposed e =
-      let rest = first-both (sizeLines (unfit d (n * n) || tooShort (min components n) n out b w m v) n (badComponents components)) (matrixLines n d ++ fewLines n) e .1 in
+      let misfit = unfit d (n * n) || tooShort (min components n) n out b w m v in
+      let rest = first-both (sizeLines misfit n (badComponents components)) (matrixLines n d ++ fewLines n) e .1 in
       let matrix = first-both (matrixLines n d) (fewLines n) rest .0 in
       same-pcoa components n (transposed n d) d (squares-transposed n d long (matrix-known n d matrix .mirrors))

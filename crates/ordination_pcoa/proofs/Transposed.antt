@@ -1,13 +1,14 @@
 -- The transposed matrix makes the same call of `pcoa`, be it accepted or refused: the same answer, and the same in everything lent.
 use Rattle.lists.proofs.Base.{_≡_, ap, _∙_, List, ℕ, _*_, min, length, Float}
-use Rattle.outcome.specs.{Outcome.Outcome, Outcome.Told, Outcome.judged, Refusals.first}
+use Rattle.outcome.specs.{Outcome.Told, Outcome.judged, Refusals.first}
 use Rattle.outcome.proofs.Table.{judged-same}
 use Rattle.lot.specs.Mirror.{transposed}
-use Rattle.ordination_coordinates.specs.{Finish.Coordinates, Pcoa.pcoa, Lines.pcoaLines}
+use Rattle.ordination_coordinates.specs.{Pcoa.pcoa, Lines.pcoaLines}
 use Rattle.ordination_coordinates.proofs.Transposed.{pcoa-lines-transposed, pcoa-accepted-transposed}
 use Rattle.ordination_pcoa.specs.Call.{leaves, pcoaCall}
 
-pub pcoa-transposed : (components n : ℕ) (d out b w m v : List Float) → length d ≡ n * n → pcoaCall components n (transposed n d) out b w m v ≡ pcoaCall components n d out b w m v
+pub pcoa-transposed : (components n : ℕ) (d out b w m v : List Float) → length d ≡ n * n
+    → pcoaCall components n (transposed n d) out b w m v ≡ pcoaCall components n d out b w m v
 unfolding pcoaCall
 pcoa-transposed components n d out b w m v long =
     let lines = pcoa-lines-transposed components n d (length out) (length b) (length w) (length m) (length v) long in
