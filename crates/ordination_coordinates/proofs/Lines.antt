@@ -61,20 +61,18 @@ module _ (components n : ℕ) (d : List Float) (out b w m v : ℕ) where
   pub sizes-told : {k : ℕ} {x y : Bool} {t : Told} → k ≡ min components n → x ≡ misfit k → y ≡ badComponents components → t ≡ first (sizeLines x n y) → t ≡ first sizesOf
   sizes-told e f g h = h ∙ ap₂ (λ (x y : Bool). first (sizeLines x n y)) (f ∙ ap misfit e) g
 
--- where no line holds
+-- where lines 1 and 2 do not hold
 pub record Fits (k n d out b w m v : ℕ) : Type 0 where
   pub distances : d ≡ n * n
   pub few : n ≤ 256
   pub asks : Asked k n
   pub room : Room k n out b w m v
 
-pub passed-fits : (components n : ℕ) (d : List Float) (out b w m v : ℕ) {k : ℕ} → k ≡ min components n → passed ≡ first (pcoaLines components n d out b w m v)
+pub sized-fits : (components n : ℕ) (d : List Float) (out b w m v : ℕ) {k : ℕ} → k ≡ min components n → first (sizesOf components n d out b w m v) ≡ passed
     → Fits k n (length d) out b w m v
-unfolding pcoaLines
-passed-fits components n d out b w m v {k} e p =
+sized-fits components n d out b w m v {k} e p =
     let k′ = min components n in
-    let sizes = first-both (sizesOf components n d out b w m v) (matrixLines n d ++ fewLines n) (sym p) .0 in
-    let sized = sizes-known (misfit components n d out b w m v k′) n (badComponents components) sizes in
+    let sized = sizes-known (misfit components n d out b w m v k′) n (badComponents components) p in
     let one = or-neither (unfit d (n * n)) (tooShort k′ n out b w m v) (sized .fit) in
     record {
       distances = eqb-true _ _ (not-false _ (one .0));
@@ -82,6 +80,13 @@ passed-fits components n d out b w m v {k} e p =
       asks = asked components n (sized .within) e;
       room = rw e (long-enough k′ n out b w m v (one .1));
     }
+
+-- where no line holds
+pub passed-fits : (components n : ℕ) (d : List Float) (out b w m v : ℕ) {k : ℕ} → k ≡ min components n → passed ≡ first (pcoaLines components n d out b w m v)
+    → Fits k n (length d) out b w m v
+unfolding pcoaLines
+passed-fits components n d out b w m v e p =
+    sized-fits components n d out b w m v e (first-both (sizesOf components n d out b w m v) (matrixLines n d ++ fewLines n) (sym p) .0)
 
 -- the numbers of the lines, in the order in which they are tested
 pub tested-in-order : (components n : ℕ) (d : List Float) (out b w m v : ℕ) → map (λ (l : Line). l .returned) (pcoaLines components n d out b w m v) ≡ 1 ∷ 2 ∷ 3 ∷ 14 ∷ 6 ∷ []

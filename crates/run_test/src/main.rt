@@ -422,7 +422,7 @@ fn sizes() {
     with_none(0x8000_0000_0000_0000);
 }
 
-// The first line wins: 1 before 2, 2 before 3, 3 before 14 and 4, 4 before 5; then 1, 2 and 3 before 14, and 14 before 4 and 5.
+// The first line wins: 1 before 2, 2 before 3, 3 before 4, 4 before 5.
 fn order() {
     let mut d = example();
     call_four(
@@ -440,14 +440,17 @@ fn order() {
     call_four(4, &d, &[0, 0, 1, 1], false, &[], true, &[0.0; 4], 9);
     d[3] = 10.0;
     call_four(4, &d, &[0, 0, 1, 2], false, &[], true, &[0.0; 4], 9);
-    d[3] = 9.0;
+}
+
+// 1, 2 and 3 before 14, and 14 before 4 and 5.
+fn order_of_the_mirror() {
+    let mut d = HALF;
     call_four(4, &d, &[0, 0, 1], false, &[], false, &[], 9);
     call_four(4, &d, &[0, 0, 1, 1], false, &[], false, &[], 1000000);
-    d[12] = -9.0;
-    call_four(4, &d, &[0, 0, 1, 1], false, &[], false, &[], 9);
-    d[12] = 10.0;
     call_four(4, &d, &[0, 0, 1, 1], false, &[], true, &[0.0; 4], 9);
     call_four(4, &d, &[0, 0, 1, 2], false, &[], false, &[], 9);
+    d[3] = -1.0;
+    call_four(4, &d, &[0, 0, 1, 1], false, &[], false, &[], 9);
 }
 
 // ---- the warnings
@@ -677,6 +680,7 @@ fn main() {
     shuffles();
     sizes();
     order();
+    order_of_the_mirror();
     warnings();
     many();
 }

@@ -1,10 +1,10 @@
 -- `ordination_coordinates::checks::check` meets its contract. The groups of lines go one after another, and the first that refuses wins.
 use Rattle.lists.proofs.Base.{_≡_, sym, List, [], _++_, arith, needs, lt-ltb, le-ltb}
 use Rattle.outcome.specs.{Outcome.Told, Numbers.told, Refusals.Line, Refusals.first}
-use Rattle.outcome.proofs.Table.{first-holds, first-passes, check-refused, check-next}
+use Rattle.outcome.proofs.Table.{first-holds, first-passes, told-passed, check-refused, check-next}
 use Rattle.lot.specs.Lines.{matrixLines}
 use Rattle.ordination_coordinates.specs.Lines.{fewLines, pcoaLines}
-use Rattle.ordination_coordinates.proofs.Lines.{sizesOf, sizes-told}
+use Rattle.ordination_coordinates.proofs.Lines.{sizesOf, sizes-told, sized-fits}
 use Rattle.ordination_coordinates.proofs.checks.check.Tie as tie
 
 -- ---- once the sizes are judged
@@ -24,6 +24,14 @@ sized c =
     let a = start c .args in
     sizes-told (a .components) (a .n) (a .d .now) (a .out) (a .b) (a .w) (a .m) (a .v) (start c .pre)
     (c .before .before .misfits .ensures) (c .before .bad-components .ensures) (c .check-sizes .ensures)
+
+-- ---- once they let the call pass
+
+check-matrix-requires : tie.Need-check-matrix-requires
+check-matrix-requires c κs =
+    let q = c .before .before in
+    let a = start q .args in
+    sized-fits (a .components) (a .n) (a .d .now) (a .out) (a .b) (a .w) (a .m) (a .v) (start q .pre) (sym (told-passed (sized q) (c .enum-told .given .1))) .distances
 
 -- ---- once the matrix is judged too
 
@@ -65,4 +73,4 @@ returns-4 c = passed (c .before) (sym (first-passes 6 [] (le-ltb (start (asked (
 
 pub check-spec : {M : Type 1} → Rattle.ordination_coordinates.proofs.checks.check.Statement.statement M
 check-spec = tie.close (tie.spec (λ c κs. search needs) (λ c κs. search needs) (λ c κs. search needs) (λ c. search needs) (λ c. search needs) returns
-    (λ c κs. search needs) (λ c. search needs) (λ c. search needs) returns-2 returns-3 returns-4)
+    check-matrix-requires (λ c. search needs) (λ c. search needs) returns-2 returns-3 returns-4)
