@@ -31,7 +31,7 @@ sizes-pass : (lot : Lot) (short : Bool) → Fits lot → short ≡ false → fir
 unfolding first
 sizes-pass lot short f e = rw (fits-well lot f, e, le-ltb 256 (lot .n) (omega (arith, f .few)))
 
--- nor do 14 and 4
+-- nor does 4, and 14 does not where 3 does not
 rest : Lot → List Line
 rest lot = matrixLines (lot .n) (lot .distances) ++ labelLines (lot .labels) (lot .weighted) (lot .weights) ++ ((8 when ltb mostWays (wayCount lot)) ∷ [])
 

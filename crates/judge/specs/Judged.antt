@@ -12,7 +12,8 @@ use Rattle.exhaustive_ways.specs.Ways.{wayCount}
 use Rattle.exhaustive_hits.specs.declared.judgement.Judgement.{Judgement}
 use Rattle.exhaustive_hits.specs.Exhaustive.{exhaustive}
 
--- lines 3, 5 and 8; of a lot that was read 1, 2, 14 and 4 never hold: its parts fit n, which is at most 32, its matrix mirrors itself, and weights are 1
+-- lines 3, 5 and 8; of a lot that was read 1, 2 and 4 never hold, and 14 does not where 3 does not: its parts fit n, which is at most 32, weights are 1, and its matrix
+-- mirrors itself
 unfoldable pub lotLines : Lot → List Line
 lotLines lot =
     (3 when any badDistance (lot .distances))

@@ -18,11 +18,13 @@ asymmetric n d = any (λ i. any (λ j. ne (entry n d i j) (entry n d j i)) (rang
 unfoldable pub nonzeroDiagonal : ℕ → List Float → Bool
 nonzeroDiagonal n d = any (λ i. ne (entry n d i i) zero⁺) (range 0 n)
 
+-- the condition of the line
 unfoldable pub unmirrored : ℕ → List Float → Bool
 unmirrored n d = asymmetric n d || nonzeroDiagonal n d
 
 -- ---- the transposed matrix, and a lot with it
 
+-- its entry i, j is entry j, i
 unfoldable pub transposed : ℕ → List Float → List Float
 transposed n d = grid n n (λ i j. entry n d j i)
 

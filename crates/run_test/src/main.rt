@@ -336,7 +336,7 @@ fn distances() {
     with_distance(1048576.0000000002);
 }
 
-// Of one half filled, all above the diagonal.
+// The example with one half filled, that above the diagonal.
 const HALF: [f64; 16] = [
     0.0,
     2.0,
