@@ -8,7 +8,8 @@ use Rattle.outcome.specs.{Refusals.first, Refusals.short, Outcome.Outcome, Outc
 use Rattle.outcome.specs.Slices.{output, work}
 use Rattle.lot.specs.{Lot.Lot, Cases.example, Cases.zeros}
 use Rattle.lot.specs.Kept.{twice, kept, gathered, keptLabels, groupLabels, groups, groupCount}
-use Rattle.lot.specs.{Strata.named, Strata.numbered, Strata.heldStrata, Strata.strata, Way.δ, Way.mark, Way.tally, Mirror.asymmetric, Mirror.nonzeroDiagonal, Mirror.unmirrored, Lines.misfits, Lines.testLines}
+use Rattle.lot.specs.{Strata.named, Strata.numbered, Strata.heldStrata, Strata.strata, Way.δ, Way.mark, Way.tally}
+use Rattle.lot.specs.{Mirror.asymmetric, Mirror.nonzeroDiagonal, Mirror.unmirrored, Lines.misfits, Lines.testLines}
 use Rattle.permanova_p_values.specs.Hits.{statistic}
 use Rattle.ordination_coordinates.specs.Finish.{Coordinates}
 use Rattle.exhaustive_hits.specs.declared.judgement.Judgement.{Judgement}

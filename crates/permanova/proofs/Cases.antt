@@ -58,7 +58,8 @@ case-e = refl
 -- such a call passes, with slices of 4 entries and of 16 or more
 pub example-passes : (n : ℕ) (s : Slices) → n ≤ 999999 → 4 ≤ length (s .labels) → 4 ≤ length (s .counts) → 4 ≤ length (s .means) →
     16 ≤ length (s .pairTerms) → 16 ≤ length (s .weightedSquares) → testCheck (example (0 ∷ 0 ∷ 1 ∷ 1 ∷ [])) n s ≡ passed
-unfolding testCheck tooShort short any first testLines misfits unmirrored asymmetric nonzeroDiagonal entry ne le ofBits ofInt odd size groupCount groupLabels keptLabels gathered kept twice howMany countIf filter range upFrom upward insertUp
+unfolding testCheck tooShort short any first testLines misfits unmirrored asymmetric nonzeroDiagonal entry ne le ofBits ofInt odd size
+    groupCount groupLabels keptLabels gathered kept twice howMany countIf filter range upFrom upward insertUp
 example-passes n s h a b c d e = rw (le-ltb _ _ a, le-ltb _ _ b, le-ltb _ _ c, le-ltb _ _ d, le-ltb _ _ e, le-ltb _ _ h)
 
 -- ---- (f) all distances 0: neither F is finite, and neither has a p, whatever the seed and however many shuffles
