@@ -35,10 +35,10 @@
  * judge tells 3, 5, 8 and 11 in its text, and 12: the text is not in the form that README.md has. A lot that it reads mirrors itself.
  *
  * WHAT ARRAYS HOLD AFTERWARDS, by the number returned:
- *                outputs                                             work        values, numbers, selected, sweeps
- *   0            the first entries are written, the rest as before   all 0       written
- *   1 to 9, 13, 14   as before                                       as before   as before
- *   10, 11       the same first entries are 0, the rest as before    all 0       as before
+ *                    outputs                                             work        values, numbers, selected, sweeps
+ *   0                the first entries are written, the rest as before   all 0       written
+ *   1 to 9, 13, 14   as before                                           as before   as before
+ *   10, 11           the same first entries are 0, the rest as before    all 0       as before
  * Each function says how many entries of an output are the first ones. Work is 0 to its end, past the length that is asked too. Inputs
  * are never written.
  *
