@@ -34,6 +34,10 @@ module _ (x y : Float) (s : Bool) (a : ℕ) (t : Bool) (b c : ℕ) (C : 0 < c) (
   le-over = go x y v w
     where
       go : (x y : Float) → HasValue x s a c → HasValue y t b c → T (le x y) ↔ SignedLe s a t b
+      go nan _ v w = elim v [ ]
+      go (inf _) _ v w = elim v [ ]
+      go (fin s' m e) nan v w = elim w [ ]
+      go (fin s' m e) (inf _) v w = elim w [ ]
       go (fin s' m e) (fin t' n d) v w =
           let o = compared s' m e t' n d s a t b c C v w in
           let i = either-iff s' (m * up e * down d) t' (n * up d * down e) in
@@ -43,6 +47,10 @@ module _ (x y : Float) (s : Bool) (a : ℕ) (t : Bool) (b c : ℕ) (C : 0 < c) (
   lt-over = go x y v w
     where
       go : (x y : Float) → HasValue x s a c → HasValue y t b c → T (lt x y) ↔ (SignedLe t b s a → ⊥)
+      go nan _ v w = elim v [ ]
+      go (inf _) _ v w = elim v [ ]
+      go (fin s' m e) nan v w = elim w [ ]
+      go (fin s' m e) (inf _) v w = elim w [ ]
       go (fin s' m e) (fin t' n d) v w =
           let o = compared s' m e t' n d s a t b c C v w in
           let i = below-iff s' (m * up e * down d) t' (n * up d * down e) in
@@ -52,6 +60,10 @@ module _ (x y : Float) (s : Bool) (a : ℕ) (t : Bool) (b c : ℕ) (C : 0 < c) (
   eq-over = go x y v w
     where
       go : (x y : Float) → HasValue x s a c → HasValue y t b c → T (eq x y) ↔ SignedEq s a t b
+      go nan _ v w = elim v [ ]
+      go (inf _) _ v w = elim v [ ]
+      go (fin s' m e) nan v w = elim w [ ]
+      go (fin s' m e) (inf _) v w = elim w [ ]
       go (fin s' m e) (fin t' n d) v w =
           let o = compared s' m e t' n d s a t b c C v w in
           let i = level-iff s' (m * up e * down d) t' (n * up d * down e) in

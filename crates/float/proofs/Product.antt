@@ -11,6 +11,10 @@ use lib.Ieee.Scale.{round_same}
 pub mul-values : (f : Format) (x y : Float) (s : Bool) (a c : ℕ) (t : Bool) (b d : ℕ) → 0 < c → 0 < d → HasValue x s a c → HasValue y t b d →
     mul f x y ≡ round f (unlike s t) (a * b) (c * d)
 unfolding mul
+mul-values f lib.Ieee.nan y s a c t b d C D v w = elim v [ ]
+mul-values f (lib.Ieee.inf _) y s a c t b d C D v w = elim v [ ]
+mul-values f (fin s' m e) lib.Ieee.nan s a c t b d C D v w = elim w [ ]
+mul-values f (fin s' m e) (lib.Ieee.inf _) s a c t b d C D v w = elim w [ ]
 mul-values f (fin s' m e) (fin t' n g) s a c t b d C D v w = ap (λ (z : Bool). round f (unlike z t') (m * up e * (n * up g)) (down e * down g)) v.0
     ∙ ap (λ (z : Bool). round f (unlike s z) (m * up e * (n * up g)) (down e * down g)) w.0
     ∙ round_same f (unlike s t) (m * up e * (n * up g)) (down e * down g) (a * b) (c * d) (mul-pos (down_pos e) (down_pos g)) (mul-pos C D)

@@ -51,6 +51,8 @@ own-exact f s (suc m) e p =
 
 -- A value that fits is what any fraction that it equals rounds to.
 pub round-own : (f : Format) (x : Float) (s : Bool) (a c : ℕ) → 0 < c → T (fits f x) → HasValue x s a c → round f s a c ≡ x
+round-own f lib.Ieee.nan s a c C p v = elim v [ ]
+round-own f (inf _) s a c C p v = elim v [ ]
 round-own f (fin t m e) s a c C p v = round_same f s a c (m * up e) (down e) C (down_pos e) (sym v.1)
     ∙ ap (λ (b : Bool). round f b (m * up e) (down e)) (sym v.0)
     ∙ unique f (round f t (m * up e) (down e)) (fin t m e) t (m * up e) (down e) (down_pos e) (round-fits f t (m * up e) (down e)) p (own-exact f t m e p) (refl, refl)

@@ -51,6 +51,10 @@ sum-scale f s a t b c k C K = rw (
 -- The sum of any two values is that of two fractions that they equal, over one denominator.
 pub add_at : (f : Format) (x y : Float) (s : Bool) (a : ℕ) (t : Bool) (b c : ℕ) → 0 < c → HasValue x s a c → HasValue y t b c → add f x y ≡ sum f s a t b c
 unfolding add
+add_at f nan y s a t b c C v w = elim v [ ]
+add_at f (inf _) y s a t b c C v w = elim v [ ]
+add_at f (fin s' m e) nan s a t b c C v w = elim w [ ]
+add_at f (fin s' m e) (inf _) s a t b c C v w = elim w [ ]
 add_at f (fin s' m e) (fin t' n d) s a t b c C v w =
     let A = m * up e * down d in
     let B = n * up d * down e in

@@ -45,6 +45,8 @@ depth_le f (fin s (suc m) (negsuc k)) h = pow-back (suc k) (low f) (fitting f s 
 
 -- the units from any fraction with that denominator
 pub units-is : (x : Float) (s : Bool) (a : ℕ) → HasValue x s a (2 ^ 1074) → units x ≡ a
+units-is nan s a h = elim h [ ]
+units-is (inf _) s a h = elim h [ ]
 units-is (fin t m e) s a h = ap (λ (z : ℕ). z / down e) h.1 ∙ mul-div_cancel a (down_pos e)
 
 pub units-exact : (x : Float) → T (fits binary64 x) → T (finite x) → HasValue x (sign x) (units x) (2 ^ 1074)
@@ -82,6 +84,9 @@ units_lt (fin s m e) h t = lt_of_mul-lt-mul_right (down e) (below (2 ^ 1024) (2 
     below a b p q B = subst (λ (x : ℕ). x < a * b * down e) p (lt_of_lt_of_le (mul-lt-mul_of_pos_right q B) (le_of_eq (mul_right_comm a (down e) b)))
 
 pub units-pos : (x : Float) → T (positive x) → T (fits binary64 x) → 0 < units x
+units-pos nan p h = elim p [ ]
+units-pos (inf _) p h = elim p [ ]
+units-pos (fin true m e) p h = elim p [ ]
 units-pos (fin false m e) p h = value_pos (fin false m e) (units (fin false m e)) (2 ^ 1074) p (pow_pos 1074) (units-exact (fin false m e) h tt)
 
 -- ---- the digits of a number

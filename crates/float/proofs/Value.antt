@@ -45,6 +45,8 @@ crossed-right Y c b e d h = crossed-left Y c b d e h ∙ ap (λ (z : ℕ). b * z
 
 -- another fraction of the same size
 pub value_same : (x : Float) (s : Bool) (a c b d : ℕ) → 0 < c → a * d ≡ b * c → HasValue x s a c → HasValue x s b d
+value_same nan s a c b d C h v = elim v [ ]
+value_same (inf _) s a c b d C h v = elim v [ ]
 value_same (fin t m e) s a c b d C h v = (
   v.0,
   eq_of_mul-eq-mul_right c C (m * up e * d) (b * down e)
@@ -137,6 +139,12 @@ same-cross X Y dx dy a c C h k = eq_of_mul-eq-mul_right c C (X * dy) (Y * dx) (c
 
 -- Two values that fit one format, and have one sign and one size, are the same value.
 pub unique : (f : Format) (x y : Float) (s : Bool) (a c : ℕ) → 0 < c → T (fits f x) → T (fits f y) → HasValue x s a c → HasValue y s a c → x ≡ y
+unique f nan y s a c C p q v w = elim v [ ]
+unique f (inf _) y s a c C p q v w = elim v [ ]
+unique f (fin t zero e) nan s a c C p q v w = elim w [ ]
+unique f (fin t zero e) (inf _) s a c C p q v w = elim w [ ]
+unique f (fin t (suc m) e) nan s a c C p q v w = elim w [ ]
+unique f (fin t (suc m) e) (inf _) s a c C p q v w = elim w [ ]
 unique f (fin t zero e) (fin u zero d) s a c C p q v w = λ i. fin ((v.0 ∙ sym w.0) i) zero ((zero_exponent f t e p ∙ sym (zero_exponent f u d q)) i)
 unique f (fin t zero e) (fin u (suc n) d) s a c C p q v w = absurd (not-both n e d (same-cross (zero * up e) (suc n * up d) (down e) (down d) a c C v.1 w.1))
 unique f (fin t (suc m) e) (fin u zero d) s a c C p q v w = absurd (not-both m d e (same-cross (zero * up d) (suc m * up e) (down d) (down e) a c C w.1 v.1))
