@@ -5,3 +5,5 @@ pub mod Cases
 mod Branches
 mod Normal
 mod Certificate
+mod DigitSteps
+mod Shifts
