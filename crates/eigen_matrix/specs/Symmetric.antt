@@ -1,5 +1,5 @@
 -- An n by n matrix made symmetric: section 4's small matrix, and section 5's whitened one. Definitions only.
-use Rattle.std.specs.Prelude.{ℕ, ◌+◌, ◌*◌, min, max, cond, List, eqb, Float}
+use Rattle.std.specs.Prelude.{ℕ, min, max, cond, List, eqb, Float}
 use Rattle.float.specs.Floats.{◌⊕◌, ◌⊘◌, 2·0}
 use Rattle.lists.specs.Ranges.{grid}
 use Rattle.lists.specs.Rows.{entry}
