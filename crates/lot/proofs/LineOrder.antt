@@ -1,5 +1,5 @@
 -- The lines of both tests: their order, and that 14 comes after 3 and before all that labels and weights tell.
-use Rattle.lists.proofs.Base.{◌≡◌, refl, sym, ◌∙◌, Bool, true, false, ◌||◌, List, [], ◌∷◌, ◌++◌, map, ℕ}
+use Rattle.lists.proofs.Base.{◌≡◌, refl, ◌∙◌, Bool, true, false, ◌||◌, [], ◌∷◌, ◌++◌, map, ℕ}
 use Rattle.lists.specs.Filters.{any}
 use Rattle.outcome.specs.{Refusals.Line, Refusals.first, Outcome.passed, Outcome.refused}
 use Rattle.outcome.proofs.Table.{first_holds, first_passes, first-after, first-before}

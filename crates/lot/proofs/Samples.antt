@@ -5,7 +5,7 @@ use Rattle.lists.specs.inner.Numbers.{Below}
 use Rattle.lists.proofs.{Ranges.length-range, Filters.length-filter, Filters.count_if-below, Writes.take-over, Members.filter-below, Parts.over-back}
 use Rattle.limits.specs.Limits.{none}
 use Rattle.lot.specs.inner.{Filled.Filled, Description.samples_of, Description.Grouped, Description.Stratified, Description.Described}
-use Rattle.lot.specs.Kept.{twice, kept, gathered, kept_labels, group_labels, groups, sizes}
+use Rattle.lot.specs.Kept.{twice, kept, gathered, kept_labels, group_labels, groups}
 use Rattle.lot.specs.Strata.{named, numbered, held_strata, strata, strata_count}
 use Rattle.lot.specs.declared.Sizes.{Sizes}
 use Rattle.lot.proofs.{FilledFronts.filled-as, FilledFronts.filled-front, FilledFronts.filled-long, Inserts.length-upward}

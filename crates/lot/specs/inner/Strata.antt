@@ -1,9 +1,7 @@
 -- The named strata with one sample more. Definitions only.
-use Rattle.std.specs.Prelude.{ℕ, not, cond, List, [], ◌∷◌, ◌++◌, eqb}
-use Rattle.lists.specs.Filters.{filter}
-use Rattle.lists.specs.Numbers.{how_many, contains, dedup}
+use Rattle.std.specs.Prelude.{ℕ, cond, List, [], ◌∷◌, ◌++◌, eqb}
+use Rattle.lists.specs.Numbers.{contains}
 use Rattle.limits.specs.Limits.{none}
-use Rattle.lot.specs.Strata.{named}
 
 -- one sample more: its stratum joins those named, unless it is none or stands there
 unfoldable pub noted : List ℕ → ℕ → List ℕ
