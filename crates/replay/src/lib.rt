@@ -3,7 +3,7 @@
 
 ghost use Rattle.std.specs.Prelude.{◌+◌, ◌*◌, ◌≤◌, length};
 
-use libc::STDOUT_FILENO;
+use std::io::Read;
 
 // ---- words
 
@@ -205,28 +205,28 @@ pub fn same_upper(b: &[u8], at: usize, n: usize, x: &[f64]) -> bool {
 // ---- the file
 
 // How many bytes the next record has.
-fn announced(fd: i32) -> usize {
+fn announced<R: Read>(file: &mut R) -> usize {
     let mut head = [0u8; 8];
-    io::read_full(fd, &mut head);
+    let _ = file.read_exact(&mut head);
     8 * number(&head, 0, 80000)
 }
 
 // The next record goes to the front of b; how many bytes it has, or 0 where there is no room.
-pub fn next(fd: i32, b: &mut [u8]) -> usize
+pub fn next<R: Read>(file: &mut R, b: &mut [u8]) -> usize
     ensures { result ≤ length b.new }
 {
-    let k = announced(fd);
+    let k = announced(file);
     if b.len() < k {
         return 0;
     }
-    io::read_full(fd, &mut b[..k]);
+    let _ = file.read_exact(&mut b[..k]);
     k
 }
 
 // How many records there are of an operation; 0 where the file is none of its.
-pub fn records(fd: i32, op: u64) -> usize {
+pub fn records<R: Read>(file: &mut R, op: u64) -> usize {
     let mut head = [0u8; 32];
-    io::read_full(fd, &mut head);
+    let _ = file.read_exact(&mut head);
     if word(&head, 0) != 0x3130_7961_6c70_6572 {
         return 0;
     }
@@ -277,14 +277,13 @@ pub fn none() -> Tally {
     }
 }
 
-fn print(text: &[u8], n: usize) {
-    io::write_all(STDOUT_FILENO, text);
-    io::print_decimal(STDOUT_FILENO, n as u64);
-    io::write_all(STDOUT_FILENO, b"\n");
+// A line; a write that fails is passed over.
+fn print(rt: &impl Print, text: &str, n: usize) {
+    let _ = println!(rt; "{text}{n}");
 }
 
 // One more; a record that differs is told by its place.
-pub fn add(t: Tally, h: Held, place: usize) -> Tally {
+pub fn add(rt: &impl Print, t: Tally, h: Held, place: usize) -> Tally {
     match h {
         Held::Answer => Tally {
             answers: after(t.answers, 1),
@@ -297,7 +296,7 @@ pub fn add(t: Tally, h: Held, place: usize) -> Tally {
             differences: t.differences,
         },
         Held::Difference => {
-            print(b"different: record ", place);
+            print(rt, "different: record ", place);
             Tally {
                 answers: t.answers,
                 refusals: t.refusals,
@@ -308,10 +307,9 @@ pub fn add(t: Tally, h: Held, place: usize) -> Tally {
 }
 
 // The tally of a file, a line each.
-pub fn tell(name: &[u8], t: Tally) {
-    io::write_all(STDOUT_FILENO, name);
-    io::write_all(STDOUT_FILENO, b"\n");
-    print(b"  answers alike: ", t.answers);
-    print(b"  refusals alike: ", t.refusals);
-    print(b"  different: ", t.differences);
+pub fn tell(rt: &impl Print, name: &str, t: Tally) {
+    let _ = println!(rt; "{name}");
+    print(rt, "  answers alike: ", t.answers);
+    print(rt, "  refusals alike: ", t.refusals);
+    print(rt, "  different: ", t.differences);
 }
