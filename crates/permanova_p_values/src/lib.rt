@@ -12,7 +12,7 @@ ghost use Rattle.permanova_p_values.specs.WarningBits.{bit, warning_bits};
 ghost use Rattle.permanova_p_values.specs.Together.{largest, smallest, alarmed, together};
 
 // A statistic: a finite F, or unbounded, above all others.
-#[derive(Drop)]
+#[derive(Clone, Copy)]
 pub enum Statistic {
     Finite(f64),
     Unbounded,
@@ -74,7 +74,7 @@ pub fn value_of(s: Statistic) -> f64
 // ---- p
 
 // A p, or none.
-#[derive(Drop)]
+#[derive(Clone, Copy)]
 pub enum PValue {
     P(f64),
     NoP,
