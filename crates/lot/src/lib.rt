@@ -26,7 +26,7 @@ pub struct Sizes {
 }
 
 // How many samples are kept, how many groups they are in, and how many strata.
-#[derive(Drop)]
+#[derive(Clone, Copy)]
 pub struct Shape {
     pub kept: usize,
     pub groups: usize,

@@ -12,7 +12,7 @@ ghost use Rattle.lot.specs.Kept.{left_out, kept_count};
 ghost use Rattle.lot.specs.inner.Description.{samples_of};
 ghost use Rattle.lot_design.specs.inner.Designs.{group_labels_of, Designable, Describes};
 
-#[derive(Drop)]
+#[derive(Clone, Copy)]
 pub struct Design {
     // whether strata are given, and whether labels are left out
     pub stratified: bool,
