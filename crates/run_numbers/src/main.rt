@@ -1,11 +1,10 @@
 // Writes the root of each of some 1,200 bit patterns, a line each: the pattern and the root's, or `nan`; then the published vectors of SplitMix64.
 // The lines of the roots in the file `stdout` are the machine's own: a C program read the first word of each line as the
 // bits of a double and wrote the bits of `sqrt` of it, which is compiled to the instruction sqrtsd.
+// A write that fails is passed over.
 #![tactic(auto)]
 
 mod vectors;
-
-use libc::STDOUT_FILENO;
 
 // Zeros, the ends of the subnormals and of the normals, the neighbours of powers of two, the infinities,
 // a NaN, negative numbers; values whose roots lie nearest to halfway between two f64; and four whose roots
@@ -73,81 +72,80 @@ fn pattern(x: f64) -> u64 {
 }
 
 // Writes x's pattern, or `nan`.
-fn show(x: f64) {
+fn show(rt: &impl Print, x: f64) {
     if x != x {
-        io::write_all(STDOUT_FILENO, b"nan\n");
+        let _ = println!(rt; "nan");
         return;
     }
-    io::print_hex(STDOUT_FILENO, f64::to_bits(x), 16);
-    io::write_all(STDOUT_FILENO, b"\n");
+    let bits = f64::to_bits(x);
+    let _ = println!(rt; "{bits:016x}");
 }
 
 // Writes the pattern b and the root of its value.
-fn line(b: u64) {
-    io::print_hex(STDOUT_FILENO, b, 16);
-    io::write_all(STDOUT_FILENO, b" ");
-    show(square_root::sqrt(value(b)));
+fn line(rt: &impl Print, b: u64) {
+    let _ = print!(rt; "{b:016x} ");
+    show(rt, square_root::sqrt(value(b)));
 }
 
 // The patterns above.
-fn listed() {
+fn listed(rt: &impl Print) {
     let mut i: usize = 0;
     while i < 43 {
-        line(PATTERNS[i]);
+        line(rt, PATTERNS[i]);
         i += 1;
     }
 }
 
 // The powers of two among the subnormals.
-fn subnormals() {
+fn subnormals(rt: &impl Print) {
     let mut b: u64 = 1;
     while b < 0x10_0000_0000_0000 {
-        line(b);
+        line(rt, b);
         b = 2 * b;
     }
 }
 
 // Every eleventh of the other powers of two.
-fn powers() {
+fn powers(rt: &impl Print) {
     let mut e: u64 = 1;
     while e < 2047 {
-        line(e * 0x10_0000_0000_0000);
+        line(rt, e * 0x10_0000_0000_0000);
         e += 11;
     }
 }
 
 // The squares of numbers of up to 26 digits, times even powers of two, each between its neighbours.
-fn squares() {
+fn squares(rt: &impl Print) {
     let mut n: u64 = 1;
     while n < 0x400_0000 {
         let b = pattern((n * n) as f64) % 0x8000_0000_0000_0000 + n % 400 * 0x20_0000_0000_0000;
         if 0 < b {
-            line(b - 1);
+            line(rt, b - 1);
         }
-        line(b);
-        line(b + 1);
+        line(rt, b);
+        line(rt, b + 1);
         n = n + n / 8 + 1;
     }
 }
 
 // Random patterns, of every exponent.
-fn random() {
+fn random(rt: &impl Print) {
     let mut b: u64 = 0x9e37_79b9_7f4a_7c15;
     let mut n: u32 = 0;
     while n < 500 {
         b = b ^ (b << 13);
         b = b ^ (b >> 7);
         b = b ^ (b << 17);
-        line(b % 0x8000_0000_0000_0000);
+        line(rt, b % 0x8000_0000_0000_0000);
         n += 1;
     }
 }
 
-fn main() {
-    listed();
-    subnormals();
-    powers();
-    squares();
-    random();
-    vectors::run();
+fn main(rt: HostRuntime) {
+    listed(&rt);
+    subnormals(&rt);
+    powers(&rt);
+    squares(&rt);
+    random(&rt);
+    vectors::run(&rt);
 }
