@@ -20,6 +20,11 @@ use Rattle.permanova_sums.specs.PairSums.{row_sum, rows_sum, pair_sum}
 
 equal-value : (x y : Float) (n : ℕ) → HasValue y false n 1 → T (eq x y) → (s : Bool) × HasValue x s n 1
 unfolding eq
+equal-value lib.Ieee.nan y n v h = elim h [ ]
+equal-value (inf s) lib.Ieee.nan n v h = elim v [ ]
+equal-value (inf s) (inf _) n v h = elim v [ ]
+equal-value (fin s m e) lib.Ieee.nan n v h = elim v [ ]
+equal-value (fin s m e) (inf _) n v h = elim v [ ]
 equal-value (inf s) (fin t k d) n v h = absurd h
 equal-value (fin s m e) (fin t k d) n v h =
     let same : m * up e * down d ≡ k * up d * down e = eqb→eq _ _ (and_l (eqb (m * up e * down d) (k * up d * down e)) _ h) in

@@ -1,0 +1,14 @@
+-- `permanova_sums::squares::square` meets its contract. The places of the kept samples a and b are below n.
+use Rattle.lists.proofs.Base.{arith}
+use Rattle.permanova_sums.specs.Squares.{square_at}
+use Rattle.permanova_sums.proofs.squares.square.Goals as goal
+
+pub cell-x-requires : goal.cell-x-requires
+cell-x-requires c =
+    let args = c.args in
+    let pre = c.requires in
+    (pre.0, omega (arith, c.entry-i.ensures, pre.1 args.a (omega arith)), omega (arith, c.entry-j.ensures, pre.1 args.b (omega arith)))
+
+pub returns : goal.returns
+unfolding square_at
+returns c = rw (c.cell-x.ensures, c.entry-j.ensures, c.entry-i.ensures)

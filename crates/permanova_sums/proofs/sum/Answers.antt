@@ -1,0 +1,10 @@
+-- `permanova_sums::sum` meets its contract. What is left, added to s, is always the whole sum.
+use Rattle.lists.proofs.Base.{refl, arith, nan}
+use Rattle.lists.proofs.Sums.{floats-turn, floats-end}
+use Rattle.permanova_sums.proofs.sum.Goals as goal
+
+pub loop-i-preserved : goal.loop-i-preserved
+loop-i-preserved c = floats-turn _ c.args.w.now c.loop-i.i nan (omega arith) refl refl c.loop-i.invariant
+
+pub returns : goal.returns
+returns c = floats-end _ c.args.w.now c.loop-i.i (omega arith) c.loop-i.invariant
