@@ -4,7 +4,7 @@ use Rattle.lists.specs.Writes.{over}
 use Rattle.lists.specs.inner.Numbers.{Below}
 use Rattle.lists.proofs.Writes.{take-over}
 use Rattle.lot.specs.declared.Shape.{Shape}
-use Rattle.lot.specs.{Lot.Lot, Kept.left_out, Kept.kept, Kept.kept_labels, Kept.group_labels, Kept.groups, Kept.kept_count, Kept.group_count}
+use Rattle.lot.specs.{Lot.Lot, Kept.left_out, Kept.kept_labels, Kept.group_labels, Kept.groups, Kept.kept_count, Kept.group_count}
 use Rattle.lot.specs.Strata.{held_strata, strata, strata_count, informative, informative_count}
 use Rattle.lot.specs.inner.Description.{samples_of, Described}
 use Rattle.lot.proofs.{FilledFronts.filled-front, Samples.kept-few, Samples.length-groups, Samples.length-kept_labels, Inserts.length-upward}

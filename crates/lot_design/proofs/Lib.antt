@@ -4,3 +4,4 @@ pub mod PlacedGroups
 pub mod LabelsLeftOut
 pub mod Designs
 pub mod Accepted
+pub mod LoopTurns
