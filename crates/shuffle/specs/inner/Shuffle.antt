@@ -1,8 +1,7 @@
 -- The state of a shuffle with other labels. Definitions only.
-use Rattle.std.specs.Prelude.{ℕ, ◌+◌, List}
-use Rattle.splitmix.specs.SplitMix.{next}
+use Rattle.std.specs.Prelude.{ℕ, List}
 use Rattle.shuffle.specs.declared.DrawState.{DrawState}
-use Rattle.shuffle.specs.Shuffle.{draw_below, Shuffling}
+use Rattle.shuffle.specs.Shuffle.{Shuffling}
 
 -- what a shuffle left, with its labels
 abbrev pub shuffling : DrawState → List ℕ → Shuffling
