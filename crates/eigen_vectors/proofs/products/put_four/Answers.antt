@@ -1,0 +1,1 @@
+-- `eigen_vectors::products::put_four` meets its contract. Four writes.
