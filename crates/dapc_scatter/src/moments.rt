@@ -4,7 +4,7 @@ ghost use Rattle.dapc_scatter.specs.inner.Moments.{Sized, Cleared, Filled};
 use crate::means;
 
 // The sizes of an analysis: the columns of the coordinates and how many of them lead, the axes of the scores, the samples that have a group, the groups.
-#[derive(Drop)]
+#[derive(Clone, Copy)]
 pub struct Dimensions {
     pub columns: usize,
     pub lead: usize,
