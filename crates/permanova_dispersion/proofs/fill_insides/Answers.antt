@@ -1,0 +1,30 @@
+-- `permanova_dispersion::fill_insides` meets its contract. After k turns the first k entries are written.
+use Rattle.lists.proofs.Base.{ap, ◌∙◌, arith}
+use Rattle.lists.proofs.Writes.{writing-none, writing-next, writing-front}
+use Rattle.permanova_dispersion.specs.Dispersion.{inside}
+use Rattle.grouping.proofs.SortedParts.{part-there, part-below}
+use Rattle.permanova_dispersion.proofs.fill_insides.Goals as goal
+
+pub loop-k-init : goal.loop-k-init
+loop-k-init c = (omega arith, writing-none _ _)
+
+pub part_of-p-requires : goal.part_of-p-requires
+part_of-p-requires c = part-there _ _ _ _ _ c.requires.1 c.loop-k-test.true
+
+pub inside-requires : goal.inside-requires
+inside-requires c = (c.requires.0, part-below _ _ _ _ _ _ c.requires.1 c.loop-k-test.true c.part_of-p.ensures)
+
+pub offset_bounds-out-k : goal.offset_bounds-out-k
+offset_bounds-out-k c = omega (arith, c.loop-k.invariant.1.long)
+
+pub bounds-out-k : goal.bounds-out-k
+bounds-out-k c = omega (arith, c.loop-k.invariant.1.long)
+
+pub loop-k-preserved : goal.loop-k-preserved
+loop-k-preserved c = (omega arith, writing-next _ _ c.loop-k.invariant.1 (omega arith) (c.inside.ensures ∙ ap (inside _ _) c.part_of-p.ensures))
+
+pub shape_of-out : goal.shape_of-out
+shape_of-out c = c.loop-k.invariant.1.long
+
+pub returns : goal.returns
+returns c = writing-front _ _ c.loop-k.invariant.1 (omega arith)
