@@ -1,5 +1,5 @@
 -- Section 4: sets of hashes, each a list in which repeats count, one after the other. Definitions only.
-use Rattle.std.specs.Prelude.{ℕ, ◌+◌, ◌-◌, ◌<◌, List, get_or, take, drop}
+use Rattle.std.specs.Prelude.{ℕ, ◌+◌, ◌-◌, List, get_or, take, drop}
 use Rattle.lists.specs.Ranges.{table}
 
 -- the set i, from the hashes of all one after the other and the n + 1 offsets at which they begin and end

@@ -1,5 +1,5 @@
 -- Offsets that are in order. Statements only.
-use Rattle.std.specs.Prelude.{ℕ, ◌+◌, ◌-◌, ◌≤◌, ◌<◌, ◌≡◌, List, length, get_or}
+use Rattle.std.specs.Prelude.{ℕ, ◌+◌, ◌≤◌, ◌<◌, ◌≡◌, List, length, get_or}
 
 -- n + 1 offsets that never fall, none above the number of hashes
 pub record Offsets (n : ℕ) (offsets : List ℕ) (total : ℕ) : Type 0 where
