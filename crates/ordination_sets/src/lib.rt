@@ -56,6 +56,7 @@ pub fn too_short(n: usize, out: usize, words: usize) -> bool
 }
 
 // The lines that do not look at the hashes. `short` says that a slice of the operation is short, `beyond` that another of its arguments is beyond its limit.
+#[tactic(auto, unfolding(outcome::specs::Refusals::first, crate::specs::Lines::early_lines))]
 pub fn early(offsets: &[usize], n: usize, hashes: usize, short: bool, beyond: bool) -> Check
     ensures { told result ≡ first (early_lines n hashes offsets.now short beyond) }
 {
@@ -81,6 +82,7 @@ pub fn early(offsets: &[usize], n: usize, hashes: usize, short: bool, beyond: bo
 }
 
 // The lines that look at the hashes, by the number of selected ones.
+#[tactic(auto, unfolding(outcome::specs::Refusals::first, crate::specs::Lines::late_lines))]
 pub fn late(m: usize) -> Check
     ensures { told result ≡ first (late_lines m) }
 {
