@@ -1,0 +1,6 @@
+-- `dapc_scores::nearest_centroid::assign` meets its contract. After i turns the first i samples are assigned and counted.
+use Rattle.dapc_scores.proofs.Assigning.{Assigning}
+use Rattle.dapc_scores.proofs.nearest_centroid.assign.Given as goal
+
+abbrev pub invariant-loop-i : goal.invariant-loop-i
+invariant-loop-i l = Assigning l.axes l.g l.groups l.scores l.cen l.initial.found l.found l.t.right l.t.unordered l.i
