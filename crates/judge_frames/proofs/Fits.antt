@@ -1,6 +1,6 @@
 -- Every lot that is read fits its n, is symmetric and has a diagonal of 0; so the table's first line does not hold for it, and where 3 does not hold 14 does not.
 use Rattle.lists.proofs.Base.{ℕ, zero, suc, ◌+◌, ◌*◌, ◌≡◌, refl, sym, ap, ap₂, ◌∙◌, subst, Bool, true, false, ◌&&◌, ◌||◌, cond, List, [], ◌∷◌, ◌++◌}
-use Rattle.lists.proofs.Base.{map, ⊎_elim, arith, zero-add, eqb, leb, ltb, length, length-append, get_or, nan, is_nan, Float, eq-eqb, leb-true, ltb-true, lt-ltb, not, not-false, ◌<◌}
+use Rattle.lists.proofs.Base.{map, ⊎_elim, arith, zero-add, eqb, leb, ltb, length, length-append, nan, is_nan, Float, eq-eqb, leb-true, ltb-true, lt-ltb, not, not-false, ◌<◌}
 use lib.Dec.{T}
 use lib.Ieee.{le, ne}
 use Rattle.float.specs.Floats.{f64, zero⁺, 2^20}

@@ -1,4 +1,4 @@
--- The laws of hexadecimal fields, frames, lines and the end; of pairs and stages; of texts and the walks of the reader.
+-- The laws of hexadecimal fields, frames, lines and the end; of pairs and stages; of texts.
 pub mod HexFields
 pub mod LineFrames
 pub mod TextLines
@@ -12,6 +12,3 @@ pub mod Fits
 pub mod ReadFronts
 pub mod AllPairs
 pub mod LongestText
-pub mod Walking
-pub mod Returned
-pub mod ReaderCalls

@@ -86,6 +86,8 @@ module _ {text : List ℕ} {f : Frame} {next : ℕ} (l : IsLine text 0 f next) w
     the_rest = l.the_rest;
   }
 
+pub ruleset header_tests = (not-a1, too_many, not-a-flag)
+
 -- ---- the samples
 
 pub not-a2 : (before : List Frame) (f : Frame) → (f.kind ≡ 0xa2 → ⊥) → is_sample before f ≡ false

@@ -24,6 +24,7 @@ pub enum Opening {
 }
 
 // The header, and where the next line starts.
+#[tactic(auto, using(crate::proofs::TakenFrames::header_tests), unfolding(crate::specs::inner::Stages::OpenedBy))]
 fn read_header(text: &[u8]) -> Opening
     ensures { OpenedBy text.now result }
 {

@@ -6,7 +6,7 @@ ghost use Rattle.judge_frames.specs.inner.Reader.{read_from, read_next, fields_a
 ghost use Rattle.judge_frames.specs.Frame.{no_frame, frame_of, frame};
 
 // The number in a field of digits.
-#[derive(Drop)]
+#[derive(Clone, Copy)]
 pub enum Field {
     Number(u64),
     Malformed,
@@ -77,7 +77,7 @@ fn past(line: &[u8], at: usize, count: usize) -> usize
 
 // ---- the frame reader: it holds the line, its position and the field before it, and leaves the work to `digits_at` and `past`
 
-#[derive(Drop)]
+#[derive(Clone, Copy)]
 pub struct FrameReader<'a> {
     pub line: &'a [u8],
     pub at: usize,
