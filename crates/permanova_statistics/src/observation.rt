@@ -147,7 +147,7 @@ fn list_groups(
     anova::fill_means(z, m, g, next, mem, means);
 }
 
-#[derive(Drop)]
+#[derive(Clone, Copy)]
 pub struct Observed {
     pub total: f64,
     pub f: f64,

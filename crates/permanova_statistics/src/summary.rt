@@ -9,7 +9,7 @@ ghost use Rattle.permanova_statistics.specs.Summaries.{summary_of};
 use crate::observation::Observed;
 use lot_design::{Design, strata};
 
-#[derive(Drop)]
+#[derive(Clone, Copy)]
 pub struct Summary {
     // kept samples and groups
     pub n: usize,
