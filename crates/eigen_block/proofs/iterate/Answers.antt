@@ -1,0 +1,48 @@
+-- `eigen_block::iterate` meets its contract. After t rounds, what is left to do from here gives what was to be done at the start.
+use Rattle.lists.proofs.Base.{◌≡◌, refl, sym, ap, ◌∙◌, List, ℕ, arith, length, Float}
+use Rattle.eigen_block.specs.Rounds.{ritz}
+use Rattle.eigen_block.proofs.RoundFuel.{rounds-none, rounds-end, rounds-on}
+use Rattle.eigen_block.proofs.iterate.Goals as goal
+
+-- as many Ritz values as at the start
+as_many : (n : ℕ) {k k₀ : ℕ} (q aq : List Float) {l : List Float} → k ≡ k₀ → l ≡ ritz n k q aq → l ≡ ritz n k₀ q aq
+as_many n q aq e f = f ∙ ap (λ (k : ℕ). ritz n k q aq) e
+
+pub loop-t-init : goal.loop-t-init
+loop-t-init c = (refl, refl, refl, c.requires.4, refl)
+
+pub round-requires : goal.round-requires
+round-requires c =
+    let p = c.requires in
+    let inv = c.loop-t.invariant in (inv.0 ∙ p.0, inv.1 ∙ p.1, p.2, omega (arith, inv.2, p.3), inv.3)
+
+pub returns-then-round : goal.returns-then-round
+returns-then-round c =
+    let a = c.args in
+    let made = c.round.ensures in (
+      rounds-end a.n (a.a.now) a.b (length (a.before.now)) a.shift c.loop-t.t c.loop-t.before c.loop-t.q
+          (omega (arith, c.loop-t-test.true)) made.0
+          (as_many a.n _ _ c.loop-t.invariant.2 made.2) (sym made.3 ∙ c.if-round.true) ∙ c.loop-t.invariant.4,
+      made.1,
+    )
+
+pub loop-t-preserved : goal.loop-t-preserved
+loop-t-preserved c =
+    let a = c.args in
+    let made = c.round.ensures in (
+      c.round.auto.q ∙ c.loop-t.invariant.0,
+      c.round.auto.aq ∙ c.loop-t.invariant.1,
+      c.round.auto.before ∙ c.loop-t.invariant.2,
+      made.1,
+      rounds-on a.n (a.a.now) a.b (length (a.before.now)) a.shift c.loop-t.t c.loop-t.before c.loop-t.q
+          (omega (arith, c.loop-t-test.true)) made.0
+          (as_many a.n _ _ c.loop-t.invariant.2 made.2) (sym made.3 ∙ c.if-round.false) ∙ c.loop-t.invariant.4,
+    )
+
+pub returns : goal.returns
+returns c =
+    let a = c.args in (
+      rounds-none a.n (a.a.now) a.b (length (a.before.now)) a.shift c.loop-t.t c.loop-t.before c.loop-t.q
+          (omega (arith, c.loop-t-test.false)) ∙ c.loop-t.invariant.4,
+      c.loop-t.invariant.3,
+    )
