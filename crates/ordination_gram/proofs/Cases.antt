@@ -1,6 +1,6 @@
 -- Worked sets as theorems: case (j) of document 01, and a set with repeats.
 use Rattle.lists.proofs.Base.{ℕ, ◌≤◌, ◌≡◌, refl, List, [], ◌∷◌, map, le-ltb, length}
-use lib.Ieee.{Float, add, sub, mul, div, neg, of_bits, to_bits, of_int, odd, size}
+use lib.Ieee.{Float, add, sub, mul, div, of_bits, to_bits, of_int, odd, size}
 use Rattle.float.specs.Floats.{bits}
 use Rattle.lists.specs.{Ranges.up_from, Ranges.range, Ranges.table, Ranges.rows, Ranges.grid, Filters.filter, Filters.count_if, Filters.any}
 use Rattle.lists.specs.{Numbers.how_many, Numbers.contains, Numbers.insert_up, Numbers.upward, Sums.sum_from, Writes.over, Writes.cleared}
@@ -23,7 +23,7 @@ pub case-j : map bits (gram 4 hashes offsets) ≡ (let p : ℕ = 0x3fd0_0000_000
     ∷ p ∷ p ∷ q ∷ q
     ∷ q ∷ q ∷ p ∷ p
     ∷ q ∷ q ∷ p ∷ p ∷ [])
-unfolding add sub mul div neg of_bits to_bits of_int odd size up_from table rows grid filter count_if any how_many contains insert_up upward sum_from set_at sets selected frequency mean_sum shared gram
+unfolding add sub mul div of_bits to_bits of_int odd size up_from table rows grid filter count_if any how_many contains insert_up upward sum_from set_at sets selected frequency mean_sum shared gram
 case-j = refl
 
 -- the whole call: one selected hash, the matrix in front of what was lent, the rest as it was, and the words cleared

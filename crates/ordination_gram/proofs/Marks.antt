@@ -16,6 +16,13 @@ unfolding set_at
 set-columns chosen hashes offsets i = ap (take (get_or offsets (i + 1) 0 - get_or offsets i 0)) (drop-map (column_of chosen) (get_or offsets i 0) hashes)
     ∙ take-map (column_of chosen) (get_or offsets (i + 1) 0 - get_or offsets i 0) (drop (get_or offsets i 0) hashes)
 
+-- the bits and the sum of set k
+abbrev pub bits_of : List ℕ → List ℕ → ℕ → List ℕ → List Float → ℕ → List ℕ
+bits_of hashes offsets w chosen means k = packed w (present (length means) (set_at (map (column_of chosen) hashes) offsets k))
+
+abbrev pub sum_of : List ℕ → List ℕ → List ℕ → List Float → ℕ → Float
+sum_of hashes offsets chosen means k = column_sum means (set_at (map (column_of chosen) hashes) offsets k)
+
 -- i members of the set are passed: the row of k words has their bits, and what is left of the means, added to s, gives the whole sum
 pub record Marking (means : List Float) (columns : List ℕ) (k : ℕ) (row : List ℕ) (s : Float) (i : ℕ) : Type 0 where
   pub inside : i ≤ length columns

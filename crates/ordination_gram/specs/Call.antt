@@ -1,5 +1,5 @@
 -- A whole call of `gram_matrix`: its answer, and what all that is lent holds afterwards. Definitions only.
-use Rattle.std.specs.Prelude.{ℕ, ◌*◌, Bool, false, List, map, length, Float}
+use Rattle.std.specs.Prelude.{ℕ, ◌*◌, Bool, false, List, length, Float}
 use Rattle.float.specs.Floats.{zero⁺}
 use Rattle.outcome.specs.Refusals.{first}
 use Rattle.outcome.specs.Numbers.{number}
@@ -7,7 +7,7 @@ use Rattle.outcome.specs.Outcome.{Outcome, answered, refused, judged}
 use Rattle.outcome.specs.Slices.{output, work}
 use Rattle.ordination_gram.specs.declared.Answer.{Answer}
 use Rattle.ordination_gram.specs.declared.Answer.TheVariants.{Features, Refused}
-use Rattle.ordination_hashes.specs.Selected.{selected, frequency}
+use Rattle.ordination_hashes.specs.Selected.{selected}
 use Rattle.ordination_gram.specs.Gram.{gram}
 use Rattle.ordination_sets.specs.Lines.{too_short, gram_lines}
 

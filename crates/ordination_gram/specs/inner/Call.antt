@@ -1,5 +1,5 @@
 -- What is left by the lines of the Gram matrix, and by an operation that goes on with the matrix. Definitions and statements only.
-use Rattle.std.specs.Prelude.{ℕ, ◌*◌, Bool, false, ◌≡◌, List, map, take, Float}
+use Rattle.std.specs.Prelude.{ℕ, ◌*◌, Bool, ◌≡◌, List, map, take, Float}
 use Rattle.float.specs.Floats.{zero⁺}
 use Rattle.outcome.specs.Slices.{output, work}
 use Rattle.ordination_gram.specs.declared.Answer.{Answer}
