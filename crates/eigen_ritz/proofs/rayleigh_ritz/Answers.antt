@@ -1,0 +1,7 @@
+-- `eigen_ritz::rayleigh_ritz` meets its contract. Room of its own.
+use Rattle.lists.proofs.Base.{arith, length-take-le}
+use Rattle.eigen_ritz.proofs.FoundPairs.{small-square}
+use Rattle.eigen_ritz.proofs.rayleigh_ritz.Goals as goal
+
+pub rayleigh_ritz_in-requires : goal.rayleigh_ritz_in-requires
+rayleigh_ritz_in-requires c = (c.requires.0, length-take-le _ _ (omega (arith, small-square c.requires.4)), c.requires.1, c.requires.2, c.requires.3, c.requires.4)
