@@ -11,6 +11,9 @@ mod replay_test;
 mod replay_top_eigs;
 
 use replay::Held;
+use std::io::Read;
+use std::rt::Files;
+use std::{fs, io};
 
 // A record of an operation.
 fn hold(op: u64, b: &[u8]) -> Held {
@@ -39,35 +42,36 @@ fn hold(op: u64, b: &[u8]) -> Held {
 }
 
 // All records of an open file.
-fn all(fd: i32, name: &[u8], op: u64, b: &mut [u8]) {
-    let records = replay::records(fd, op);
+fn all<R: Read>(rt: &impl Print, file: &mut R, name: &str, op: u64, b: &mut [u8]) {
+    let records = replay::records(file, op);
     let mut tally = replay::none();
     for t in 0..records {
-        let k = replay::next(fd, b);
-        tally = replay::add(tally, hold(op, &b[..k]), t);
+        let k = replay::next(file, b);
+        tally = replay::add(rt, tally, hold(op, &b[..k]), t);
     }
-    replay::tell(name, tally);
+    replay::tell(rt, name, tally);
 }
 
 // The same, with room for a record.
-fn with_room(fd: i32, name: &[u8], op: u64) {
+fn with_room<R: Read>(rt: &impl Print, file: &mut R, name: &str, op: u64) {
     let mut b = [0u8; 640000];
-    all(fd, name, op, &mut b);
+    all(rt, file, name, op, &mut b);
 }
 
-// All records of a file.
-fn file(path: &[u8], op: u64) {
-    let fd = os::open_read(path);
-    with_room(fd, path, op);
-    libc::close(fd);
+// All records of a file; a file that cannot be opened has none.
+fn file(rt: &(impl Files + Print), path: &str, op: u64) {
+    match fs::open(rt, path) {
+        Ok(mut opened) => with_room(rt, &mut opened, path, op),
+        Err(_) => with_room(rt, &mut io::empty(), path, op),
+    }
 }
 
-fn main() {
-    file(b"test.bin", 1);
-    file(b"pcoa.bin", 2);
-    file(b"hash_pca.bin", 3);
-    file(b"dapc.bin", 4);
-    file(b"jacobi_eigen.bin", 5);
-    file(b"top_eigs.bin", 6);
-    file(b"gram_matrix.bin", 7);
+fn main(rt: HostRuntime) {
+    file(&rt, "test.bin", 1);
+    file(&rt, "pcoa.bin", 2);
+    file(&rt, "hash_pca.bin", 3);
+    file(&rt, "dapc.bin", 4);
+    file(&rt, "jacobi_eigen.bin", 5);
+    file(&rt, "top_eigs.bin", 6);
+    file(&rt, "gram_matrix.bin", 7);
 }

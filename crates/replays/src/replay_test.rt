@@ -100,7 +100,7 @@ fn same_group(b: &[u8], at: usize, name: u16, count: u16, mean: f64) -> bool {
 // ---- a call
 
 // Where each part of a record of n samples begins.
-#[derive(Drop)]
+#[derive(Clone, Copy)]
 pub struct Places {
     labels: usize,
     strata: usize,

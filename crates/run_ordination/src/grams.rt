@@ -1,6 +1,5 @@
 // Calls of `gram_matrix` on document 01's case (j), on sets with repeats and on sets that are turned away, a line for each.
-use crate::shown::{all_are, all_words};
-use libc::STDOUT_FILENO;
+use crate::shown::{all_are, all_words, put};
 use ordination_gram::{Answer, gram_matrix};
 use outcome::number_of;
 
@@ -17,11 +16,11 @@ fn begins(x: &[f64], y: &[f64]) -> bool {
     true
 }
 
-fn tell(ok: bool) {
+fn tell(rt: &impl Print, ok: bool) {
     if ok {
-        io::write_all(STDOUT_FILENO, b"right\n");
+        put(rt, "right\n");
     } else {
-        io::write_all(STDOUT_FILENO, b"wrong\n");
+        put(rt, "wrong\n");
     }
 }
 
@@ -151,14 +150,14 @@ fn many_given() -> bool {
 }
 
 // Just the words that three sets take, and one less: 1 is tested before 7.
-fn widths() {
-    tell(widest());
-    tell(widest_with_short_words());
+fn widths(rt: &impl Print) {
+    tell(rt, widest());
+    tell(rt, widest_with_short_words());
     let mut words = [7u64; 48];
-    tell(too_wide(7, &mut words));
+    tell(rt, too_wide(7, &mut words));
     let mut short = [7u64; 47];
-    tell(too_wide(1, &mut short));
-    tell(many_given());
+    tell(rt, too_wide(1, &mut short));
+    tell(rt, many_given());
 }
 
 // 65,536 hashes pass the limit, and have none that can be used; one more is beyond it.
@@ -189,30 +188,30 @@ fn too_many() -> bool {
 }
 
 // No hash at all in 0, 2 and 3 sets; a hash in every set, and one three times in one set: both are as frequent as there are samples.
-fn catches() {
+fn catches(rt: &impl Print) {
     let none: [u64; 0] = [];
     let all = [5u64, 5, 5];
-    tell(refused(6, &none, &[0], 0));
-    tell(refused(6, &none, &[0, 0, 0], 2));
-    tell(refused(13, &none, &[0, 0, 0, 0], 3));
-    tell(refused(13, &all, &[0, 1, 2, 3], 3));
-    tell(refused(13, &all, &[0, 3, 3, 3], 3));
+    tell(rt, refused(6, &none, &[0], 0));
+    tell(rt, refused(6, &none, &[0, 0, 0], 2));
+    tell(rt, refused(13, &none, &[0, 0, 0, 0], 3));
+    tell(rt, refused(13, &all, &[0, 1, 2, 3], 3));
+    tell(rt, refused(13, &all, &[0, 3, 3, 3], 3));
 }
 
-pub fn run() {
+pub fn run(rt: &impl Print) {
     let two = [5u64, 5];
     let other = [5u64, 6];
-    tell(case_j());
-    tell(repeats());
-    tell(refused(1, &two, &[0, 1, 2, 2, 2], 5));
-    tell(refused(1, &two, &[0, 1, 2, 2, 2], 18446744073709551615));
-    tell(refused(1, &two, &[0, 1, 2, 2, 1], 4));
-    tell(refused(1, &two, &[0, 2, 1, 2, 2], 4));
-    tell(refused(1, &two, &[1, 1, 2, 2, 2], 4));
-    tell(refused(6, &two, &[0, 1, 2], 2));
-    tell(refused(13, &other, &[0, 1, 2, 2, 2], 4));
-    widths();
-    tell(longest());
-    tell(too_many());
-    catches();
+    tell(rt, case_j());
+    tell(rt, repeats());
+    tell(rt, refused(1, &two, &[0, 1, 2, 2, 2], 5));
+    tell(rt, refused(1, &two, &[0, 1, 2, 2, 2], 18446744073709551615));
+    tell(rt, refused(1, &two, &[0, 1, 2, 2, 1], 4));
+    tell(rt, refused(1, &two, &[0, 2, 1, 2, 2], 4));
+    tell(rt, refused(1, &two, &[1, 1, 2, 2, 2], 4));
+    tell(rt, refused(6, &two, &[0, 1, 2], 2));
+    tell(rt, refused(13, &other, &[0, 1, 2, 2, 2], 4));
+    widths(rt);
+    tell(rt, longest());
+    tell(rt, too_many());
+    catches(rt);
 }

@@ -1,21 +1,26 @@
 // Numbers and lists written, and lists of one number alone.
-use libc::STDOUT_FILENO;
 
-// The bits of x, or `nan`.
-pub fn show_number(x: f64) {
-    io::write_all(STDOUT_FILENO, b" ");
-    if x != x {
-        io::write_all(STDOUT_FILENO, b"nan");
-        return;
-    }
-    io::print_hex(STDOUT_FILENO, f64::to_bits(x), 16);
+// A write that fails is passed over.
+pub fn put(rt: &impl Print, text: &str) {
+    let _ = rt.print(text);
 }
 
-pub fn show(s: &[f64]) {
-    for i in 0..s.len() {
-        show_number(s[i]);
+// The bits of x, or `nan`.
+pub fn show_number(rt: &impl Print, x: f64) {
+    put(rt, " ");
+    if x != x {
+        put(rt, "nan");
+        return;
     }
-    io::write_all(STDOUT_FILENO, b"\n");
+    let bits = f64::to_bits(x);
+    let _ = print!(rt; "{bits:016x}");
+}
+
+pub fn show(rt: &impl Print, s: &[f64]) {
+    for i in 0..s.len() {
+        show_number(rt, s[i]);
+    }
+    put(rt, "\n");
 }
 
 // Whether every entry is x.
