@@ -17,9 +17,11 @@ case-l-passes = refl
 
 -- Calls: two labels of two samples each, and of two and three, with 2 columns of any coordinates allowed and outputs of just the length.
 pub call-of-four : (x : List Float) → length x ≡ 8 → any bad_coordinate x ≡ false → first (dapc_lines 4 2 x (0 ∷ 0 ∷ 1 ∷ 1 ∷ []) 10 4) ≡ refused 9
-unfolding first dapc_lines shape_lines group_lines misfits short any columns_used kept_count group_count group_labels kept_labels gathered kept twice how_many count_if filter range up_from upward insert_up
+unfolding first dapc_lines shape_lines group_lines misfits short any columns_used kept_count group_count group_labels kept_labels gathered kept twice
+    how_many count_if filter range up_from upward insert_up
 call-of-four x e v = rw (e, v)
 
 pub call-of-five : (x : List Float) → length x ≡ 10 → any bad_coordinate x ≡ false → first (dapc_lines 5 2 x (0 ∷ 0 ∷ 1 ∷ 1 ∷ 1 ∷ []) 12 5) ≡ passed
-unfolding first dapc_lines shape_lines group_lines misfits short any columns_used kept_count group_count group_labels kept_labels gathered kept twice how_many count_if filter range up_from upward insert_up
+unfolding first dapc_lines shape_lines group_lines misfits short any columns_used kept_count group_count group_labels kept_labels gathered kept twice
+    how_many count_if filter range up_from upward insert_up
 call-of-five x e v = rw (e, v)

@@ -2,7 +2,6 @@
 use Rattle.std.specs.Prelude.{ℕ, List, Float}
 use Rattle.outcome.specs.Refusals.{first}
 use Rattle.lot.specs.Kept.{kept_count, group_count}
-use Rattle.dapc_discriminant.specs.Dapc.{dapc}
 use Rattle.dapc_discriminant.specs.Outputs.{Called}
 use Rattle.dapc.specs.DapcLines.{group_lines}
 use Rattle.dapc.specs.Call.{call_by}
