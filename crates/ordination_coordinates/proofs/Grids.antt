@@ -1,5 +1,5 @@
 -- A matrix that is centred in its place, row after row.
-use Rattle.lists.proofs.Base.{◌≡◌, ap, ap₂, ◌∙◌, List, ℕ, ◌+◌, ◌-◌, ◌*◌, ◌<◌, arith, length, get_or, take, drop, Float, nan}
+use Rattle.lists.proofs.Base.{◌≡◌, ap, ap₂, ◌∙◌, List, ℕ, ◌+◌, ◌-◌, ◌*◌, ◌<◌, arith, get_or, take, drop, Float, nan}
 use Rattle.lists.specs.{Ranges.table, Ranges.rows, Ranges.grid, Rows.entry}
 use Rattle.lists.proofs.{Ranges.length-table, Ranges.length-rows, Ranges.table-ext, Rows.part-row, Rows.get_or-row}
 use Rattle.lists.proofs.Writes.{Filling, get_or-behind}

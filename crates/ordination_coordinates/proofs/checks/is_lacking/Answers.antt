@@ -1,0 +1,10 @@
+-- `ordination_coordinates::checks::is_lacking` meets its contract. Test by test.
+use Rattle.lists.proofs.Base.{sym, ◌∙◌}
+use Rattle.ordination_coordinates.proofs.HashPcaLengths.{lacking-first, lacking-words, words-test}
+use Rattle.ordination_coordinates.proofs.checks.is_lacking.Goals as goal
+
+pub returns-then-too_short : goal.returns-then-too_short
+returns-then-too_short c = lacking-first _ _ _ _ _ _ _ _ (sym c.too_short.ensures ∙ c.if-too_short.true)
+
+pub returns : goal.returns
+returns c = lacking-words _ _ _ _ _ _ _ _ (sym c.too_short.ensures ∙ c.if-too_short.false) (words-test c.args.words c.args.n)
