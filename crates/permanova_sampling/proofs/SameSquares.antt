@@ -15,7 +15,7 @@ module _ (lot : Lot) (e : List Float) (same : SameSquares e lot.distances) (seed
 
   same-q : dispersion_pvalue (with_distances lot e) seed n ≡ dispersion_pvalue lot seed n
   unfolding dispersion_pvalue p_value_of parts_of uninformed informative_count strata strata_count held_strata dispersion_of
-  same-q = λ i. p_value_of lot (dispersion_of lot (same-z lot e same i (groups lot.labels))) seed n
+  same-q = rw (same-z lot e same)
 
   pub same-tested : tested (with_distances lot e) seed n ≡ tested lot seed n
   unfolding tested sizes_of

@@ -52,7 +52,8 @@ module _ (lot : Lot) (draws : Draws) {d : Design} {t w z : List Float} {o : Obse
   pub p-values-are : {first second : Statistic} {none : Bool} {r : PValues} → first ≡ statistic o.f → second ≡ statistic o.disp_f → none ≡ (d.stratified && eqb d.informing 0)
       → r ≡ both none (seen_as first second o.total) (drawn d t w z (seen_as first second o.total) draws) draws.many
       → r ≡ p_values_of lot draws.seed draws.many
-  unfolding both p_values_of location_pvalue dispersion_pvalue p_value_of parts_of drawn hits_among location_hit dispersion_hit hits_of observed_of uninformed location_f total_of within_of dispersion_f dispersion_of
+  unfolding both p_values_of location_pvalue dispersion_pvalue p_value_of parts_of drawn hits_among location_hit dispersion_hit hits_of observed_of uninformed
+      location_f total_of within_of dispersion_f dispersion_of
   p-values-are ef es en er =
       let is = e.described in
       rw (er, en, es, ef, e.observed, e.distances, e.pair_terms, e.weights, is.groups_are, is.strata_are, is.kept_many, is.groups_many, is.strata_many, is.informing, is.stratified)

@@ -21,7 +21,7 @@ pub struct Seen {
 }
 
 // How many shuffles there are, and from which seed.
-#[derive(Drop)]
+#[derive(Clone, Copy)]
 pub struct Draws {
     pub seed: u64,
     pub many: u64,

@@ -22,7 +22,7 @@ use permanova_statistics::observation::Observed;
 use permanova_statistics::summary::Summary;
 
 // What the test answers.
-#[derive(Drop)]
+#[derive(Clone, Copy)]
 pub struct TestResult {
     // kept samples, groups, r2, the informative fraction, warnings
     pub summary: Summary,

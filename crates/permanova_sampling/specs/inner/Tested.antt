@@ -1,7 +1,6 @@
 -- Both p of a lot together. Definitions only.
 use Rattle.std.specs.Prelude.{ℕ}
 use Rattle.lot.specs.Lot.{Lot}
-use Rattle.lot.specs.Kept.{groups}
 use Rattle.permanova_sampling.specs.declared.PValues.{PValues}
 use Rattle.permanova_sampling.specs.Sampled.{location_pvalue, dispersion_pvalue}
 
