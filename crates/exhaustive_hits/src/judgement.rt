@@ -7,21 +7,21 @@ use permanova_p_values::Statistic;
 use permanova_statistics::summary::Summary;
 
 // A statistic of the observed way, and how many ways are its hits.
-#[derive(Drop)]
+#[derive(Clone, Copy)]
 pub struct Tested {
     pub statistic: Statistic,
     pub hits: usize,
 }
 
 // The assignment of the observed way, and its hits.
-#[derive(Drop)]
+#[derive(Clone, Copy)]
 pub struct Assigned {
     pub assignment: Assignment,
     pub hits: usize,
 }
 
 // What is answered. Of the warnings only bits 0 to 4 are set.
-#[derive(Drop)]
+#[derive(Clone, Copy)]
 pub struct Judgement {
     pub summary: Summary,
     // M
@@ -32,7 +32,7 @@ pub struct Judgement {
 }
 
 // The three statistics of the observed way, and their hits.
-#[derive(Drop)]
+#[derive(Clone, Copy)]
 pub struct Counted {
     pub seen: Seen,
     pub hits: Hits,

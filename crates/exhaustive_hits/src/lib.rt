@@ -11,14 +11,14 @@ ghost use Rattle.exhaustive_hits.specs.inner.WayHits.{hits_of};
 use permanova_p_values::Statistic;
 
 // How many kept samples were found to be in their own group, or none where `dapc` refuses.
-#[derive(Drop)]
+#[derive(Clone, Copy)]
 pub enum Assignment {
     Right(usize),
     Withheld,
 }
 
 // What is observed.
-#[derive(Drop)]
+#[derive(Clone, Copy)]
 pub struct Seen {
     pub location: Statistic,
     pub dispersion: Statistic,
@@ -26,7 +26,7 @@ pub struct Seen {
 }
 
 // How many ways are hits of each.
-#[derive(Drop)]
+#[derive(Clone, Copy)]
 pub struct Hits {
     pub location: usize,
     pub dispersion: usize,

@@ -4,10 +4,7 @@ use Rattle.limits.specs.Limits.{judged_components}
 use Rattle.outcome.specs.Refusals.{first}
 use Rattle.outcome.specs.Outcome.{Told}
 use Rattle.lot.specs.Lot.{Lot}
-use Rattle.lot.specs.Kept.{groups}
 use Rattle.lot.specs.Lines.{test_lines}
-use Rattle.permanova_statistics.specs.Statistics.{z_of}
-use Rattle.exhaustive_ways.specs.Ways.{way_count}
 use Rattle.exhaustive_hits.specs.Call.{Slices, too_short}
 
 -- lines 1 to 5
