@@ -16,7 +16,7 @@ use permanova_p_values::Statistic;
 
 // What is the same for every way: how many samples there are, in how many groups, on how many columns, of which some lead; whether `dapc` refuses these
 // coordinates whatever the way; and the total.
-#[derive(Drop)]
+#[derive(Clone, Copy)]
 pub struct Frame {
     pub n: usize,
     pub groups: usize,
