@@ -7,4 +7,4 @@ use Rattle.eigen_rotations.proofs.diagonal.off_in_row.Given as goal
 
 abbrev pub invariant-loop-j : goal.invariant-loop-j
 invariant-loop-j l = (l.j ≤ length l.row) × (sum_from l.t (map (λ j. get_or l.row j nan ⊗ get_or l.row j nan) (filter (λ j. not (eqb j l.i)) (range l.j (length l.row))))
-        ≡ sum_from l.sum (squares_but l.i l.row))
+    ≡ sum_from l.sum (squares_but l.i l.row))
