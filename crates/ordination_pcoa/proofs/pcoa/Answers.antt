@@ -5,9 +5,6 @@ use Rattle.ordination_pcoa.proofs.Calls.{call-refused, call-passed}
 use Rattle.ordination_coordinates.proofs.Lines.{passed-fits}
 use Rattle.ordination_pcoa.proofs.pcoa.Goals as goal
 
-pub check-c-requires : goal.check-c-requires
-check-c-requires c = c.components_used-k.ensures
-
 pub solve-requires : goal.solve-requires
 solve-requires c =
     let a = c.args in
