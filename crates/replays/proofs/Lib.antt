@@ -1,2 +1,2 @@
--- The lengths of arrays of zeros.
+-- Lengths of arrays of zeros.
 pub mod Blank

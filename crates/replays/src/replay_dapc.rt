@@ -17,11 +17,12 @@ fn same_counts(b: &[u8], at: usize, s: Separation) -> bool {
 
 // An answer, against that which stands from word `at` on: m, g, p, axes, right count, g labels, values, scores, groups.
 fn scored(b: &[u8], at: usize, n: usize, s: Separation, out: &[f64], assigned: &[u16]) -> bool {
+    let axes = s.axes;
     if !same_counts(b, after(at, 2), s) {
         return false;
     }
     let from = after(after(at, 5), replay::number(b, after(at, 1), 256));
-    let k = after(s.axes, product(n, s.axes));
+    let k = after(axes, product(n, axes));
     if out.len() < k {
         return false;
     }

@@ -1,7 +1,0 @@
--- `replays::replay_top_eigs::ask` meets its contract. Each array has its length.
-use Rattle.replays.proofs.Blank.{long-floats}
-use Rattle.replays.proofs.replay_top_eigs.ask.Tie as tie
-
-pub ask-spec : {M : Type 1} → Rattle.replays.proofs.replay_top_eigs.ask.Statement.statement M
-ask-spec = tie.close (tie.spec (λ c. long-floats 65792) (λ c. long-floats 65536) (λ c. long-floats 65536) (λ c κs. tt)
-    (λ c. c.before.before.before.before.before.top-eigs.auto.1.1.1.0) (λ c. tt))
