@@ -12,7 +12,6 @@ use Rattle.outcome.specs.Slices.{untouched, output, work}
 use Rattle.outcome.proofs.Table.{first-after, first-before, told-refused}
 use Rattle.lot.specs.{Lot.Lot, Lot.lot_of, Kept.group_count, Lines.test_lines}
 use Rattle.lot.proofs.AcceptedLots.{lines-untouched}
-use Rattle.permanova_dispersion.specs.Anova.{mean_z}
 use Rattle.lot_design.specs.declared.Design.{Design}
 use Rattle.lot_design.specs.inner.Designs.{group_labels_of, Describes}
 use Rattle.ordination_coordinates.specs.{Finish.Coordinates, Pcoa.pcoa}
