@@ -26,8 +26,8 @@ use Rattle.cases.specs.Cases.{sampled, told, held_test, Holds, c-F, f-sampled, h
 
 -- (c) the example: F 32
 passes-c : told (λ r. bits r.f ∷ []) (sampled (example (0 ∷ 0 ∷ 1 ∷ 1 ∷ []))).answer ≡ 0 ∷ bits (tested (example (0 ∷ 0 ∷ 1 ∷ 1 ∷ [])) 1 9).f ∷ []
-unfolding test_call leaves test_check too_short short any first test_lines misfits unmirrored asymmetric nonzero_diagonal entry ne le of_bits of_int odd size group_count group_labels kept_labels gathered
-    kept twice how_many count_if filter range up_from upward insert_up
+unfolding test_call leaves test_check too_short short any first test_lines misfits unmirrored asymmetric nonzero_diagonal entry ne le of_bits of_int odd size
+    group_count group_labels kept_labels gathered kept twice how_many count_if filter range up_from upward insert_up
 passes-c = refl
 
 pub case-c : Holds c-F
@@ -36,16 +36,16 @@ case-c = passes-c ∙ ap (λ x. 0 ∷ bits x ∷ []) case-c-F
 
 -- (f) all distances 0: no p, and the labels, counts and mean z in front of the outputs
 passes-f : told (λ r. given r.p ∷ given r.disp_p ∷ []) (sampled zeros).answer ≡ 0 ∷ given (tested zeros 1 9).p ∷ given (tested zeros 1 9).disp_p ∷ []
-unfolding test_call leaves test_check too_short short any first test_lines misfits unmirrored asymmetric nonzero_diagonal entry ne le of_bits of_int odd size group_count group_labels kept_labels gathered
-    kept twice how_many count_if filter range up_from upward insert_up
+unfolding test_call leaves test_check too_short short any first test_lines misfits unmirrored asymmetric nonzero_diagonal entry ne le of_bits of_int odd size
+    group_count group_labels kept_labels gathered kept twice how_many count_if filter range up_from upward insert_up
 passes-f = refl
 
 slices-f : held_test (sampled zeros).after ≡ (0 ∷ 1 ∷ 7 ∷ 7 ∷ []) ++ (2 ∷ 2 ∷ 7 ∷ 7 ∷ []) ++ (0 ∷ 0 ∷ bits 2·0 ∷ bits 2·0 ∷ []) ++ replicate 32 0
 unfolding test_call leaves output work over cleared sizes_of sizes mean_z mean_of z_of dispersion.z_of distance_of root values value value_of
-    weighted_square_sum inside ordered_pairs group_weight weighted_squares_of weighted_squares weighted_square_at pair_terms_of pair_terms pair_term_at weights_of
-    weight_at square_at sum_from members pairs grid rows table groups position first_at kept_count larger lt add sub mul div neg to_bits test_check
-    too_short short any first test_lines misfits unmirrored asymmetric nonzero_diagonal entry ne le of_bits of_int odd size group_count group_labels kept_labels gathered kept twice how_many count_if filter
-    range up_from upward insert_up
+    weighted_square_sum inside ordered_pairs group_weight weighted_squares_of weighted_squares weighted_square_at pair_terms_of pair_terms pair_term_at
+    weights_of weight_at square_at sum_from members pairs grid rows table groups position first_at kept_count larger lt add sub mul div neg to_bits test_check
+    too_short short any first test_lines misfits unmirrored asymmetric nonzero_diagonal entry ne le of_bits of_int odd size group_count group_labels kept_labels
+    gathered kept twice how_many count_if filter range up_from upward insert_up
 slices-f = refl
 
 pub case-f : Holds f-sampled
@@ -53,6 +53,6 @@ case-f = let no-p = sampled-cases.case-f 1 9 in λ i. (passes-f ∙ (λ j. 0 ∷
 
 -- (h) labels 0, 0, 1: 5, and every slice as it was
 pub case-h : Holds h-sampled
-unfolding test_call leaves output work test_check too_short short any first test_lines misfits unmirrored asymmetric nonzero_diagonal entry ne le of_bits of_int odd size group_count group_labels kept_labels
-    gathered kept twice how_many count_if filter range up_from upward insert_up
+unfolding test_call leaves output work test_check too_short short any first test_lines misfits unmirrored asymmetric nonzero_diagonal entry ne le of_bits of_int
+    odd size group_count group_labels kept_labels gathered kept twice how_many count_if filter range up_from upward insert_up
 case-h = refl
