@@ -23,7 +23,7 @@
 --   `judge`         `judge_text`, written by `onto`    judge/specs/Judge, judge_printing/specs/Page
 -- The functions of include/lotjudge.h lay the same out as numbers and arrays (lotjudge_c/specs/Exported, c_layouts/specs/Layouts).
 use mathlib.Core.Path.{◌≡◌}
-use mathlib.Core.Bool.{Bool, true, false, not, ◌&&◌, ◌||◌, cond}
+use mathlib.Core.Bool.{Bool, true, false, ◌&&◌, ◌||◌, cond}
 use mathlib.Core.List.{List, [], ◌∷◌, ◌++◌, map}
 use Prim.Native.Nat.{ℕ, ◌+◌, ◌*◌, ◌≤◌, ◌<◌}
 use lib.Dec.{T, leb, ltb}
@@ -193,8 +193,8 @@ demand-3 = Demand.demand-3
 -- ---- section 7: the program
 
 -- Every lot that is read has at most 32 samples, slices of the lengths that its n asks, no weights, and a symmetric matrix with a diagonal of 0.
-pub read_fits : (text : List ℕ) (lot : Lot) → read_lot text ≡ answered lot → Fits lot
-read_fits = Fitting.read_fits
+pub read-fits : (text : List ℕ) (lot : Lot) → read_lot text ≡ answered lot → Fits lot
+read-fits = Fitting.read_fits
 
 -- So 14 never turns it away: where every distance is allowed (else it is 3), no entry differs from its mirror, and none on the diagonal from zero;
 pub read-mirrors : (lot : Lot) → Fits lot → any bad_distance lot.distances ≡ false → unmirrored lot.n lot.distances ≡ false
@@ -276,10 +276,10 @@ pub widest-passes : (n : ℕ) (hashes offsets : List ℕ) (short beyond : Bool) 
 widest-passes = LineOrder.widest-passes
 
 -- and 1,025 or more are 7.
-pub too_wide : (n : ℕ) (hashes offsets : List ℕ) (short beyond : Bool) → (bad_offsets n (length hashes) offsets || short) ≡ false
+pub too-wide : (n : ℕ) (hashes offsets : List ℕ) (short beyond : Bool) → (bad_offsets n (length hashes) offsets || short) ≡ false
     → (ltb most_samples n || ltb most_hashes (length hashes) || beyond) ≡ false → 3 ≤ n → 1025 ≤ length (selected n hashes)
     → first (gram_lines n hashes offsets short beyond) ≡ refused 7
-too_wide = LineOrder.too_wide
+too-wide = LineOrder.too_wide
 
 -- ---- lengths: line 1 of each operation holds the lengths of what is lent against its own list of those asked (`test_asks` beside `test_call`, and so for
 -- the others), and callers are told that list
