@@ -307,8 +307,9 @@ pub fn add(rt: &impl Print, t: Tally, h: Held, place: usize) -> Tally {
 }
 
 // The tally of a file, a line each.
-pub fn tell(rt: &impl Print, name: &str, t: Tally) {
-    let _ = println!(rt; "{name}");
+pub fn tell(rt: &impl Print, name: &[u8], t: Tally) {
+    let _ = rt.write_all(name);
+    let _ = rt.write_all(b"\n");
     print(rt, "  answers alike: ", t.answers);
     print(rt, "  refusals alike: ", t.refusals);
     print(rt, "  different: ", t.differences);

@@ -42,7 +42,7 @@ fn hold(op: u64, b: &[u8]) -> Held {
 }
 
 // All records of an open file.
-fn all<R: Read>(rt: &impl Print, file: &mut R, name: &str, op: u64, b: &mut [u8]) {
+fn all<R: Read>(rt: &impl Print, file: &mut R, name: &[u8], op: u64, b: &mut [u8]) {
     let records = replay::records(file, op);
     let mut tally = replay::none();
     for t in 0..records {
@@ -53,7 +53,7 @@ fn all<R: Read>(rt: &impl Print, file: &mut R, name: &str, op: u64, b: &mut [u8]
 }
 
 // The same, with room for a record.
-fn with_room<R: Read>(rt: &impl Print, file: &mut R, name: &str, op: u64) {
+fn with_room<R: Read>(rt: &impl Print, file: &mut R, name: &[u8], op: u64) {
     let mut b = [0u8; 640000];
     all(rt, file, name, op, &mut b);
 }
@@ -61,8 +61,8 @@ fn with_room<R: Read>(rt: &impl Print, file: &mut R, name: &str, op: u64) {
 // All records of a file; a file that cannot be opened has none.
 fn file(rt: &(impl Files + Print), path: &str, op: u64) {
     match fs::open(rt, path) {
-        Ok(mut opened) => with_room(rt, &mut opened, path, op),
-        Err(_) => with_room(rt, &mut io::empty(), path, op),
+        Ok(mut opened) => with_room(rt, &mut opened, path.as_bytes(), op),
+        Err(_) => with_room(rt, &mut io::empty(), path.as_bytes(), op),
     }
 }
 
