@@ -1,2 +1,1 @@
-pub mod ReadAnswers
 pub mod Inputs

@@ -5,14 +5,14 @@
 #![tactic(auto)]
 
 ghost use Rattle.std.specs.Prelude.{◌≡◌, ◌≤◌, length};
-ghost use Rattle.io.specs.Counts.{IsPrefixLen};
+ghost use Rattle.std.specs.Counts.{IsPrefixLen};
 ghost use Rattle.judge_printing.specs.Page.{page, onto};
 ghost use Rattle.judge.specs.Judge.{judge_input};
 ghost use Rattle.lotjudge.specs.Reading.{read_of, Fits};
 
 use exhaustive_hits::every_way::Answer;
-use libc::{STDERR_FILENO, STDIN_FILENO, STDOUT_FILENO};
 use outcome::Refusal;
+use std::io;
 
 // ---- reading
 
@@ -24,25 +24,25 @@ pub enum Read {
     Failed,
 }
 
-// What the answer of `libc::read` says. A read that failed is not the end, and is not tried again.
-fn read_of(got: isize) -> Read
+// What the answer of a read says. A read that failed is not the end, and is not tried again.
+fn read_of(got: io::Result<usize>) -> Read
     ensures { result ≡ read_of got }
 {
-    if got < 0 {
+    let Ok(n) = got else {
         return Read::Failed;
-    }
-    if got == 0 {
+    };
+    if n == 0 {
         return Read::End;
     }
-    Read::Bytes(got as usize)
+    Read::Bytes(n)
 }
 
 // One read, behind the first n bytes.
-fn read_on(buffer: &mut [u8], n: usize) -> Read
+fn read_on<R: io::Read>(from: &mut R, buffer: &mut [u8], n: usize) -> Read
     requires { n ≤ length buffer.old }
     ensures { Fits (length buffer.old) n result }
 {
-    read_of(libc::read(STDIN_FILENO, &mut buffer[n..]))
+    read_of(from.read(&mut buffer[n..]))
 }
 
 // What was read: the first n bytes of a buffer, and whether the last read failed.
@@ -53,12 +53,12 @@ pub struct Input {
 }
 
 // Reads until the buffer is full, the input ends or a read fails.
-fn read_input(buffer: &mut [u8]) -> Input
+fn read_input<R: io::Read>(from: &mut R, buffer: &mut [u8]) -> Input
     ensures { IsPrefixLen result.n buffer.new }
 {
     let mut n: usize = 0;
     while n < buffer.len() {
-        let one = read_on(buffer, n);
+        let one = read_on(from, buffer, n);
         match one {
             Read::Bytes(k) => {
                 n += k;
@@ -77,34 +77,48 @@ fn read_input(buffer: &mut [u8]) -> Input
 // ---- judging and writing
 
 // Prints at the front of `out` what is found of an input; the answer is the number of bytes.
-fn print_input(failed: bool, text: &[u8], out: &mut [u8; limits::MOST_PRINTED]) -> usize
+fn print_input(
+    rt: &HostRuntime,
+    failed: bool,
+    text: &[u8],
+    out: &mut [u8; limits::MOST_PRINTED],
+) -> usize
     ensures { page result out.new ≡ onto (judge_input failed text.now) out.old }
 {
     if failed {
-        io::write_all(STDERR_FILENO, b"lotjudge: reading standard input failed\n");
+        let _ = rt
+            .stderr()
+            .write_all(b"lotjudge: reading standard input failed\n");
         return judge_printing::print(Answer::Refused(Refusal::Frame), out);
     }
     judge::judge(text, out)
 }
 
 // The first n bytes of `out`.
-fn write_front(out: &[u8], n: usize)
+fn write_front(rt: &HostRuntime, out: &[u8], n: usize)
     requires { n ≤ length out.now }
 {
-    if !io::write_all(STDOUT_FILENO, &out[..n]) {
-        io::write_all(STDERR_FILENO, b"lotjudge: writing standard output failed\n");
+    if rt.stdout().write_all(&out[..n]).is_err() {
+        let _ = rt
+            .stderr()
+            .write_all(b"lotjudge: writing standard output failed\n");
     }
 }
 
-fn judge_and_write(failed: bool, text: &[u8], out: &mut [u8; limits::MOST_PRINTED]) {
-    let n = print_input(failed, text, out);
-    write_front(out, n);
+fn judge_and_write(
+    rt: &HostRuntime,
+    failed: bool,
+    text: &[u8],
+    out: &mut [u8; limits::MOST_PRINTED],
+) {
+    let n = print_input(rt, failed, text, out);
+    write_front(rt, out, n);
 }
 
-fn main() {
+fn main(rt: HostRuntime) {
     let mut buffer = [0u8; limits::MOST_TEXT + 1];
     let mut out = [0u8; limits::MOST_PRINTED];
-    let input = read_input(&mut buffer);
+    let input = read_input(&mut rt.stdin(), &mut buffer);
     let n = input.n;
-    judge_and_write(input.failed, &buffer[..n], &mut out);
+    judge_and_write(&rt, input.failed, &buffer[..n], &mut out);
 }
