@@ -3,9 +3,10 @@
 
 usage: python3 tools/respell.py     at the top of the repository, once, after port.py
 
-It turns every word in lower camel case of specs/, proofs/, the must-fail edits, the pages (but docs/CHANGES.md, whose notes keep the names of their time), and of comments and clauses in src/; functions of src/, exported names,
-strings, inputs and outputs have no such word. It also writes `#![tactic(auto)]` near the head of each root file. No two names fall together: those that would
-have are respelled by hand in OTHERWISE.
+It turns every word in lower camel case of specs/, proofs/, the must-fail edits, the pages (but docs/CHANGES.md, whose notes keep the names of their
+time), and of comments and clauses in src/; functions of src/, exported names, inputs and outputs have no such word. It does not spare strings in
+specs/: the text in upper case of cases/specs/Example was put right afterwards (docs/PORT.md). It also writes `#![tactic(auto)]` near the head of each
+root file. No two names fall together: those that would have are respelled by hand in OTHERWISE.
 """
 import glob
 import re

@@ -8,7 +8,7 @@ ghost use Rattle.std.specs.Prelude.{◌≡◌, ◌≤◌, length};
 ghost use Rattle.std.specs.Counts.{IsPrefixLen};
 ghost use Rattle.judge_printing.specs.Page.{page, onto};
 ghost use Rattle.judge.specs.Judge.{judge_input};
-ghost use Rattle.lotjudge.specs.Reading.{read_of, Fits};
+ghost use Rattle.lotjudge.specs.Reading.{read_of, told_of, Fits};
 
 use exhaustive_hits::every_way::Answer;
 use outcome::Refusal;
@@ -26,7 +26,7 @@ pub enum Read {
 
 // What the answer of a read says. A read that failed is not the end, and is not tried again.
 fn read_of(got: io::Result<usize>) -> Read
-    ensures { result ≡ read_of got }
+    ensures { result ≡ read_of (told_of got) }
 {
     let Ok(n) = got else {
         return Read::Failed;
