@@ -14,6 +14,10 @@ coded f (refused r) before = record { code = r; parts = before }
 abbrev pub coded_as : {B : Type 0} → ℕ → B → Coded B
 coded_as code parts = record { code = code; parts = parts }
 
+-- an answer that is laid out as it is
+abbrev pub same : {A : Type 0} → A → A
+same a = a
+
 -- parts in two arrays
 pub record Arrays : Type 0 where
   pub values : List Float

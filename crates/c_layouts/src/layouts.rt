@@ -1,185 +1,145 @@
 // What an operation answers, as a number and arrays, for languages that have no enums: 0 and the parts of the answer, or the refusal's number and the
 // arrays untouched.
 ghost use Rattle.std.specs.Prelude.{◌≡◌};
-ghost use Rattle.permanova.specs.Call as test;
-ghost use Rattle.exhaustive_hits.specs.Call as ways;
-ghost use Rattle.ordination_gram.specs.Call as sets;
-ghost use Rattle.eigen_jacobi.specs.Call as eigen;
-ghost use Rattle.dapc_discriminant.specs.Outputs as scores;
-ghost use Rattle.c_layouts.specs.Coded.{coded, coded_as, arrays};
-ghost use Rattle.c_layouts.specs.Layouts.{test_row, test_arrays, is_assigned, way_row, way_arrays, count_of, dapc_numbers};
-ghost use Rattle.outcome.specs.Numbers.{told};
+ghost use Rattle.c_layouts.specs.Coded.{coded, coded_as, same, arrays};
+ghost use Rattle.c_layouts.specs.Layouts.{row_arrays, test_row, test_arrays, way_row, way_arrays, dapc_numbers};
+ghost use Rattle.outcome.specs.Numbers.{outcome_of, told};
 ghost use Rattle.outcome.specs.Outcome.{code};
 
 use dapc_discriminant::Separation;
 use exhaustive_hits::judgement::Judgement;
-use exhaustive_hits::{Assignment, every_way};
-use outcome::{Check, number_of};
-use permanova::checks;
+use outcome::Refusal;
 use permanova_sampling::TestResult;
 
 // A check's number.
-pub fn code_of(c: Check) -> u8
+pub fn code_of(c: Result<(), Refusal>) -> u8
     ensures { result ≡ code (told c) }
 {
     match c {
-        Check::Refused(e) => number_of(e),
-        Check::Passed => 0,
+        Ok(()) => 0,
+        Err(e) => u8::from(e),
+    }
+}
+
+// An answer's number. The answer goes to `at`; with a refusal what was there stays.
+#[tactic(auto, unfolding(crate::specs::Coded::coded))]
+pub fn lay<T: Copy>(answer: Result<T, Refusal>, at: &mut T) -> u8
+    ensures { coded_as result at.new ≡ coded same (outcome_of answer) at.old }
+{
+    match answer {
+        Ok(parts) => {
+            *at = parts;
+            0
+        }
+        Err(e) => u8::from(e),
+    }
+}
+
+// An answer of a test in a row: values, and numbers.
+#[derive(Clone, Copy)]
+pub struct Row<const V: usize, const N: usize> {
+    pub values: [f64; V],
+    pub numbers: [u64; N],
+}
+
+// A row's number. The row goes to the arrays; with a refusal what was there stays.
+#[tactic(auto, unfolding(crate::specs::Coded::coded))]
+fn lay_row<const V: usize, const N: usize>(
+    row: Result<Row<V, N>, Refusal>,
+    values: &mut [f64; V],
+    numbers: &mut [u64; N],
+) -> u8
+    ensures { coded_as result (arrays values.new numbers.new) ≡ coded row_arrays (outcome_of row.entry) (arrays values.old numbers.old) }
+{
+    match row {
+        Ok(r) => {
+            values.copy_from_slice(&r.values);
+            numbers.copy_from_slice(&r.numbers);
+            0
+        }
+        Err(e) => u8::from(e),
     }
 }
 
 // ---- `test`
 
-#[derive(Drop)]
-pub struct TestRow {
-    pub values: [f64; 6],
-    pub numbers: [u64; 5],
-}
-
-// The parts of an answer of `test` in a row: values, and numbers.
-pub fn test_row(t: TestResult) -> TestRow
+// The parts of an answer of `test` in a row.
+#[tactic(auto, unfolding(crate::specs::Layouts::test_row))]
+pub fn test_row(t: TestResult) -> Row<6, 5>
     ensures { result ≡ test_row t }
 {
     let s = t.summary;
-    let p = t.p;
-    let q = t.disp_p;
-    let first = permanova_p_values::p_of(p);
-    let second = permanova_p_values::p_of(q);
-    let values = [t.f, s.r2, first, t.disp_f, second, s.informative_fraction];
-    let one = permanova_p_values::is_given(p);
-    let other = permanova_p_values::is_given(q);
-    let numbers = [s.n as u64, s.n_groups as u64, one, other, s.warnings as u64];
-    TestRow { values, numbers }
+    let first = t.p.unwrap_or(0.0);
+    let second = t.disp_p.unwrap_or(0.0);
+    Row {
+        values: [t.f, s.r2, first, t.disp_f, second, s.informative_fraction],
+        numbers: [
+            s.n as u64,
+            s.n_groups as u64,
+            u64::from(t.p.is_some()),
+            u64::from(t.disp_p.is_some()),
+            u64::from(s.warnings),
+        ],
+    }
 }
 
-pub fn lay_test(a: checks::Answer, values: &mut [f64; 6], numbers: &mut [u64; 5]) -> u8
-    ensures { coded_as result (arrays values.new numbers.new) ≡ coded test_arrays (test.answer_of a) (arrays values.old numbers.old) }
+#[tactic(auto, unfolding(crate::specs::Coded::coded))]
+pub fn lay_test(a: Result<TestResult, Refusal>, values: &mut [f64; 6], numbers: &mut [u64; 5]) -> u8
+    ensures { coded_as result (arrays values.new numbers.new) ≡ coded test_arrays (outcome_of a) (arrays values.old numbers.old) }
 {
-    match a {
-        checks::Answer::Refused(e) => number_of(e),
-        checks::Answer::Tested(t) => {
-            let row = test_row(t);
-            let vs = row.values;
-            let ns = row.numbers;
-            *values = vs;
-            *numbers = ns;
-            0
-        }
-    }
+    lay_row(a.map(test_row), values, numbers)
 }
 
 // ---- `exhaustive`
 
-// 1 where there is an assignment, 0 where there is none.
-fn is_assigned(a: Assignment) -> u64
-    ensures { result ≡ is_assigned a }
-{
-    if exhaustive_hits::is_given(a) {
-        return 1;
-    }
-    0
-}
-
-#[derive(Drop)]
-pub struct WayRow {
-    pub values: [f64; 4],
-    pub numbers: [u64; 11],
-}
-
-// The parts of an answer of `exhaustive` in a row: values, and numbers.
-pub fn way_row(j: Judgement) -> WayRow
+// The parts of an answer of `exhaustive` in a row.
+#[tactic(auto, unfolding(crate::specs::Layouts::way_row))]
+pub fn way_row(j: Judgement) -> Row<4, 11>
     ensures { result ≡ way_row j }
 {
     let s = j.summary;
     let l = j.location;
     let d = j.dispersion;
     let a = j.assigned;
-    let ls = l.statistic;
-    let ds = d.statistic;
-    let given = a.assignment;
-    let f = permanova_p_values::value_of(ls);
-    let disp_f = permanova_p_values::value_of(ds);
-    let values = [f, s.r2, disp_f, s.informative_fraction];
-    let first = permanova_p_values::state_of(ls);
-    let second = permanova_p_values::state_of(ds);
-    let third = is_assigned(given);
-    let right = exhaustive_hits::right_of(given);
-    let numbers = [
-        s.n as u64,
-        s.n_groups as u64,
-        j.ways as u64,
-        first,
-        l.hits as u64,
-        second,
-        d.hits as u64,
-        third,
-        right,
-        a.hits as u64,
-        s.warnings as u64,
-    ];
-    WayRow { values, numbers }
-}
-
-pub fn lay_ways(a: every_way::Answer, values: &mut [f64; 4], numbers: &mut [u64; 11]) -> u8
-    ensures { coded_as result (arrays values.new numbers.new) ≡ coded way_arrays (ways.answer_of a) (arrays values.old numbers.old) }
-{
-    match a {
-        every_way::Answer::Refused(e) => number_of(e),
-        every_way::Answer::Judged(j) => {
-            let row = way_row(j);
-            let vs = row.values;
-            let ns = row.numbers;
-            *values = vs;
-            *numbers = ns;
-            0
-        }
+    let f = permanova_p_values::value_of(l.statistic);
+    let disp_f = permanova_p_values::value_of(d.statistic);
+    Row {
+        values: [f, s.r2, disp_f, s.informative_fraction],
+        numbers: [
+            s.n as u64,
+            s.n_groups as u64,
+            j.ways as u64,
+            permanova_p_values::state_of(l.statistic),
+            l.hits as u64,
+            permanova_p_values::state_of(d.statistic),
+            d.hits as u64,
+            u64::from(a.statistic.is_some()),
+            a.statistic.unwrap_or(0) as u64,
+            a.hits as u64,
+            u64::from(s.warnings),
+        ],
     }
 }
 
-// ---- one number: `hash_pca` and `gram_matrix`
-
-pub fn lay_selected(a: ordination_gram::Answer, selected: &mut usize) -> u8
-    ensures { coded_as result selected.new ≡ coded count_of (sets.outcome_of a) selected.old }
+#[tactic(auto, unfolding(crate::specs::Coded::coded))]
+pub fn lay_ways(a: Result<Judgement, Refusal>, values: &mut [f64; 4], numbers: &mut [u64; 11]) -> u8
+    ensures { coded_as result (arrays values.new numbers.new) ≡ coded way_arrays (outcome_of a) (arrays values.old numbers.old) }
 {
-    match a {
-        ordination_gram::Answer::Refused(e) => number_of(e),
-        ordination_gram::Answer::Features(k) => {
-            *selected = k;
-            0
-        }
-    }
+    lay_row(a.map(way_row), values, numbers)
 }
 
 // ---- `dapc`
 
+#[tactic(auto, unfolding(crate::specs::Layouts::dapc_numbers))]
 fn dapc_numbers(s: Separation) -> [usize; 3]
     ensures { result ≡ dapc_numbers s }
 {
     [s.columns, s.axes, s.right]
 }
 
-pub fn lay_scores(a: dapc_discriminant::Answer, numbers: &mut [usize; 3]) -> u8
-    ensures { coded_as result numbers.new ≡ coded dapc_numbers (scores.outcome_of a) numbers.old }
+#[tactic(auto, unfolding(crate::specs::Coded::coded))]
+pub fn lay_scores(a: Result<Separation, Refusal>, numbers: &mut [usize; 3]) -> u8
+    ensures { coded_as result numbers.new ≡ coded dapc_numbers (outcome_of a) numbers.old }
 {
-    match a {
-        dapc_discriminant::Answer::Refused(e) => number_of(e),
-        dapc_discriminant::Answer::Scored(s) => {
-            *numbers = dapc_numbers(s);
-            0
-        }
-    }
-}
-
-// ---- one number: `jacobi_eigen`
-
-pub fn lay_sweeps(a: eigen_jacobi::Answer, sweeps: &mut usize) -> u8
-    ensures { coded_as result sweeps.new ≡ coded count_of (eigen.outcome_of a) sweeps.old }
-{
-    match a {
-        eigen_jacobi::Answer::Refused(e) => number_of(e),
-        eigen_jacobi::Answer::Sweeps(k) => {
-            *sweeps = k;
-            0
-        }
-    }
+    lay(a.map(dapc_numbers), numbers)
 }

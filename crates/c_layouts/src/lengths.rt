@@ -1,7 +1,9 @@
-// For callers that allocate: the lengths that are asked of what an operation is lent, in the order of its parameters. The answer is 0, or 2 where n,
-// components or columns are past document 01's limits: then nothing is written, and the operation refuses whatever is lent.
-ghost use Rattle.std.specs.Prelude.{◌≡◌, ◌||◌, ◌+◌, ◌*◌, ◌≤◌, min, ltb};
+// For callers that allocate: the lengths that are asked of what an operation is lent, in the order of its parameters. They are refused by line 2 where n,
+// components or columns are past document 01's limits: then the operation refuses whatever is lent.
+ghost use Rattle.std.specs.Prelude.{◌≡◌, ◌||◌, false, true, ◌+◌, ◌*◌, ◌<◌, ◌≤◌, min, ltb, MatchResult};
 ghost use Rattle.limits.specs.Limits.{most_columns, most_printed, most_samples};
+ghost use Rattle.outcome.specs.Numbers.{outcome_of};
+ghost use Rattle.outcome.specs.declared.Refusal.TheVariants.{Limit};
 ghost use Rattle.ordination_coordinates.specs.Lines.{bad_components};
 ghost use Rattle.permanova.specs.Call.{test_asks};
 ghost use Rattle.exhaustive_hits.specs.Call.{exhaustive_asks};
@@ -10,40 +12,31 @@ ghost use Rattle.dapc.specs.DapcLines.{dapc_asks};
 ghost use Rattle.eigen_jacobi.specs.Call.{jacobi_asks};
 ghost use Rattle.eigen_top.specs.TopLines.{top_asks};
 ghost use Rattle.ordination_sets.specs.Lines.{gram_asks};
-ghost use Rattle.c_layouts.specs.Lengths.{tell, told};
+ghost use Rattle.c_layouts.specs.Lengths.{asked};
 
 use ordination_coordinates::checks;
+use outcome::Refusal;
 
-pub fn test_lengths(n: usize, lengths: &mut [usize; 5]) -> u8
-    ensures { told result lengths.new ≡ tell (ltb most_samples n) (test_asks n) lengths.old }
+// ---- within the limits
+
+// n times n, of an n that is not past the limit.
+fn square(n: usize) -> Result<usize, Refusal>
+    ensures { MatchResult result (λ q. (n ≤ most_samples) × (q ≡ n * n) × (q ≤ 65536)) (λ e. (most_samples < n) × (e ≡ Limit)) }
 {
     if limits::MOST_SAMPLES < n {
-        return 2;
+        return Err(Refusal::Limit);
     }
-    let q = n * n;
-    *lengths = [n, n, n, q, q];
-    0
+    Ok(n * n)
 }
 
-pub fn exhaustive_lengths(n: usize, lengths: &mut [usize; 9]) -> u8
-    ensures { told result lengths.new ≡ tell (ltb most_samples n) (exhaustive_asks n) lengths.old }
+// How many components of n samples are used, of as many as may be asked.
+fn components_used(components: usize, n: usize) -> Result<usize, Refusal>
+    ensures { MatchResult result (λ k. (bad_components components ≡ false) × (k ≡ min components n)) (λ e. (bad_components components ≡ true) × (e ≡ Limit)) }
 {
-    if limits::MOST_SAMPLES < n {
-        return 2;
+    if checks::bad_components(components) {
+        return Err(Refusal::Limit);
     }
-    let q = n * n;
-    *lengths = [n, n, n, q, q, 16 + 8 * n, n + q, q, q];
-    0
-}
-
-// Past the limits of an ordination.
-fn is_beyond(n: usize, components: usize) -> bool
-    ensures { result ≡ ltb most_samples n || bad_components components }
-{
-    if limits::MOST_SAMPLES < n {
-        return true;
-    }
-    checks::bad_components(components)
+    Ok(eigen_top::checks::components_used(components, n))
 }
 
 // k values, k shares and coordinates n by k.
@@ -54,56 +47,6 @@ fn ordination(n: usize, k: usize) -> usize
     k + k + n * k
 }
 
-pub fn pcoa_lengths(n: usize, components: usize, lengths: &mut [usize; 5]) -> u8
-    ensures { told result lengths.new ≡ tell (ltb most_samples n || bad_components components) (pcoa_asks n (min components n)) lengths.old }
-{
-    if is_beyond(n, components) {
-        return 2;
-    }
-    let k = eigen_top::checks::components_used(components, n);
-    let out = ordination(n, k);
-    let q = n * n;
-    *lengths = [out, q, n + q, q, q];
-    0
-}
-
-pub fn hash_pca_lengths(n: usize, components: usize, lengths: &mut [usize; 6]) -> u8
-    ensures { told result lengths.new ≡ tell (ltb most_samples n || bad_components components) (hash_pca_asks n (min components n)) lengths.old }
-{
-    if is_beyond(n, components) {
-        return 2;
-    }
-    let k = eigen_top::checks::components_used(components, n);
-    let out = ordination(n, k);
-    let q = n * n;
-    *lengths = [out, q, n + q, q, q, n * limits::SELECTED_WORDS];
-    0
-}
-
-pub fn dapc_lengths(n: usize, columns: usize, lengths: &mut [usize; 2]) -> u8
-    ensures { told result lengths.new ≡ tell (ltb most_samples n || ltb most_columns columns) (dapc_asks n columns) lengths.old }
-{
-    if limits::MOST_SAMPLES < n {
-        return 2;
-    }
-    if limits::MOST_COLUMNS < columns {
-        return 2;
-    }
-    *lengths = [columns + n * columns, n];
-    0
-}
-
-pub fn jacobi_lengths(n: usize, lengths: &mut [usize; 3]) -> u8
-    ensures { told result lengths.new ≡ tell (ltb most_samples n) (jacobi_asks n) lengths.old }
-{
-    if limits::MOST_SAMPLES < n {
-        return 2;
-    }
-    let q = n * n;
-    *lengths = [n + q, q, q];
-    0
-}
-
 // k values and k rows of n.
 fn pairs(n: usize, k: usize) -> usize
     requires { (n ≤ most_samples) × (k ≤ n) }
@@ -112,27 +55,69 @@ fn pairs(n: usize, k: usize) -> usize
     k + k * n
 }
 
-pub fn top_eigs_lengths(n: usize, components: usize, lengths: &mut [usize; 4]) -> u8
-    ensures { told result lengths.new ≡ tell (ltb most_samples n || bad_components components) (top_asks n (min components n)) lengths.old }
+// ---- for each operation
+
+pub fn test_lengths(n: usize) -> Result<[usize; 5], Refusal>
+    ensures { outcome_of result ≡ asked (ltb most_samples n) (test_asks n) }
 {
-    if is_beyond(n, components) {
-        return 2;
-    }
-    let k = eigen_top::checks::components_used(components, n);
-    let out = pairs(n, k);
-    let q = n * n;
-    *lengths = [out, n + q, q, q];
-    0
+    let q = square(n)?;
+    Ok([n, n, n, q, q])
 }
 
-pub fn gram_lengths(n: usize, lengths: &mut [usize; 2]) -> u8
-    ensures { told result lengths.new ≡ tell (ltb most_samples n) (gram_asks n) lengths.old }
+pub fn exhaustive_lengths(n: usize) -> Result<[usize; 9], Refusal>
+    ensures { outcome_of result ≡ asked (ltb most_samples n) (exhaustive_asks n) }
 {
-    if limits::MOST_SAMPLES < n {
-        return 2;
+    let q = square(n)?;
+    let coords = limits::JUDGED_VALUES + limits::JUDGED_COMPONENTS * n;
+    Ok([n, n, n, q, q, coords, n + q, q, q])
+}
+
+pub fn pcoa_lengths(n: usize, components: usize) -> Result<[usize; 5], Refusal>
+    ensures { outcome_of result ≡ asked (ltb most_samples n || bad_components components) (pcoa_asks n (min components n)) }
+{
+    let q = square(n)?;
+    let k = components_used(components, n)?;
+    Ok([ordination(n, k), q, n + q, q, q])
+}
+
+pub fn hash_pca_lengths(n: usize, components: usize) -> Result<[usize; 6], Refusal>
+    ensures { outcome_of result ≡ asked (ltb most_samples n || bad_components components) (hash_pca_asks n (min components n)) }
+{
+    let q = square(n)?;
+    let k = components_used(components, n)?;
+    let words = n * limits::SELECTED_WORDS;
+    Ok([ordination(n, k), q, n + q, q, q, words])
+}
+
+pub fn dapc_lengths(n: usize, columns: usize) -> Result<[usize; 2], Refusal>
+    ensures { outcome_of result ≡ asked (ltb most_samples n || ltb most_columns columns) (dapc_asks n columns) }
+{
+    if limits::MOST_SAMPLES < n || limits::MOST_COLUMNS < columns {
+        return Err(Refusal::Limit);
     }
-    *lengths = [n * n, n * limits::SELECTED_WORDS];
-    0
+    Ok([columns + n * columns, n])
+}
+
+pub fn jacobi_lengths(n: usize) -> Result<[usize; 3], Refusal>
+    ensures { outcome_of result ≡ asked (ltb most_samples n) (jacobi_asks n) }
+{
+    let q = square(n)?;
+    Ok([n + q, q, q])
+}
+
+pub fn top_eigs_lengths(n: usize, components: usize) -> Result<[usize; 4], Refusal>
+    ensures { outcome_of result ≡ asked (ltb most_samples n || bad_components components) (top_asks n (min components n)) }
+{
+    let q = square(n)?;
+    let k = components_used(components, n)?;
+    Ok([pairs(n, k), n + q, q, q])
+}
+
+pub fn gram_lengths(n: usize) -> Result<[usize; 2], Refusal>
+    ensures { outcome_of result ≡ asked (ltb most_samples n) (gram_asks n) }
+{
+    let q = square(n)?;
+    Ok([q, n * limits::SELECTED_WORDS])
 }
 
 pub fn judge_length() -> usize

@@ -30,9 +30,9 @@ use Rattle.dapc_discriminant.specs.{Dapc.columns_used, Outputs.leaves}
 use Rattle.dapc.specs.DapcLines.{misfits, bad_coordinate, shape_lines, group_lines, dapc_lines}
 use Rattle.dapc.specs.Call.{call_by, dapc_call}
 use Rattle.exhaustive_ways.specs.Ways.{spend, deal, ways_of, ways, size_factorials, label_factorials, way_count_of, way_count}
-use Rattle.exhaustive_hits.specs.declared.Assignment.TheVariants.{Withheld}
+use Rattle.std.specs.Prelude.{None}
 use Rattle.exhaustive_hits.specs.Assignments.{right_count, assignment}
-use Rattle.exhaustive_hits.proofs.WayHits.{none_seen}
+use Rattle.exhaustive_hits.proofs.Given.{none_seen}
 use Rattle.exhaustive_hits.specs.declared.judgement.Judgement.{Judgement}
 use Rattle.exhaustive_hits.specs.Exhaustive as every
 use Rattle.exhaustive_hits.specs.Exhaustive.{location_of, dispersion_of, assignment_of, hits, location_hits, dispersion_hits, assignment_hits, coordinates, exhaustive}
@@ -46,7 +46,7 @@ verdict = record {
   ways = 6;
   location = record { statistic = Finite (f64 0x4040_0000_0000_0000); hits = 2 };
   dispersion = record { statistic = Unbounded; hits = 6 };
-  assigned = record { assignment = Withheld; hits = 0 };
+  assigned = record { statistic = None; hits = 0 };
 }
 
 -- ---- the groups, and the number of ways
@@ -116,13 +116,13 @@ dispersion-hits = refl
 -- ---- assignment: 4 samples in 2 groups leave 1 column, so `dapc` refuses, whatever the coordinates
 
 withheld-by : (a b : Bool) (x : List Float) (labels : List ℕ) (out : List Float) (assigned : List ℕ)
-    → right_count (call_by (first ((1 when a) ∷ (2 when false) ∷ (3 when b) ∷ (5 when false) ∷ (9 when true) ∷ [])) 4 4 x labels out assigned).answer ≡ Withheld
+    → right_count (call_by (first ((1 when a) ∷ (2 when false) ∷ (3 when b) ∷ (5 when false) ∷ (9 when true) ∷ [])) 4 4 x labels out assigned).answer ≡ None
 unfolding right_count call_by leaves first and_then
 withheld-by true b x labels out assigned = refl
 withheld-by false true x labels out assigned = refl
 withheld-by false false x labels out assigned = refl
 
-withheld : (x : List Float) → assignment_of lot x observed ≡ Withheld
+withheld : (x : List Float) → assignment_of lot x observed ≡ None
 unfolding lot assignment_of assignment dapc_call dapc_lines shape_lines group_lines columns_used relabelled on_kept groups group_labels kept_labels gathered
     kept twice how_many count_if filter range up_from upward insert_up position first_at kept_count group_count
 withheld x = withheld-by (misfits 4 4 (length x) 4 20 4) (any bad_coordinate x) x (0 ∷ 0 ∷ 1 ∷ 1 ∷ []) (replicate 20 zero⁺) (replicate 4 0)
@@ -155,7 +155,7 @@ found x i = record {
   ways = six i;
   location = record { statistic = F-32 i; hits = location-hits i };
   dispersion = record { statistic = unbounded i; hits = dispersion-hits i };
-  assigned = record { assignment = withheld x i; hits = assignment-hits x i };
+  assigned = record { statistic = withheld x i; hits = assignment-hits x i };
 }
 
 answered-by : (o : Outcome Coordinates) → answers o ≡ true → and_then o (λ c. answered (every.judgement lot c.coords)) ≡ answered verdict

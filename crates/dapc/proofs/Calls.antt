@@ -1,5 +1,5 @@
 -- A whole call: lines 1 to 3, then 5 and 9, and what the design of the labels tells.
-use Rattle.lists.proofs.Base.{◌≡◌, refl, sym, ap, ap₂, subst, ◌∙◌, true, false, List, ℕ, ◌+◌, ◌-◌, ◌*◌, ◌≤◌, mul-le-mul, min-le_left, arith, length, Float}
+use Rattle.lists.proofs.Base.{◌≡◌, refl, sym, ap, ap₂, subst, ◌∙◌, true, false, List, [], ℕ, ◌+◌, ◌-◌, ◌*◌, ◌≤◌, mul-le-mul, min-le_left, arith, length, Float}
 use Rattle.lists.specs.Filters.{all}
 use Rattle.lists.specs.inner.Numbers.{Below}
 use Rattle.outcome.specs.{Refusals.first, Outcome.Told, Outcome.refused, Outcome.passed, Outcome.and_then, Slices.output, Slices.untouched}
@@ -62,7 +62,7 @@ module _ (n columns : ℕ) (x : List Float) (labels : List ℕ) (out : List Floa
 
 -- ---- by the design of the labels
 
-module _ (columns : ℕ) (x : List Float) (labels : List ℕ) {d : Design} (is : Describes (samples_of labels false labels) d) where
+module _ (columns : ℕ) (x : List Float) (labels : List ℕ) {d : Design} (is : Describes (samples_of labels false []) d) where
   each-is : each_of d ≡ group_each labels
   each-is = (λ i. placed (is.many i) (is.kept_are i) (is.groups_are i)) ∙ sym (each_placed labels)
 

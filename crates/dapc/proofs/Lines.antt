@@ -1,7 +1,6 @@
 -- The lines of the table, and what holds where all are passed.
-use Rattle.lists.proofs.Base.{◌≡◌, refl, sym, ap, ◌∙◌, Bool, true, false, not, ◌||◌, List, [], ◌∷◌, ℕ, ◌+◌, ◌*◌, ◌/◌, ◌<◌, ◌≤◌, arith}
+use Rattle.lists.proofs.Base.{◌≡◌, refl, sym, ◌∙◌, Bool, true, false, not, ◌||◌, List, [], ◌∷◌, ℕ, ◌+◌, ◌*◌, ◌<◌, ◌≤◌, arith}
 use Rattle.lists.proofs.Base.{lt-ltb, le-ltb, eq-eqb, ne_eqb, not-false, eqb-true, ltb-false, eqb, ltb, length, Float}
-use native.Mathlib.Nat.{mul_comm, zero-mul, div-lt_iff_lt-mul, le-div_iff_mul-le}
 use Rattle.lists.specs.Filters.{any}
 use Rattle.outcome.specs.{Outcome.refused, Outcome.passed, Refusals.first, Refusals.short}
 use Rattle.lists.proofs.Truths.{or-neither, or-false}
@@ -9,21 +8,7 @@ use Rattle.outcome.proofs.{Table.first-passed, Lengths.long-at}
 use Rattle.dapc_discriminant.specs.Dapc.{columns_used}
 use Rattle.dapc.specs.DapcLines.{dapc_asks, misfits, bad_coordinate, shape_lines, group_lines}
 
--- ---- line 1: the product is compared without being made where it would not fit
-
-module _ (len n columns : ℕ) where
-  pub product-none : n ≡ 0 → eqb len 0 ≡ eqb len (n * columns)
-  product-none e = ap (eqb len) (sym (ap (λ (k : ℕ). k * columns) e ∙ zero-mul columns))
-
-  pub product-past : (n ≡ 0 → ⊥) → len / n < columns → false ≡ eqb len (n * columns)
-  product-past ne h =
-      let some : 0 < n = omega arith in
-      let past : len < columns * n = (div-lt_iff_lt-mul some).0 h in sym (ne_eqb len (n * columns) (λ e. omega (arith, mul_comm columns n)))
-
-  pub product-fits : (n ≡ 0 → ⊥) → columns ≤ len / n → n * columns ≤ len
-  product-fits ne h =
-      let some : 0 < n = omega arith in
-      let most : columns * n ≤ len = (le-div_iff_mul-le some).0 h in omega (arith, mul_comm columns n)
+-- ---- line 1, test after test
 
 module _ (n columns x labels out assigned : ℕ) where
   abbrev tests : Bool → Bool → Bool → Bool → Bool

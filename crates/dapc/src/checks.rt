@@ -1,43 +1,31 @@
 // Section 5 of document 01: the lines of the table for `dapc`.
-ghost use Rattle.std.specs.Prelude.{◌≡◌, ◌*◌, eqb};
+ghost use Rattle.std.specs.Prelude.{◌≡◌};
 ghost use Rattle.lists.specs.Filters.{any};
 ghost use Rattle.outcome.specs.Numbers.{told};
 ghost use Rattle.outcome.specs.Refusals.{first};
 ghost use Rattle.dapc.specs.DapcLines.{bad_coordinate, shape_lines, group_lines};
 ghost use Rattle.dapc.specs.DapcLines as Table;
 
-use outcome::{Check, Refusal};
+use outcome::Refusal;
 
-// Whether a length is n times columns, which may be past what a `usize` holds.
-fn is_product(len: usize, n: usize, columns: usize) -> bool
-    ensures { result ≡ eqb len (n * columns) }
-{
-    if n == 0 {
-        return len == 0;
-    }
-    if len / n < columns {
-        return false;
-    }
-    len == n * columns
-}
-
-// Line 1, for slices of these lengths.
+// Line 1, for slices of these lengths, where n times columns must not wrap.
 fn misfits(n: usize, columns: usize, x: usize, labels: usize, out: usize, assigned: usize) -> bool
     ensures { result ≡ Table.misfits n columns x labels out assigned }
 {
-    if !is_product(x, n, columns) {
+    let Some(k) = n.checked_mul(columns) else {
+        return true;
+    };
+    if x != k {
         return true;
     }
     if labels != n {
         return true;
     }
+    // columns + x, which is asked of `out`, may be past what a `usize` holds
     if out < columns {
         return true;
     }
-    if out - columns < x {
-        return true;
-    }
-    assigned < n
+    out - columns < x || assigned < n
 }
 
 // Line 3: whether a coordinate is NaN or beyond 2 ^ 40 in magnitude.
@@ -55,33 +43,33 @@ pub fn check(
     labels: usize,
     out: usize,
     assigned: usize,
-) -> Check
+) -> Result<(), Refusal>
     ensures { told result ≡ first (shape_lines n columns x.now labels out assigned) }
 {
     if misfits(n, columns, x.len(), labels, out, assigned) {
-        return Check::Refused(Refusal::Length);
+        return Err(Refusal::Length);
     }
     if limits::MOST_SAMPLES < n {
-        return Check::Refused(Refusal::Limit);
+        return Err(Refusal::Limit);
     }
     if limits::MOST_COLUMNS < columns {
-        return Check::Refused(Refusal::Limit);
+        return Err(Refusal::Limit);
     }
     if beyond(x) {
-        return Check::Refused(Refusal::Value);
+        return Err(Refusal::Value);
     }
-    Check::Passed
+    Ok(())
 }
 
 // Lines 5 and 9.
-pub fn check_groups(columns: usize, m: usize, g: usize) -> Check
+pub fn check_groups(columns: usize, m: usize, g: usize) -> Result<(), Refusal>
     ensures { told result ≡ first (group_lines columns m g) }
 {
     if g < 2 {
-        return Check::Refused(Refusal::Labels);
+        return Err(Refusal::Labels);
     }
     if dapc_discriminant::columns_used(columns, m, g) < 2 {
-        return Check::Refused(Refusal::Columns);
+        return Err(Refusal::Columns);
     }
-    Check::Passed
+    Ok(())
 }

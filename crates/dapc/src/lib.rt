@@ -9,12 +9,18 @@ ghost use Rattle.dapc.specs.Call.{dapc_call};
 ghost use Rattle.dapc.specs.inner.Call.{groups_call};
 ghost use Rattle.dapc.specs.inner.Scores.{scores_call, Sized, Scorable};
 
-use dapc_discriminant::{Answer, analysis};
+use dapc_discriminant::{Separation, analysis};
 use lot_design::{Design, kept};
-use outcome::Check;
+use outcome::Refusal;
 
 // Each kept sample gets its group, the others none, and the scores are found on the columns that lead.
-fn assess(out: &mut [f64], assigned: &mut [u16], x: &[f64], columns: usize, d: Design) -> Answer
+fn assess(
+    out: &mut [f64],
+    assigned: &mut [u16],
+    x: &[f64],
+    columns: usize,
+    d: Design,
+) -> Result<Separation, Refusal>
     requires { Scorable columns x.now d (length out.old) (length assigned.old) }
     ensures { called result out.new assigned.new ≡ scores_call columns x.now d out.old assigned.old }
 {
@@ -36,16 +42,13 @@ fn analyse(
     x: &[f64],
     columns: usize,
     labels: &[u16],
-) -> Answer
+) -> Result<Separation, Refusal>
     requires { Sized columns x.now labels.now (length out.old) (length assigned.old) }
     ensures { called result out.new assigned.new ≡ groups_call (length labels.now) columns x.now labels.now out.old assigned.old }
 {
-    let d = lot_design::design_of(labels, false, labels);
-    let c = checks::check_groups(columns, d.kept, d.groups);
-    match c {
-        Check::Refused(r) => Answer::Refused(r),
-        Check::Passed => assess(out, assigned, x, columns, d),
-    }
+    let d = lot_design::design_of(labels, None);
+    checks::check_groups(columns, d.kept, d.groups)?;
+    assess(out, assigned, x, columns, d)
 }
 
 // Discriminant scores of n samples, rows of `columns` coordinates, by their labels. `out` gets one value per axis and then the scores, row by row;
@@ -57,12 +60,9 @@ pub fn dapc(
     labels: &[u16],
     out: &mut [f64],
     assigned: &mut [u16],
-) -> Answer
+) -> Result<Separation, Refusal>
     ensures { called result out.new assigned.new ≡ dapc_call n columns x.now labels.now out.old assigned.old }
 {
-    let c = checks::check(x, n, columns, labels.len(), out.len(), assigned.len());
-    match c {
-        Check::Refused(r) => Answer::Refused(r),
-        Check::Passed => analyse(out, assigned, x, columns, labels),
-    }
+    checks::check(x, n, columns, labels.len(), out.len(), assigned.len())?;
+    analyse(out, assigned, x, columns, labels)
 }

@@ -4,19 +4,24 @@
 pub mod triangular;
 pub mod whitening;
 
-ghost use Rattle.std.specs.Prelude.{◌≡◌, ◌+◌, ◌*◌, ◌<◌, length, replicate};
+ghost use Rattle.std.specs.Prelude.{◌≡◌, cond, ◌+◌, ◌*◌, ◌<◌, length, replicate};
 ghost use Rattle.float.specs.Floats.{zero⁺};
 ghost use Rattle.lists.specs.Loops.{in_turn};
+ghost use Rattle.outcome.specs.Outcome.{passed, refused};
+ghost use Rattle.outcome.specs.Numbers.{told};
 ghost use Rattle.dapc_cholesky.specs.Cholesky.{reduced, chol_entry, chol_row, factor, pivot_fails};
+
+use lists::cell;
+use outcome::Refusal;
 
 // a(i, j) less the products of row i and row j of l before column j.
 fn reduce(a: &[f64], l: &[f64], p: usize, i: usize, j: usize) -> f64
     requires { (length a.now ≡ p * p) × (length l.now ≡ p * p) × (i < p) × (j < p) }
     ensures { result ≡ reduced p a.now l.now i j }
 {
-    let mut s = triangular::at(a, p, i, j);
+    let mut s = cell(a, p, i, j);
     for k in 0..j {
-        s = s - triangular::at(l, p, i, k) * triangular::at(l, p, j, k);
+        s = s - cell(l, p, i, k) * cell(l, p, j, k);
     }
     s
 }
@@ -28,7 +33,7 @@ fn factor_below(l: &mut [f64], a: &[f64], p: usize, i: usize)
 {
     for j in 0..i {
         let s = reduce(a, l, p, i, j);
-        let d = triangular::at(l, p, j, j);
+        let d = cell(l, p, j, j);
         l[i * p + j] = s / d;
     }
 }
@@ -53,10 +58,10 @@ fn factor_row(l: &mut [f64], a: &[f64], p: usize, i: usize) -> f64
     factor_pivot(l, a, p, i)
 }
 
-// The factor of a, from zeros. Whether a pivot is not above 0 is returned.
-pub fn factor(l: &mut [f64], a: &[f64], p: usize) -> bool
+// The factor of a, from zeros. It is refused, with all of it in `l`, where a pivot is not above 0.
+pub fn factor(l: &mut [f64], a: &[f64], p: usize) -> Result<(), Refusal>
     requires { (length a.now ≡ p * p) × (l.old ≡ replicate (p * p) zero⁺) }
-    ensures { (l.new ≡ factor p a.now) × (result ≡ pivot_fails p a.now (factor p a.now)) }
+    ensures { (l.new ≡ factor p a.now) × (told result ≡ cond (pivot_fails p a.now (factor p a.now)) (refused 10) passed) }
 {
     let mut fails = false;
     for i in 0..p {
@@ -65,5 +70,8 @@ pub fn factor(l: &mut [f64], a: &[f64], p: usize) -> bool
             fails = true;
         }
     }
-    fails
+    if fails {
+        return Err(Refusal::Pivot);
+    }
+    Ok(())
 }

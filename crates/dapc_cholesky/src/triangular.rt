@@ -5,13 +5,7 @@ ghost use Rattle.lists.specs.Ranges.{table};
 ghost use Rattle.lists.specs.Rows.{entry};
 ghost use Rattle.dapc_cholesky.specs.Triangular.{lower_at, solve_lower, upper_at, solve_upper, solve_rows, solve_columns};
 
-// Entry i, j of a p by p matrix.
-pub fn at(m: &[f64], p: usize, i: usize, j: usize) -> f64
-    requires { (length m.now ≡ p * p) × (i < p) × (j < p) }
-    ensures { result ≡ entry p m.now i j }
-{
-    m[i * p + j]
-}
+use lists::cell;
 
 // ---- solving from above
 
@@ -19,11 +13,11 @@ fn lower_at(l: &[f64], b: &[f64], p: usize, c: usize, x: &[f64], i: usize) -> f6
     requires { (length l.now ≡ p * p) × (length b.now ≡ p * p) × (length x.now ≡ p) × (c < p) × (i < p) }
     ensures { result ≡ lower_at p l.now (table p (λ k. entry p b.now k c)) i x.now }
 {
-    let mut s = at(b, p, i, c);
+    let mut s = cell(b, p, i, c);
     for k in 0..i {
-        s = s - at(l, p, i, k) * x[k];
+        s = s - cell(l, p, i, k) * x[k];
     }
-    s / at(l, p, i, i)
+    s / cell(l, p, i, i)
 }
 
 // l x = column c of b, from zeros.
@@ -55,9 +49,9 @@ fn upper_at(l: &[f64], b: &[f64], p: usize, x: &[f64], i: usize) -> f64
 {
     let mut s = b[i];
     for k in i + 1..p {
-        s = s - at(l, p, k, i) * x[k];
+        s = s - cell(l, p, k, i) * x[k];
     }
-    s / at(l, p, i, i)
+    s / cell(l, p, i, i)
 }
 
 // The transpose of l times x = b, from zeros.
@@ -65,8 +59,7 @@ fn solve_upper(x: &mut [f64], l: &[f64], b: &[f64], p: usize)
     requires { (length l.now ≡ p * p) × (length b.now ≡ p) × (x.old ≡ replicate p zero⁺) }
     ensures { x.new ≡ solve_upper p l.now b.now }
 {
-    for t in 0..p {
-        let i = p - (t + 1);
+    for i in (0..p).rev() {
         let v = upper_at(l, b, p, x, i);
         x[i] = v;
     }

@@ -1,5 +1,5 @@
 -- What the outputs hold at each step, and the room that the steps take.
-use Rattle.lists.proofs.Base.{◌≡◌, refl, sym, ap, ap₂, ◌∙◌, Bool, true, false, cond, List, ◌++◌, append_assoc, ℕ, ◌+◌, ◌-◌, ◌*◌, ◌≤◌, add-sub_cancel_left}
+use Rattle.lists.proofs.Base.{◌≡◌, refl, sym, ap, ap₂, ◌∙◌, Bool, true, false, List, ◌++◌, append_assoc, ℕ, ◌+◌, ◌-◌, ◌*◌, ◌≤◌, add-sub_cancel_left}
 use Rattle.lists.proofs.Base.{mul-le-mul, arith, length, get_or, take, drop, replicate, length-append, length-drop, length-replicate, Float, nan, put_mid}
 use lib.Seq.{length-take-le, take-add, take_at, drop_at, get_or-take}
 use Rattle.float.specs.Floats.{zero⁺}
@@ -10,9 +10,11 @@ use Rattle.lists.proofs.Parts.{over-over, over-lent, over-take}
 use Rattle.outcome.specs.{Outcome.Outcome, Outcome.answered, Outcome.refused, Outcome.and_then, Slices.output}
 use Rattle.dapc_cholesky.specs.Triangular.{solve_rows}
 use Rattle.dapc_scores.specs.{Assigned.assigned_of, Assigned.unordered, Assigned.right_of, Scores.scores_of, Scores.centroids}
-use Rattle.dapc_discriminant.specs.declared.Answer.TheVariants.{Scored}
+use Rattle.std.specs.Prelude.{Ok}
 use Rattle.dapc_discriminant.specs.{Dapc.Scores, Dapc.axes_of, Dapc.concluded, Dapc.assign, Outputs.Called, Outputs.called, Outputs.leaves}
-use Rattle.dapc_discriminant.specs.inner.Outputs.{refusal, scored, Ready}
+use Rattle.dapc_discriminant.specs.inner.Outputs.{refusal}
+use Rattle.dapc_discriminant.specs.inner.Allocation.{Fitting}
+use Rattle.dapc_scatter.specs.declared.samples.Samples.{Samples}
 use Rattle.dapc_discriminant.proofs.Outputs.{axes-most}
 
 -- values, and then the scores, each lent by itself
@@ -43,7 +45,7 @@ module _ (n p axes g : ℕ) (groups : List ℕ) (v s : List Float) where
   leaves-refused out assigned e = ap (λ (b : Bool). leaves n p axes (by-test b) out assigned) e
 
   leaves-scored : (out : List Float) (assigned : List ℕ) → some_nan ≡ false → leaves n p axes (concluded n axes g groups v s) out assigned
-      ≡ called (Scored (record { columns = p; axes = axes; right = right_of groups groups_found })) (over (v ++ s) out) (over groups_found assigned)
+      ≡ called (Ok (record { columns = p; axes = axes; right = right_of groups groups_found })) (over (v ++ s) out) (over groups_found assigned)
   unfolding leaves concluded output and_then
   leaves-scored out assigned e = ap (λ (b : Bool). leaves n p axes (by-test b) out assigned) e
 
@@ -60,7 +62,7 @@ module _ (n p axes g : ℕ) (groups : List ℕ) (v s : List Float) where
     unfolding assigned_of
     found-long = ap length is ∙ length-table _ n
 
-    conclude-refused : {r : Called} → nans ≡ true → r ≡ refusal 11 (over (replicate (axes + n * axes) zero⁺) out) (over (replicate n 0) (found ++ drop n assigned))
+    pub conclude-refused : {r : Called} → nans ≡ true → r ≡ refusal 11 (over (replicate (axes + n * axes) zero⁺) out) (over (replicate n 0) (found ++ drop n assigned))
         → r ≡ leaves n p axes (concluded n axes g groups v s) out assigned
     conclude-refused {r} t e =
         let long = length-replicate {A = ℕ} n 0 in
@@ -68,27 +70,15 @@ module _ (n p axes g : ℕ) (groups : List ℕ) (v s : List Float) where
         (ap (over (replicate n 0)) (over-lent found assigned found-long) ∙ over-over (replicate n 0) found assigned (omega (arith, found-long)))
         ∙ sym (leaves-refused out assigned (sym nans-are ∙ t))
 
-    conclude-scored : {right : ℕ} → nans ≡ false → right ≡ right_of groups found → axes + n * axes ≤ length out → v ≡ take axes out → s ≡ take (n * axes) (drop axes out)
-        → called (Scored (record { columns = p; axes = axes; right = right })) out (found ++ drop n assigned) ≡ leaves n p axes (concluded n axes g groups v s) out assigned
+    pub conclude-scored : {right : ℕ} → nans ≡ false → right ≡ right_of groups found → axes + n * axes ≤ length out → v ≡ take axes out → s ≡ take (n * axes) (drop axes out)
+        → called (Ok (record { columns = p; axes = axes; right = right })) out (found ++ drop n assigned) ≡ leaves n p axes (concluded n axes g groups v s) out assigned
     conclude-scored {right} t count room first rest =
         let front : v ++ s ≡ take (axes + n * axes) out = ap₂ (λ (a b : List Float). a ++ b) first rest ∙ sym (take-add axes (n * axes) out) in
         let stays : out ≡ over (v ++ s) out = sym (ap (λ (l : List Float). over l out) front ∙ over-take out (axes + n * axes) room) in
         let numbers : found ++ drop n assigned ≡ over groups_found assigned = over-lent found assigned found-long ∙ ap (λ (l : List ℕ). over l assigned) found-is in
-        ap (λ (k : ℕ). called (Scored (record { columns = p; axes = axes; right = k })) out (found ++ drop n assigned)) (count ∙ ap (right_of groups) found-is)
-        ∙ ap₂ (called (Scored (record { columns = p; axes = axes; right = right_of groups groups_found }))) stays numbers
+        ap (λ (k : ℕ). called (Ok (record { columns = p; axes = axes; right = k })) out (found ++ drop n assigned)) (count ∙ ap (right_of groups) found-is)
+        ∙ ap₂ (called (Ok (record { columns = p; axes = axes; right = right_of groups groups_found }))) stays numbers
         ∙ sym (leaves-scored out assigned (sym nans-are ∙ t))
-
-    -- by the test for a NaN
-    pub conclude-told : {r : Called} {right : ℕ} → right ≡ right_of groups found → axes + n * axes ≤ length out → v ≡ take axes out → s ≡ take (n * axes) (drop axes out)
-        → r ≡ cond nans (refusal 11 (over (replicate (axes + n * axes) zero⁺) out) (over (replicate n 0) (found ++ drop n assigned))) (scored p axes right out (found ++ drop n assigned))
-        → r ≡ leaves n p axes (concluded n axes g groups v s) out assigned
-    conclude-told {r} {right} count room first rest e = by nans refl e
-      where
-        by : (b : Bool) → nans ≡ b
-            → r ≡ cond b (refusal 11 (over (replicate (axes + n * axes) zero⁺) out) (over (replicate n 0) (found ++ drop n assigned))) (scored p axes right out (found ++ drop n assigned))
-            → r ≡ leaves n p axes (concluded n axes g groups v s) out assigned
-        by true t e = conclude-refused t e
-        by false t e = e ∙ conclude-scored t count room first rest
 
   -- what was written over the first part does not show
   leaves-over : (out : List Float) (assigned : List ℕ) → length (v ++ s) ≡ axes + n * axes
@@ -103,7 +93,7 @@ module _ (n p axes g : ℕ) (groups : List ℕ) (v s : List Float) where
           ∙ ap (λ (l : List Float). refusal 11 l (over (replicate n 0) assigned)) (over-over (replicate (axes + n * axes) zero⁺) (v ++ s) out (omega arith))
           ∙ sym (leaves-refused out assigned e)
       by false e = leaves-scored (over (v ++ s) out) assigned e
-          ∙ ap (λ (l : List Float). called (Scored (record { columns = p; axes = axes; right = right_of groups groups_found })) l (over groups_found assigned))
+          ∙ ap (λ (l : List Float). called (Ok (record { columns = p; axes = axes; right = right_of groups groups_found })) l (over groups_found assigned))
           (over-over (v ++ s) (v ++ s) out (omega arith)) ∙ sym (leaves-scored out assigned e)
 
   pub concluded-over : (out : List Float) (assigned : List ℕ) {out' : List Float} {r : Called} → length v ≡ axes → length s ≡ n * axes → out' ≡ over (v ++ s) out
@@ -156,15 +146,15 @@ length-vectors p k ev e = ap length (part-rest ev p) ∙ length-drop p ev ∙ om
 
 -- ---- room
 
-module _ {columns p axes g out assigned : ℕ} {x : List Float} {groups : List ℕ} (r : Ready columns p axes g x groups out assigned) where
-  pub axes-few : axes ≤ p
-  axes-few = axes-most axes g p r.axial
+module _ {s : Samples} {out assigned : ℕ} (f : Fitting s out assigned) where
+  pub axes-few : s.sizes.axes ≤ s.sizes.lead
+  axes-few = axes-most s.sizes.axes s.sizes.groups s.sizes.lead f.axial
 
-  narrow : axes ≤ 16
-  narrow = omega (arith, axes-few, r.narrow)
+  narrow : s.sizes.axes ≤ 16
+  narrow = omega (arith, axes-few, s.narrow)
 
-  pub directions-fit : axes * p ≤ 256
-  directions-fit = omega (arith, mul-le-mul {n₁ = axes} {m₁ = p} {n₂ = 16} {m₂ = 16} narrow r.narrow)
+  pub directions-fit : s.sizes.axes * s.sizes.lead ≤ 256
+  directions-fit = omega (arith, mul-le-mul {n₁ = s.sizes.axes} {m₁ = s.sizes.lead} {n₂ = 16} {m₂ = 16} narrow s.narrow)
 
-  pub centroids-fit : g * axes ≤ 2048
-  centroids-fit = omega (arith, mul-le-mul {n₁ = g} {m₁ = axes} {n₂ = 128} {m₂ = 16} r.most narrow)
+  pub centroids-fit : s.sizes.groups * s.sizes.axes ≤ 2048
+  centroids-fit = omega (arith, mul-le-mul {n₁ = s.sizes.groups} {m₁ = s.sizes.axes} {n₂ = 128} {m₂ = 16} s.most narrow)

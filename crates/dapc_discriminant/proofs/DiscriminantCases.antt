@@ -1,23 +1,20 @@
 -- By the pivots, by the eigenpairs, and from the coordinates; the room of a matrix.
-use Rattle.lists.proofs.Base.{◌≡◌, sym, ap, ap₂, ◌∙◌, Bool, true, false, List, ℕ, ◌+◌, ◌*◌, ◌≤◌, mul-le-mul, arith, take, drop, replicate, Float}
+use Rattle.lists.proofs.Base.{◌≡◌, sym, ap, ap₂, ◌∙◌, Bool, true, false, cond, List, ℕ, ◌+◌, ◌*◌, ◌≤◌, mul-le-mul, arith, take, drop, replicate, Float}
 use Rattle.float.specs.Floats.{zero⁺}
 use Rattle.lists.specs.Writes.{over}
-use Rattle.outcome.specs.declared.Refusal.{Refusal}
-use Rattle.outcome.specs.{Numbers.number, Outcome.Outcome, Outcome.answered, Outcome.refused, Outcome.and_then, Slices.output}
+use Rattle.outcome.specs.{Outcome.Told, Outcome.passed, Outcome.Outcome, Outcome.answered, Outcome.refused, Outcome.and_then, Slices.output}
 use Rattle.dapc_scatter.specs.Means.{mean_of}
-use Rattle.dapc_scatter.specs.declared.moments.Dimensions.{Dimensions}
+use Rattle.dapc_scatter.specs.declared.samples.Dimensions.{Dimensions}
 use Rattle.dapc_scatter.specs.inner.Moments.{Filled}
 use Rattle.dapc_cholesky.specs.{Whitened.whitened, Cholesky.factor, Cholesky.pivot_fails}
-use Rattle.eigen_jacobi.specs.declared.Answer as jacobi-answer
-use Rattle.eigen_jacobi.specs.declared.Answer.TheVariants as jacobi-answers
 use Rattle.eigen_jacobi.specs.Eigen.{Eigen, jacobi}
-use Rattle.eigen_jacobi.specs.inner.Call.{eigen_of}
 use Rattle.eigen_jacobi.proofs.Calls.{only-unordered}
 use Rattle.dapc_discriminant.specs.{Dapc.Scores, Dapc.assign, Dapc.separated, Dapc.discriminate, Outputs.Called, Outputs.leaves}
 use Rattle.dapc_discriminant.specs.inner.Outputs.{refusal}
+use Rattle.dapc_discriminant.proofs.Outputs.{told-yes, told-no}
 
-module _ (n : ℕ) (d : Dimensions) (x : List Float) (groups : List ℕ) (mean a sb : List Float) (out : List Float) (assigned : List ℕ) {l : List Float} {fails : Bool}
-    (factored : l ≡ factor d.lead a) (told : fails ≡ pivot_fails d.lead a (factor d.lead a)) where
+module _ (n : ℕ) (d : Dimensions) (x : List Float) (groups : List ℕ) (mean a sb : List Float) (out : List Float) (assigned : List ℕ) {l : List Float}
+    (factored : l ≡ factor d.lead a) where
   -- what a call leaves by what is found, and what is found by the steps of `separated`
   abbrev left : Outcome Scores → Called
   left o = leaves n d.lead d.axes o out assigned
@@ -37,36 +34,41 @@ module _ (n : ℕ) (d : Dimensions) (x : List Float) (groups : List ℕ) (mean a
   abbrev all : Outcome Scores
   all = separated n d.columns d.lead d.groups x groups mean a sb
 
+  -- what is told of the pivots
+  abbrev pivots : Told
+  pivots = cond (pivot_fails d.lead a (factor d.lead a)) (refused 10) passed
+
   -- outputs whose first part is cleared
   abbrev cleared : ℕ → Called
   cleared k = refusal k (over (replicate (d.axes + n * d.axes) zero⁺) out) (over (replicate n 0) assigned)
 
   -- the two cases of the pivots
-  pub pivot-fails : {r : Called} → fails ≡ true → r ≡ cleared 10 → r ≡ left all
+  pub pivot-fails : {r : Called} {k : ℕ} → refused k ≡ pivots → r ≡ cleared k → r ≡ left all
   unfolding separated leaves output and_then
-  pivot-fails t e = e ∙ ap (λ (b : Bool). left (by-pivot (factor d.lead a) b)) (sym (sym told ∙ t))
+  pivot-fails {r} {k} t e =
+      let told = told-yes {A = Unit} 10 tt (pivot_fails d.lead a (factor d.lead a)) t in
+      e ∙ ap cleared told.1 ∙ ap (λ (b : Bool). left (by-pivot (factor d.lead a) b)) (sym told.0)
 
-  passes : fails ≡ false → all ≡ rest l
+  passes : passed ≡ pivots → all ≡ rest l
   unfolding separated
-  passes t = ap (by-pivot (factor d.lead a)) (sym told ∙ t) ∙ ap rest (sym factored)
+  passes t =
+      let told = told-no {A = Unit} 10 tt (pivot_fails d.lead a (factor d.lead a)) t in
+      ap (by-pivot (factor d.lead a)) told.0 ∙ ap rest (sym factored)
 
   -- the two cases of the eigenpairs
-  module _ (t : fails ≡ false) (ev : List Float) {answer : jacobi-answer.Answer} (solved : eigen_of d.lead answer ev ≡ solution l) where
-    pub eigen-refuses : {r : Called} {k : Refusal} → answer ≡ jacobi-answers.Refused k → r ≡ cleared 11 → r ≡ left all
+  module _ (t : passed ≡ pivots) where
+    pub eigen-refuses : {r : Called} {k : ℕ} → refused k ≡ solution l → r ≡ cleared k → r ≡ left all
     unfolding leaves output and_then
-    eigen-refuses {r} {k} is e =
-        let found : refused (number k) ≡ solution l = ap (λ (b : jacobi-answer.Answer). eigen_of d.lead b ev) (sym is) ∙ solved in
-        let only : refused 11 ≡ solution l = ap (λ (j : ℕ). refused j) (sym (only-unordered d.lead (whitened d.lead l sb) (number k) found)) ∙ found in
-        e ∙ ap (λ (o : Outcome Eigen). left (and_then o (λ e. placed l e.values e.vectors))) only ∙ ap left (sym (passes t))
+    eigen-refuses {r} {k} found e =
+        let nan : k ≡ 11 = only-unordered d.lead (whitened d.lead l sb) k found in
+        e ∙ ap cleared nan ∙ ap (λ (o : Outcome Eigen). left (and_then o (λ e. placed l e.values e.vectors))) (ap (λ (j : ℕ). refused j) (sym nan) ∙ found) ∙ ap left (sym (passes t))
 
     -- the eigenpairs stand at the front of their room
-    pub eigen-answers : {r : Called} {k : ℕ} {ev' : List Float} → answer ≡ jacobi-answers.Sweeps k → ev' ≡ ev
-        → r ≡ left (placed l (take d.lead ev') (drop d.lead ev')) → r ≡ left all
+    pub eigen-answers : {r : Called} {k : ℕ} (ev : List Float) {ev' : List Float} → answered (record { values = take d.lead ev; vectors = drop d.lead ev; sweeps = k }) ≡ solution l
+        → ev' ≡ ev → r ≡ left (placed l (take d.lead ev') (drop d.lead ev')) → r ≡ left all
     unfolding and_then
-    eigen-answers {r} {k} is same e =
-        let found : answered (record { values = take d.lead ev; vectors = drop d.lead ev; sweeps = k }) ≡ solution l =
-        ap (λ (b : jacobi-answer.Answer). eigen_of d.lead b ev) (sym is) ∙ solved in e
-        ∙ ap (λ (v : List Float). left (placed l (take d.lead v) (drop d.lead v))) same
+    eigen-answers ev found same e =
+        e ∙ ap (λ (v : List Float). left (placed l (take d.lead v) (drop d.lead v))) same
         ∙ ap (λ (o : Outcome Eigen). left (and_then o (λ e. placed l e.values e.vectors))) found ∙ ap left (sym (passes t))
 
 -- from means and scatter, which stand at the front of their room

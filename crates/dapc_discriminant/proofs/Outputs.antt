@@ -1,10 +1,11 @@
 -- Outputs whose front is cleared, what is told, and the number of axes.
-use Rattle.lists.proofs.Base.{◌≡◌, sym, ap, ap₂, ◌∙◌, Bool, true, false, cond, List, ◌++◌, ℕ, ◌-◌, ◌≤◌, min-le_right}
+use Rattle.lists.proofs.Base.{◌≡◌, refl, ap, ap₂, ◌∙◌, Bool, true, false, cond, List, ◌++◌, ℕ, ◌-◌, ◌≤◌, min-le_right}
 use Rattle.lists.proofs.Base.{arith, length, take, drop, replicate, length-replicate, length-take-le, Float}
 use Rattle.float.specs.Floats.{zero⁺}
 use Rattle.lists.specs.Writes.{over, cleared}
 use Rattle.lists.proofs.Parts.{over-lent}
-use Rattle.dapc_discriminant.specs.{Dapc.axes_of, Outputs.Called}
+use Rattle.outcome.specs.Outcome.{answered, refused}
+use Rattle.dapc_discriminant.specs.{Dapc.axes_of}
 use Rattle.dapc_discriminant.specs.inner.Outputs.{refusal}
 
 -- the front of a slice is lent and cleared
@@ -19,12 +20,14 @@ pub refused-by : (j k n : ℕ) (out : List Float) (assigned : List ℕ) {o : Lis
 refused-by j k n out assigned h g e f = ap₂ (refusal j) (cleared-front zero⁺ k out h e) (cleared-front 0 n assigned g f)
 
 -- what is told by a test
-module _ (x y : Called) {b : Bool} {r : Called} where
-  pub told-yes : b ≡ true → r ≡ x → r ≡ cond b x y
-  told-yes h e = e ∙ sym (ap (λ (t : Bool). cond t x y) h)
+module _ {A : Type 0} (j : ℕ) (a : A) where
+  pub told-yes : (b : Bool) {k : ℕ} → refused k ≡ cond b (refused j) (answered a) → (b ≡ true) × (k ≡ j)
+  told-yes true e = (refl, cc)
+  told-yes false e = (cc, cc)
 
-  pub told-no : b ≡ false → r ≡ y → r ≡ cond b x y
-  told-no h e = e ∙ sym (ap (λ (t : Bool). cond t x y) h)
+  pub told-no : (b : Bool) {x : A} → answered x ≡ cond b (refused j) (answered a) → (b ≡ false) × (x ≡ a)
+  told-no true e = (cc, cc)
+  told-no false e = (refl, cc)
 
 -- there are at most p axes
 pub axes-most : (axes g p : ℕ) → axes ≡ axes_of g p → axes ≤ p

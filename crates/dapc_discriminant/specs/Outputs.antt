@@ -1,12 +1,11 @@
 -- Section 5: the answer of `dapc`, and what its outputs hold afterwards. Definitions and statements only.
-use Rattle.std.specs.Prelude.{ℕ, ◌+◌, ◌*◌, List, ◌++◌, Float}
+use Rattle.std.specs.Prelude.{ℕ, ◌+◌, ◌*◌, Result, List, ◌++◌, Float}
 use Rattle.float.specs.Floats.{zero⁺}
-use Rattle.outcome.specs.Numbers.{number}
-use Rattle.outcome.specs.Outcome.{Outcome, answered, refused, and_then}
+use Rattle.outcome.specs.Numbers as numbers
+use Rattle.outcome.specs.Outcome.{Outcome, answered, and_then}
+use Rattle.outcome.specs.declared.Refusal.{Refusal}
 use Rattle.outcome.specs.Slices.{output}
 use Rattle.dapc_discriminant.specs.declared.Separation.{Separation}
-use Rattle.dapc_discriminant.specs.declared.Answer.{Answer}
-use Rattle.dapc_discriminant.specs.declared.Answer.TheVariants.{Scored, Refused}
 use Rattle.dapc_discriminant.specs.Dapc.{Scores}
 
 -- the answer, and the outputs afterwards
@@ -23,11 +22,10 @@ leaves n p axes o out assigned = record {
   assigned = output 0 (λ s. s.assigned) n o assigned;
 }
 
--- ---- how a contract says it: the enum that is returned, and what the outputs hold
+-- ---- how a contract says it: what is returned, and what the outputs hold
 
-abbrev pub outcome_of : Answer → Outcome Separation
-outcome_of (Scored s) = answered s
-outcome_of (Refused r) = refused (number r)
+abbrev pub outcome_of : Result Separation Refusal → Outcome Separation
+outcome_of r = numbers.outcome_of r
 
-abbrev pub called : Answer → List Float → List ℕ → Called
+abbrev pub called : Result Separation Refusal → List Float → List ℕ → Called
 called r out assigned = record { answer = outcome_of r; out = out; assigned = assigned }

@@ -9,16 +9,16 @@ ghost use Rattle.dapc_discriminant.specs.Outputs.{leaves, called};
 ghost use Rattle.dapc_discriminant.specs.inner.Outputs.{Ready};
 ghost use Rattle.dapc_discriminant.specs.inner.Analysis.{Pairing, Decomposing};
 
-use crate::{Answer, allocation};
+use crate::{Separation, allocation};
 use dapc_cholesky::whitening;
 use dapc_scatter::moments;
-use dapc_scatter::moments::Dimensions;
+use dapc_scatter::samples::{Dimensions, Samples};
 use outcome::Refusal;
 
 // ---- the eigenpairs
 
 // The eigenpairs of sb with the inverse of l on both sides: p values and then p vectors.
-fn eigenpairs(ev: &mut [f64], l: &[f64], sb: &[f64], p: usize) -> eigen_jacobi::Answer
+fn eigenpairs(ev: &mut [f64], l: &[f64], sb: &[f64], p: usize) -> Result<usize, Refusal>
     requires { Pairing p ev.old l.now sb.now }
     ensures { eigen_of p result ev.new ≡ jacobi p (whitened p l.now sb.now) }
 {
@@ -26,17 +26,13 @@ fn eigenpairs(ev: &mut [f64], l: &[f64], sb: &[f64], p: usize) -> eigen_jacobi::
     let mut white = [0.0; limits::MOST_COLUMNS * limits::MOST_COLUMNS];
     let mut half = [0.0; limits::MOST_COLUMNS * limits::MOST_COLUMNS];
     let mut v = [0.0; limits::MOST_COLUMNS * limits::MOST_COLUMNS];
-    let mut row = [0.0; limits::MOST_COLUMNS];
-    let mut order = [0u16; 16];
     whitening::whiten(&mut white[..k], &mut half[..k], l, sb, p);
-    eigen_jacobi::eigen(
+    eigen_jacobi::eigen_within::<{ limits::MOST_COLUMNS }>(
         &white[..k],
         p,
         ev,
         &mut half[..k],
         &mut v[..k],
-        &mut row[..p],
-        &mut order[..p],
     )
 }
 
@@ -50,41 +46,29 @@ fn decompose(
     counts: &[u16],
     a: &[f64],
     sb: &[f64],
-    x: &[f64],
-    groups: &[u16],
-    sizes: Dimensions,
-) -> Answer
-    requires { Decomposing sizes (length out.old) (length assigned.old) mean.now counts.now a.now sb.now x.now groups.now }
-    ensures { called result out.new assigned.new
-        ≡ leaves (length groups.now) sizes.lead sizes.axes (separated (length groups.now) sizes.columns sizes.lead sizes.groups x.now groups.now mean.now a.now sb.now) out.old assigned.old }
+    samples: Samples,
+) -> Result<Separation, Refusal>
+    requires { Decomposing samples (length out.old) (length assigned.old) mean.now counts.now a.now sb.now }
+    ensures { let s = samples.entry in let n = length s.groups.now in called result out.new assigned.new
+        ≡ leaves n s.sizes.lead s.sizes.axes (separated n s.sizes.columns s.sizes.lead s.sizes.groups s.x.now s.groups.now mean.now a.now sb.now) out.old assigned.old }
 {
-    let p = sizes.lead;
+    let n = samples.groups.len();
+    let p = samples.sizes.lead;
     let k = p * p;
     let e = p + k;
     let mut l = [0.0; limits::MOST_COLUMNS * limits::MOST_COLUMNS];
     let mut ev = [0.0; 272];
-    if dapc_cholesky::factor(&mut l[..k], a, p) {
-        return crate::refuse(out, assigned, groups.len(), sizes.axes, Refusal::Pivot);
+    if let Err(pivot) = dapc_cholesky::factor(&mut l[..k], a, p) {
+        return crate::refuse(out, assigned, n, samples.sizes.axes, pivot);
     }
-    let r = eigenpairs(&mut ev[..e], &l[..k], sb, p);
-    let eigen_jacobi::Answer::Sweeps(_) = r else {
-        return crate::refuse(out, assigned, groups.len(), sizes.axes, Refusal::Unordered);
-    };
-    allocation::allocate(
-        out,
-        assigned,
-        &ev[..e],
-        &l[..k],
-        mean,
-        counts,
-        x,
-        groups,
-        sizes,
-    )
+    if let Err(nan) = eigenpairs(&mut ev[..e], &l[..k], sb, p) {
+        return crate::refuse(out, assigned, n, samples.sizes.axes, nan);
+    }
+    allocation::allocate(out, assigned, &ev[..e], &l[..k], mean, counts, samples)
 }
 
 // Below the table: m samples have one of g groups, by number, and p columns lead. The outputs' first part is written; `out` begins with one value per
-// axis and the scores of each sample.
+// axis and the scores of each sample. It takes the parts that its callers have at hand; the one value of them is made here, where its facts are shown.
 pub fn discriminate(
     out: &mut [f64],
     assigned: &mut [u16],
@@ -94,7 +78,7 @@ pub fn discriminate(
     p: usize,
     m: usize,
     g: usize,
-) -> Answer
+) -> Result<Separation, Refusal>
     requires { Ready columns p (axes_of g p) g x.now groups.now (length out.old) (length assigned.old) × (m ≡ length (grouped groups.now)) }
     ensures { called result out.new assigned.new ≡ leaves (length groups.now) p (axes_of g p) (discriminate (length groups.now) columns p x.now groups.now g) out.old assigned.old }
 {
@@ -111,14 +95,13 @@ pub fn discriminate(
         kept: m,
         groups: g,
     };
+    let samples = Samples { x, groups, sizes };
     moments::fill(
         &mut mean[..p],
         &mut counts[..g],
         &mut sw[..k],
         &mut sb[..k],
-        x,
-        groups,
-        sizes,
+        samples,
     );
     decompose(
         out,
@@ -127,8 +110,6 @@ pub fn discriminate(
         &counts[..g],
         &sw[..k],
         &sb[..k],
-        x,
-        groups,
-        sizes,
+        samples,
     )
 }

@@ -4,65 +4,40 @@
 pub mod allocation;
 pub mod analysis;
 
-ghost use Rattle.std.specs.Prelude.{◌≡◌, cond, ◌+◌, ◌*◌, ◌≤◌, length, replicate};
+ghost use Rattle.std.specs.Prelude.{◌≡◌, ◌+◌, ◌*◌, ◌≤◌, length, replicate};
 ghost use Rattle.float.specs.Floats.{zero⁺};
 ghost use Rattle.lists.specs.Writes.{over};
 ghost use Rattle.outcome.specs.Numbers.{number};
 ghost use Rattle.dapc_discriminant.specs.Dapc.{columns_used, axes_of};
 ghost use Rattle.dapc_discriminant.specs.Outputs.{called};
-ghost use Rattle.dapc_discriminant.specs.inner.Outputs.{refusal, scored};
+ghost use Rattle.dapc_discriminant.specs.inner.Outputs.{refusal};
 
 use outcome::Refusal;
 
 // What the scores tell: the columns used, the axes, and how many samples were found to be in their own group.
-#[derive(Drop)]
+#[derive(Clone, Copy)]
 pub struct Separation {
     pub columns: usize,
     pub axes: usize,
     pub right: usize,
 }
 
-// What is answered.
-#[derive(Drop)]
-pub enum Answer {
-    Scored(Separation),
-    Refused(outcome::Refusal),
-}
-
 // ---- the outputs
 
-// The first part of both outputs becomes zero.
-pub fn refuse(out: &mut [f64], assigned: &mut [u16], n: usize, axes: usize, r: Refusal) -> Answer
-    requires { (axes + n * axes ≤ length out.old) × (n ≤ length assigned.old) }
-    ensures { called result out.new assigned.new ≡ refusal (number r) (over (replicate (axes + n * axes) zero⁺) out.old) (over (replicate n 0) assigned.old) }
-{
-    lists::clear(&mut out[..axes + n * axes]);
-    lists::clear_u16(&mut assigned[..n]);
-    Answer::Refused(r)
-}
-
-// The answer of scores that stand in the output, by whether a NaN is among the distances to the centroids: 11, or how many samples are in their own group.
-pub fn tell(
+// The refusal r, by which the first part of both outputs becomes zero.
+pub fn refuse(
     out: &mut [f64],
     assigned: &mut [u16],
     n: usize,
-    p: usize,
     axes: usize,
-    count: usize,
-    unordered: bool,
-) -> Answer
+    r: Refusal,
+) -> Result<Separation, Refusal>
     requires { (axes + n * axes ≤ length out.old) × (n ≤ length assigned.old) }
-    ensures { called result out.new assigned.new
-        ≡ cond unordered (refusal 11 (over (replicate (axes + n * axes) zero⁺) out.old) (over (replicate n 0) assigned.old)) (scored p axes count out.old assigned.old) }
+    ensures { called result out.new assigned.new ≡ refusal (number r) (over (replicate (axes + n * axes) zero⁺) out.old) (over (replicate n 0) assigned.old) }
 {
-    if unordered {
-        return refuse(out, assigned, n, axes, Refusal::Unordered);
-    }
-    Answer::Scored(Separation {
-        columns: p,
-        axes,
-        right: count,
-    })
+    out[..axes + n * axes].fill(0.0);
+    assigned[..n].fill(0);
+    Err(r)
 }
 
 // ---- from the coordinates
@@ -72,10 +47,7 @@ pub fn axes_of(g: usize, p: usize) -> usize
     requires { 2 ≤ g }
     ensures { result ≡ axes_of g p }
 {
-    if g - 1 < p {
-        return g - 1;
-    }
-    p
+    (g - 1).min(p)
 }
 
 // ---- the lines of the table
@@ -84,12 +56,5 @@ pub fn axes_of(g: usize, p: usize) -> usize
 pub fn columns_used(columns: usize, m: usize, g: usize) -> usize
     ensures { result ≡ columns_used columns m g }
 {
-    if m <= g {
-        return 0;
-    }
-    let k = m - (g + 1);
-    if columns < k {
-        return columns;
-    }
-    k
+    columns.min(m.saturating_sub(g).saturating_sub(1))
 }

@@ -5,8 +5,9 @@ use Rattle.lists.proofs.{Ranges.length-range, Filters.count_if-below, Filters.le
 use Rattle.limits.specs.Limits.{none}
 use Rattle.lot.specs.Kept.{sizes}
 use Rattle.dapc_scatter.specs.{Means.grouped, Means.mean_of, Means.group_means, Ridge.ridged, Scatter.scatter_within, Scatter.scatter_between}
-use Rattle.dapc_scatter.specs.declared.moments.Dimensions.{Dimensions}
-use Rattle.dapc_scatter.specs.inner.Moments.{Sized, Filled}
+use Rattle.dapc_scatter.specs.declared.samples.Dimensions.{Dimensions}
+use Rattle.dapc_scatter.specs.declared.samples.Samples.{Samples}
+use Rattle.dapc_scatter.specs.inner.Moments.{Filled}
 
 pub filled_is : (d : Dimensions) (x : List Float) (each : List ℕ) {mean mu mu' sw sb : List Float} {counts : List ℕ} → mean ≡ mean_of d.columns d.lead x each
     → mu ≡ group_means d.columns d.lead x each d.groups → mu' ≡ mu → counts ≡ sizes each (length each) d.groups
@@ -26,10 +27,10 @@ grouped-few each =
     let p : ℕ → Bool = λ i. not (in_group each none i) in
     omega (arith, length-filter p (range 0 (length each)), count_if-below p (range 0 (length each)), length-range 0 (length each))
 
-module _ {d : Dimensions} {x : List Float} {each : List ℕ} (s : Sized d x each) where
-  pub kept-few : d.kept ≤ 256
-  kept-few = omega (arith, s.members, s.few, grouped-few each)
+module _ (s : Samples) where
+  pub kept-few : s.sizes.kept ≤ 256
+  kept-few = omega (arith, s.members, s.few, grouped-few s.groups.now)
 
   -- the groups' means fit their room
-  pub means-fit : d.groups * d.lead ≤ 2048
-  means-fit = omega (arith, mul-le-mul {n₁ = d.groups} {m₁ = d.lead} {n₂ = 128} {m₂ = 16} s.most s.narrow)
+  pub means-fit : s.sizes.groups * s.sizes.lead ≤ 2048
+  means-fit = omega (arith, mul-le-mul {n₁ = s.sizes.groups} {m₁ = s.sizes.lead} {n₂ = 128} {m₂ = 16} s.most s.narrow)

@@ -4,6 +4,7 @@
 pub mod means;
 pub mod moments;
 pub mod ridge;
+pub mod samples;
 
 ghost use Rattle.std.specs.Prelude.{◌≡◌, map, ◌+◌, ◌*◌, ◌≤◌, length, get_or, replicate};
 ghost use Rattle.std.specs.Float.{nan};
@@ -13,11 +14,10 @@ ghost use Rattle.lists.specs.Sums.{sum_from};
 ghost use Rattle.lists.specs.Rows.{entry};
 ghost use Rattle.lot.specs.Kept.{sizes};
 ghost use Rattle.dapc_scatter.specs.Means.{grouped};
-ghost use Rattle.dapc_scatter.specs.inner.Means.{Numbered};
 ghost use Rattle.dapc_scatter.specs.Ridge.{ridged};
 ghost use Rattle.dapc_scatter.specs.Scatter.{off, group_off, scatter_within, scatter_between};
 
-use crate::means::NONE;
+use crate::samples::Samples;
 use eigen_matrix::entrywise;
 
 // ---- scatter
@@ -33,23 +33,21 @@ fn add_outer(m: &mut [f64], p: usize, s: &[f64], d: &[f64])
 }
 
 // Within groups: the products of how far each sample is from its group's mean are added to sw. `d` takes how far.
-fn add_within(
-    sw: &mut [f64],
-    d: &mut [f64],
-    p: usize,
-    g: usize,
-    x: &[f64],
-    groups: &[u16],
-    columns: usize,
-    mu: &[f64],
-)
-    requires { (length sw.old ≡ p * p) × (length d.old ≡ p) × (length mu.now ≡ g * p) × (length x.now ≡ length groups.now * columns) × (p ≤ columns) × Numbered g groups.now }
-    ensures { sw.new ≡ grid p p (λ a b. sum_from (entry p sw.old a b) (map (λ i. off columns p x.now groups.now mu.now i a ⊗ off columns p x.now groups.now mu.now i b) (grouped groups.now))) }
+fn add_within(sw: &mut [f64], d: &mut [f64], samples: Samples, mu: &[f64])
+    requires { (length sw.old ≡ samples.sizes.lead * samples.sizes.lead) × (length d.old ≡ samples.sizes.lead) × (length mu.now ≡ samples.sizes.groups * samples.sizes.lead) }
+    ensures { let s = samples.entry in sw.new ≡ grid s.sizes.lead s.sizes.lead (λ a b. sum_from (entry s.sizes.lead sw.old a b)
+        (map (λ i. off s.sizes.columns s.sizes.lead s.x.now s.groups.now mu.now i a ⊗ off s.sizes.columns s.sizes.lead s.x.now s.groups.now mu.now i b)
+        (grouped s.groups.now))) }
 {
-    for i in 0..groups.len() {
-        let j = lists::entry(groups, i);
-        if j != NONE {
-            entrywise::subtract(d, &x[i * columns..i * columns + p], &mu[j * p..j * p + p]);
+    let p = samples.sizes.lead;
+    let columns = samples.sizes.columns;
+    for i in 0..samples.groups.len() {
+        if let Some(j) = samples.group(i) {
+            entrywise::subtract(
+                d,
+                &samples.x[i * columns..i * columns + p],
+                &mu[j * p..j * p + p],
+            );
             let e = &d[..];
             add_outer(sw, p, e, e);
         }
@@ -85,21 +83,20 @@ pub fn fill_scatter(
     sb: &mut [f64],
     d: &mut [f64],
     s: &mut [f64],
-    p: usize,
-    g: usize,
-    x: &[f64],
-    groups: &[u16],
-    columns: usize,
+    samples: Samples,
     mu: &[f64],
     mean: &[f64],
     counts: &[u16],
 )
-    requires sw_value { (sw.old ≡ replicate (p * p) zero⁺) × (sb.old ≡ replicate (p * p) zero⁺) × (length d.old ≡ p) × (length s.old ≡ p) }
-    requires x_len { (length x.now ≡ length groups.now * columns) × (p ≤ columns) × (p ≤ 16) × Numbered g groups.now }
-    requires mu_len { (length mu.now ≡ g * p) × (length mean.now ≡ p) × (counts.now ≡ sizes groups.now (length groups.now) g) }
-    ensures { (sw.new ≡ ridged p (scatter_within columns p x.now groups.now mu.now)) × (sb.new ≡ scatter_between p g groups.now mu.now mean.now) }
+    requires sw_value { (sw.old ≡ replicate (samples.sizes.lead * samples.sizes.lead) zero⁺) × (sb.old ≡ replicate (samples.sizes.lead * samples.sizes.lead) zero⁺)
+        × (length d.old ≡ samples.sizes.lead) × (length s.old ≡ samples.sizes.lead) }
+    requires mu_len { (length mu.now ≡ samples.sizes.groups * samples.sizes.lead) × (length mean.now ≡ samples.sizes.lead)
+        × (counts.now ≡ sizes samples.groups.now (length samples.groups.now) samples.sizes.groups) }
+    ensures { let s = samples.entry in (sw.new ≡ ridged s.sizes.lead (scatter_within s.sizes.columns s.sizes.lead s.x.now s.groups.now mu.now))
+        × (sb.new ≡ scatter_between s.sizes.lead s.sizes.groups s.groups.now mu.now mean.now) }
 {
-    add_within(sw, d, p, g, x, groups, columns, mu);
+    let p = samples.sizes.lead;
+    add_within(sw, d, samples, mu);
     ridge::add_ridge(sw, p);
     add_between(sb, d, s, p, counts, mu, mean);
 }

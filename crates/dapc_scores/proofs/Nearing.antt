@@ -1,22 +1,42 @@
 -- A group more that may be nearer. The invariant `Nearing`: of the first j distances the least is known, and whether one is a NaN.
 use Rattle.lists.proofs.Base.{◌≡◌, refl, sym, ap, ap₂, subst, ◌∙◌, Bool, true, false, cond, ◌||◌, List, [], ◌∷◌, map, ℕ, ◌+◌, ◌<◌, ◌≤◌, arith, T, length, get_or, take, get_or-take}
 use lib.Ieee.{Float, nan, lt, ne, is_nan}
-use Rattle.float.specs.Floats.{◌⊖◌, ◌⊗◌}
+use Rattle.float.specs.Floats.{◌⊕◌, ◌⊖◌, ◌⊗◌, zero⁻}
 use Rattle.float.proofs.Nan.{nan-ne, is-nan}
-use Rattle.lists.specs.{Ranges.range, Ranges.table, Loops.in_turn, Filters.any, Sums.sum⁻, Rows.entry}
+use Rattle.lists.specs.{Ranges.range, Ranges.table, Loops.in_turn, Filters.any, Sums.sum⁻, Sums.sum_from, Rows.entry}
 use Rattle.lists.proofs.{Ranges.length-table, Ranges.get_or-table, Ranges.table-ext, Ranges.table-range, Filters.range-any-none}
+use Rattle.lists.proofs.Sums.{sum-turn, sum-end, sum-table}
 use Rattle.lists.proofs.{Loops.in_turn-none, Loops.in_turn-next, Searches.any-more, Grids.first-row, Grids.part-entry, Truths.or-false, Truths.or-true}
 use Rattle.dapc_scatter.proofs.MeanSums.{front}
 use Rattle.dapc_scores.specs.Assigned.{gap, nearest_of}
 
 -- two rows alone
-pub gap_row : (x y : List Float) → sum⁻ (table (length x) (λ k. (get_or x k nan ⊖ get_or y k nan) ⊗ (get_or x k nan ⊖ get_or y k nan))) ≡ gap (length x) x y 0 0
+gap_row : (x y : List Float) → sum⁻ (table (length x) (λ k. (get_or x k nan ⊖ get_or y k nan) ⊗ (get_or x k nan ⊖ get_or y k nan))) ≡ gap (length x) x y 0 0
 unfolding gap
 gap_row x y =
     let f : ℕ → Float = λ k. get_or x k nan ⊖ get_or y k nan in
     let h : ℕ → Float = λ k. entry (length x) x 0 k ⊖ entry (length x) y 0 k in
     ap sum⁻ (table-ext (λ k. f k ⊗ f k) (λ k. h k ⊗ h k) (length x)
     (λ k _. ap (λ (d : Float). d ⊗ d) (ap₂ (λ (u v : Float). u ⊖ v) (sym (first-row (length x) x k)) (sym (first-row (length x) y k)))))
+
+-- its sum, entry after entry: with the squares from entry i on, s is the whole
+abbrev pub square : List Float → List Float → ℕ → Float
+square x y k = (get_or x k nan ⊖ get_or y k nan) ⊗ (get_or x k nan ⊖ get_or y k nan)
+
+pub record Summing (x y : List Float) (s : Float) (i : ℕ) : Type 0 where
+  pub left : sum_from s (map (square x y) (range i (length x))) ≡ sum⁻ (table (length x) (square x y))
+
+module _ (x y : List Float) where
+  pub summing-none : Summing x y zero⁻ 0
+  summing-none = record { left = sym (sum-table zero⁻ (length x) (square x y)) }
+
+  -- the entries of that place, and the next place, by other names
+  pub summing-turn : {s u v : Float} {i j : ℕ} → i < length x → u ≡ get_or x i nan → v ≡ get_or y i nan → j ≡ i + 1 → Summing x y s i
+      → Summing x y (s ⊕ (u ⊖ v) ⊗ (u ⊖ v)) j
+  summing-turn {s} {u} {v} {i} h p q e w = rw (p, q, e) (record { left = sum-turn (square x y) s i (length x) h refl refl w.left })
+
+  pub summing-all : {s : Float} {i : ℕ} → length x ≤ i → Summing x y s i → s ≡ gap (length x) x y 0 0
+  summing-all {s} {i} h w = sum-end (square x y) s i (length x) h w.left ∙ gap_row x y
 
 -- the distance to one centroid of many: the first, and one that is lent by itself
 module _ (axes : ℕ) (row cen : List Float) (wide : length row ≡ axes) where

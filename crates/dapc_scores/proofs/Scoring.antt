@@ -3,7 +3,8 @@
 use Rattle.lists.proofs.Base.{◌≡◌, sym, ap, ap₂, subst, ◌∙◌, List, map, ℕ, ◌+◌, ◌-◌, ◌*◌, ◌<◌, ◌≤◌, arith, length, get_or, replicate, Float, nan, put_mid}
 use Rattle.float.specs.Floats.{◌⊕◌, ◌⊖◌, ◌⊗◌, ◌⊘◌, num, zero⁺}
 use Rattle.lists.specs.{Ranges.table, Ranges.rows, Ranges.grid, Numbers.in_group, Numbers.members, Sums.sum_from, Sums.sum⁻, Rows.entry}
-use Rattle.lists.proofs.{Ranges.length-table, Ranges.get_or-table, Ranges.table-ext, Rows.row-end, Rows.length_part}
+use Rattle.lists.proofs.{Ranges.length-table, Ranges.get_or-table, Ranges.table-ext, Rows.row-end, Rows.length_part, Zips.zip-table}
+use Rattle.eigen_vectors.specs.Vectors.{dot}
 use Rattle.limits.specs.Limits.{none}
 use Rattle.lot.specs.Kept.{sizes}
 use Rattle.lists.proofs.Grids.{part-entry, grid-ext, entry-replicate}
@@ -79,7 +80,9 @@ module _ (axes g : ℕ) (groups : List ℕ) (scores : List Float) (counts : List
       (ap (λ (l : List ℕ). get_or l j 0) counted ∙ get_or-sizes groups (length groups) g j y))
 
 -- a direction is lent by itself
-pub dot-part : (p : ℕ) (d vs : List Float) (a : ℕ) → length d ≡ p →
-    sum⁻ (table (length d) (λ c. get_or d c nan ⊗ get_or (front p a p vs) c nan)) ≡ sum⁻ (table p (λ c. get_or d c nan ⊗ entry p vs a c))
-dot-part p d vs a e = ap (λ (k : ℕ). sum⁻ (table k (λ c. get_or d c nan ⊗ get_or (front p a p vs) c nan))) e
+pub dot-part : (p : ℕ) (d vs : List Float) (a : ℕ) → length d ≡ p → length (front p a p vs) ≡ length d
+    → dot d (front p a p vs) ≡ sum⁻ (table p (λ c. get_or d c nan ⊗ entry p vs a c))
+unfolding dot
+dot-part p d vs a e f = ap sum⁻ (sym (zip-table (λ u v. u ⊗ v) d (front p a p vs) nan nan (sym f)))
+    ∙ ap (λ (k : ℕ). sum⁻ (table k (λ c. get_or d c nan ⊗ get_or (front p a p vs) c nan))) e
     ∙ ap sum⁻ (table-ext (λ c. get_or d c nan ⊗ get_or (front p a p vs) c nan) (λ c. get_or d c nan ⊗ entry p vs a c) p (λ c h. ap (λ (u : Float). get_or d c nan ⊗ u) (part-entry p a p vs c h)))

@@ -10,25 +10,12 @@ ghost use Rattle.lists.specs.Ranges.{table};
 ghost use Rattle.lists.specs.Sums.{sum⁻};
 ghost use Rattle.lists.specs.Rows.{entry};
 ghost use Rattle.lot.specs.Kept.{sizes};
-ghost use Rattle.dapc_scatter.specs.inner.Means.{Numbered};
 ghost use Rattle.dapc_scores.specs.Scores.{scores_of, centroids};
 
-use dapc_scatter::means;
+use dapc_scatter::samples::Samples;
 use eigen_matrix::entrywise;
 
 // ---- scores
-
-// The sum of the products of d and v.
-fn dot(d: &[f64], v: &[f64]) -> f64
-    requires { length v.now ≡ length d.now }
-    ensures { result ≡ sum⁻ (table (length d.now) (λ c. get_or d.now c nan ⊗ get_or v.now c nan)) }
-{
-    let mut s = -0.0;
-    for c in 0..d.len() {
-        s = s + d[c] * v[c];
-    }
-    s
-}
 
 // The scores of one sample, which is d from the mean.
 fn score_row(row: &mut [f64], d: &[f64], p: usize, vs: &[f64])
@@ -36,27 +23,21 @@ fn score_row(row: &mut [f64], d: &[f64], p: usize, vs: &[f64])
     ensures { row.new ≡ table (length row.old) (λ a. sum⁻ (table p (λ c. get_or d.now c nan ⊗ entry p vs.now a c))) }
 {
     for a in 0..row.len() {
-        row[a] = dot(d, &vs[a * p..a * p + p]);
+        row[a] = eigen_vectors::dot(d, &vs[a * p..a * p + p]);
     }
 }
 
-// The scores of n samples. `d` takes how far a sample is from the mean.
-pub fn fill_scores(
-    scores: &mut [f64],
-    d: &mut [f64],
-    n: usize,
-    axes: usize,
-    x: &[f64],
-    columns: usize,
-    p: usize,
-    mean: &[f64],
-    vs: &[f64],
-)
-    requires { (length scores.old ≡ n * axes) × (length d.old ≡ p) × (length x.now ≡ n * columns) × (p ≤ columns) × (length mean.now ≡ p) × (length vs.now ≡ axes * p) }
-    ensures { scores.new ≡ scores_of n columns p axes x.now mean.now vs.now }
+// The scores of the samples. `d` takes how far a sample is from the mean.
+pub fn fill_scores(scores: &mut [f64], d: &mut [f64], samples: Samples, mean: &[f64], vs: &[f64])
+    requires { (length scores.old ≡ length samples.groups.now * samples.sizes.axes) × (length d.old ≡ samples.sizes.lead)
+        × (length mean.now ≡ samples.sizes.lead) × (length vs.now ≡ samples.sizes.axes * samples.sizes.lead) }
+    ensures { let s = samples.entry in scores.new ≡ scores_of (length s.groups.now) s.sizes.columns s.sizes.lead s.sizes.axes s.x.now mean.now vs.now }
 {
-    for i in 0..n {
-        entrywise::subtract(d, &x[i * columns..i * columns + p], mean);
+    let p = samples.sizes.lead;
+    let axes = samples.sizes.axes;
+    let columns = samples.sizes.columns;
+    for i in 0..samples.groups.len() {
+        entrywise::subtract(d, &samples.x[i * columns..i * columns + p], mean);
         score_row(&mut scores[i * axes..i * axes + axes], d, p, vs);
     }
 }
@@ -68,26 +49,18 @@ fn add_quotients(row: &mut [f64], other: &[f64], by: f64)
     requires { length other.now ≡ length row.old }
     ensures { row.new ≡ table (length row.old) (λ c. get_or row.old c nan ⊕ get_or other.now c nan ⊘ by) }
 {
-    for c in 0..row.len() {
-        row[c] = row[c] + other[c] / by;
-    }
+    entrywise::rewrite(row, |c, r| r + other[c] / by);
 }
 
-// The centroid of each of g groups, from zeros.
-pub fn fill_centroids(
-    cen: &mut [f64],
-    axes: usize,
-    g: usize,
-    scores: &[f64],
-    groups: &[u16],
-    counts: &[u16],
-)
-    requires { (cen.old ≡ replicate (g * axes) zero⁺) × (length scores.now ≡ length groups.now * axes) × (counts.now ≡ sizes groups.now (length groups.now) g) × (g ≤ 128) × Numbered g groups.now }
-    ensures { cen.new ≡ centroids axes g groups.now scores.now }
+// The centroid of each group, from zeros.
+pub fn fill_centroids(cen: &mut [f64], scores: &[f64], samples: Samples, counts: &[u16])
+    requires { (cen.old ≡ replicate (samples.sizes.groups * samples.sizes.axes) zero⁺) × (length scores.now ≡ length samples.groups.now * samples.sizes.axes)
+        × (counts.now ≡ sizes samples.groups.now (length samples.groups.now) samples.sizes.groups) }
+    ensures { let s = samples.entry in cen.new ≡ centroids s.sizes.axes s.sizes.groups s.groups.now scores.now }
 {
-    for i in 0..groups.len() {
-        let j = lists::entry(groups, i);
-        if j != means::NONE {
+    let axes = samples.sizes.axes;
+    for i in 0..samples.groups.len() {
+        if let Some(j) = samples.group(i) {
             let n = lists::entry(counts, j) as f64;
             add_quotients(
                 &mut cen[j * axes..j * axes + axes],

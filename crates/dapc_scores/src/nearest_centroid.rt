@@ -1,12 +1,14 @@
 // Section 5: the nearest centroid of each sample, and how many samples were found to be in their own group.
 ghost use Rattle.std.specs.Prelude.{◌≡◌, ◌||◌, cond, ◌+◌, ◌*◌, ◌<◌, ◌≤◌, eqb, length};
 ghost use Rattle.std.specs.Float.Ieee.{lt, is_nan};
-ghost use Rattle.limits.specs.Limits.{most_samples};
+ghost use Rattle.outcome.specs.Outcome.{answered, refused};
+ghost use Rattle.outcome.specs.Numbers.{outcome_of};
 ghost use Rattle.lists.specs.Filters.{any};
 ghost use Rattle.lists.specs.Rows.{entry};
 ghost use Rattle.dapc_scores.specs.Assigned.{gap, gaps, nearest_of, assigned_of, unordered, right_of};
 
-use dapc_scatter::means;
+use dapc_scatter::samples::Samples;
+use outcome::Refusal;
 
 // The squared distance of two rows.
 fn gap_between(x: &[f64], y: &[f64]) -> f64
@@ -14,16 +16,16 @@ fn gap_between(x: &[f64], y: &[f64]) -> f64
     ensures { result ≡ gap (length x.now) x.now y.now 0 0 }
 {
     let mut s = -0.0;
-    for a in 0..x.len() {
-        let d = x[a] - y[a];
+    for (a, b) in x.iter().zip(y) {
+        let d = a - b;
         s = s + d * d;
     }
     s
 }
 
-// The nearest group so far, its distance, and whether a distance was a NaN.
-#[derive(Drop)]
-pub struct Best {
+// The nearest group so far, its distance, and whether a distance was a NaN. The group is told in both cases, since `assign` writes it in both.
+#[derive(Clone, Copy)]
+struct Best {
     group: usize,
     gap: f64,
     unordered: bool,
@@ -33,21 +35,16 @@ pub struct Best {
 fn nearer(b: Best, j: usize, d: f64) -> Best
     ensures { (result.group ≡ cond (lt d b.gap) j b.group) × (result.gap ≡ cond (lt d b.gap) d b.gap) × (result.unordered ≡ (b.unordered || is_nan d)) }
 {
-    if d != d {
-        return Best {
-            group: b.group,
-            gap: b.gap,
-            unordered: true,
-        };
-    }
+    let unordered = b.unordered || d.is_nan();
     if d < b.gap {
-        return Best {
+        Best {
             group: j,
             gap: d,
-            unordered: b.unordered,
-        };
+            unordered,
+        }
+    } else {
+        Best { unordered, ..b }
     }
-    b
 }
 
 // The nearest of g centroids to a row of scores.
@@ -59,7 +56,7 @@ fn nearest(row: &[f64], cen: &[f64], axes: usize, g: usize) -> Best
     let mut b = Best {
         group: 0,
         gap: first,
-        unordered: first != first,
+        unordered: first.is_nan(),
     };
     for j in 1..g {
         let d = gap_between(row, &cen[j * axes..j * axes + axes]);
@@ -68,56 +65,37 @@ fn nearest(row: &[f64], cen: &[f64], axes: usize, g: usize) -> Best
     b
 }
 
-// How many samples were found to be in their own group, and whether a distance was a NaN.
-#[derive(Drop)]
-pub struct Tally {
-    pub right: usize,
-    pub unordered: bool,
-}
-
-// A sample of the group `own` more.
-fn note(t: Tally, b: Best, own: usize) -> Tally
-    requires { t.right < 65536 }
-    ensures { (result.right ≡ t.right + cond (eqb b.group own) 1 0) × (result.unordered ≡ (t.unordered || b.unordered)) }
-{
-    let mut right = t.right;
-    if b.group == own {
-        right += 1;
-    }
-    let mut unordered = t.unordered;
-    if b.unordered {
-        unordered = true;
-    }
-    Tally { right, unordered }
-}
-
-// The nearest group of each sample that has a group goes to `found`, and none of the others.
+// The nearest group of each sample that has a group goes to `found`, and none of the others. How many samples were found to be in their own group is
+// returned; refused, with all of `found` written, where a distance is a NaN.
 pub fn assign(
     found: &mut [u16],
     scores: &[f64],
     cen: &[f64],
-    groups: &[u16],
-    axes: usize,
-    g: usize,
-) -> Tally
-    requires { (length found.old ≡ length groups.now) × (length scores.now ≡ length groups.now * axes) × (length cen.now ≡ g * axes) × (0 < g) × (g ≤ 128) × (length groups.now ≤ most_samples) }
-    ensures { (found.new ≡ assigned_of (length groups.now) axes g groups.now scores.now cen.now)
-        × (result.right ≡ right_of groups.now found.new) × (result.unordered ≡ unordered axes g groups.now scores.now cen.now) }
+    samples: Samples,
+) -> Result<usize, Refusal>
+    requires { (length found.old ≡ length samples.groups.now) × (length scores.now ≡ length samples.groups.now * samples.sizes.axes)
+        × (length cen.now ≡ samples.sizes.groups * samples.sizes.axes) }
+    ensures { let s = samples.entry in (found.new ≡ assigned_of (length s.groups.now) s.sizes.axes s.sizes.groups s.groups.now scores.now cen.now)
+        × (outcome_of result ≡ cond (unordered s.sizes.axes s.sizes.groups s.groups.now scores.now cen.now) (refused 11) (answered (right_of s.groups.now found.new))) }
 {
-    let mut t = Tally {
-        right: 0,
-        unordered: false,
-    };
-    for i in 0..groups.len() {
-        let j = lists::entry(groups, i);
-        if j == means::NONE {
-            found[i] = limits::NONE;
-        } else {
-            let b = nearest(&scores[i * axes..i * axes + axes], cen, axes, g);
-            let k = b.group;
-            found[i] = k as u16;
-            t = note(t, b, j);
+    let axes = samples.sizes.axes;
+    let mut right = 0;
+    let mut unordered = false;
+    for i in 0..samples.groups.len() {
+        match samples.group(i) {
+            None => found[i] = limits::NONE,
+            Some(j) => {
+                let row = &scores[i * axes..i * axes + axes];
+                let b = nearest(row, cen, axes, samples.sizes.groups);
+                let k = b.group;
+                found[i] = k as u16;
+                right += usize::from(k == j);
+                unordered |= b.unordered;
+            }
         }
     }
-    t
+    if unordered {
+        return Err(Refusal::Unordered);
+    }
+    Ok(right)
 }

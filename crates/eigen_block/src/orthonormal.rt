@@ -45,9 +45,9 @@ fn draw(z: &mut [f64])
     ensures { z.new ≡ map uniform (states (length z.old) 0xc0ffee) }
 {
     let mut s: u64 = 0xc0ffee;
-    for i in 0..z.len() {
+    for x in z.iter_mut() {
         s = splitmix::advance(s);
-        z[i] = splitmix::uniform(s);
+        *x = splitmix::uniform(s);
     }
 }
 

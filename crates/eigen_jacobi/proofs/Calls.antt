@@ -8,8 +8,8 @@ use Rattle.outcome.specs.declared.Refusal.TheVariants.{Unordered}
 use Rattle.outcome.specs.Refusals.{first, unfit}
 use Rattle.outcome.specs.Outcome.{Outcome, Told, answered, refused, passed, judged, and_then}
 use Rattle.outcome.specs.Slices.{output, work, untouched}
-use Rattle.eigen_jacobi.specs.declared.Answer.{Answer}
-use Rattle.eigen_jacobi.specs.declared.Answer.TheVariants.{Sweeps, Refused}
+use Rattle.outcome.specs.declared.Refusal.{Refusal}
+use Rattle.std.specs.Prelude.{Result, Ok, Err}
 use Rattle.eigen_rotations.specs.{Rotation.turned, Sweeps.Swept, Sweeps.swept, Sweeps.sweeps_from, Diagonal.identity, Diagonal.diagonal}
 use Rattle.eigen_jacobi.specs.{Descending.descending, Descending.values_in, Descending.vectors_in, Eigen.Eigen, Eigen.eigenpairs, Eigen.jacobi}
 use Rattle.eigen_jacobi.proofs.{OutputFronts.output-front, DescendingOrder.length-descending, DescendingOrder.descending-below, GatheredRows.length-gathered}
@@ -47,7 +47,7 @@ module _ (n : ℕ) (a : List Float) {m v d : List Float} {k : ℕ} (e : swept k 
 
   -- the output, of just the length, is zero, or holds the values and the vectors
   module _ (out : List Float) (len : length out ≡ n + n * n) {out' : List Float} where
-    pub solved-unordered : any is_nan d ≡ true → out' ≡ cleared zero⁺ out → solved n (Refused Unordered) out' ≡ solution n a out
+    pub solved-unordered : any is_nan d ≡ true → out' ≡ cleared zero⁺ out → solved n (Err Unordered) out' ≡ solution n a out
     unfolding solution written output cleared
     solved-unordered t h =
         let found = jacobi-unordered t in
@@ -57,7 +57,7 @@ module _ (n : ℕ) (a : List Float) {m v d : List Float} {k : ℕ} (e : swept k 
         ap₂ (λ (o : Outcome Eigen) (l : List Float). record { found = o; out = l }) found (all ∙ ap (λ (o : Outcome Eigen). written n o out) found)
 
     pub solved-ordered : length d ≡ n → length v ≡ n * n → any is_nan d ≡ false → out' ≡ values_in (descending d) d ++ vectors_in (descending d) n v →
-        solved n (Sweeps k) out' ≡ solution n a out
+        solved n (Ok k) out' ≡ solution n a out
     unfolding solution written output
     solved-ordered hd hv t h =
         let values = values_in (descending d) d in
@@ -67,13 +67,13 @@ module _ (n : ℕ) (a : List Float) {m v d : List Float} {k : ℕ} (e : swept k 
         let both = length-append values vectors in
         let front : take n out' ≡ values = ap (take n) h ∙ take_at values vectors n many in
         let back : drop n out' ≡ vectors = ap (drop n) h ∙ drop_at values vectors n many in
-        let found : eigen_of n (Sweeps k) out' ≡ jacobi n a =
+        let found : eigen_of n (Ok k) out' ≡ jacobi n a =
         ap₂ (λ (x y : List Float). answered (record { values = x; vectors = y; sweeps = k })) front back ∙ jacobi-ordered t in
         let all : out' ≡ over (values ++ vectors) out = h ∙ sym (over-all (values ++ vectors) out (omega arith)) in
         ap₂ (λ (o : Outcome Eigen) (l : List Float). record { found = o; out = l }) found (all ∙ ap (λ (o : Outcome Eigen). written n o out) (jacobi-ordered t))
 
 -- what a caller of `eigen` learns: the answer and the output, read together, are what is found; and the output itself
-module _ (n : ℕ) (a out : List Float) (r : Answer) {out' : List Float} (e : solved n r out' ≡ solution n a out) where
+module _ (n : ℕ) (a out : List Float) (r : Result ℕ Refusal) {out' : List Float} (e : solved n r out' ≡ solution n a out) where
   pub solved-found : eigen_of n r out' ≡ jacobi n a
   unfolding solution
   solved-found = ap (λ (s : Solved). s.found) e
@@ -84,10 +84,10 @@ module _ (n : ℕ) (a out : List Float) (r : Answer) {out' : List Float} (e : so
 
 -- ---- the same on slices that may be longer, with the work cleared
 
-sweeps-read : (n : ℕ) (r : Answer) (out : List Float) → outcome_of r ≡ sweeps_of (eigen_of n r out)
+sweeps-read : (n : ℕ) (r : Result ℕ Refusal) (out : List Float) → outcome_of r ≡ sweeps_of (eigen_of n r out)
 unfolding sweeps_of and_then
-sweeps-read n (Sweeps k) out = refl
-sweeps-read n (Refused r) out = refl
+sweeps-read n (Ok k) out = refl
+sweeps-read n (Err r) out = refl
 
 -- the eigenpairs are refused for a NaN alone
 pub only-unordered : (n : ℕ) (a : List Float) (k : ℕ) → refused k ≡ jacobi n a → k ≡ 11
@@ -108,7 +108,7 @@ jacobi-work n a l = by (sweeps_from 100 n 0 (turned a (identity n))) _ refl
     by w false t = rw (t, eigenpairs)
 
 module _ (n : ℕ) (a out m v : List Float) where
-  pub solved-leaves : (r : Answer) {part m' v' : List Float} → solved n r part ≡ solution n a (take (n + n * n) out) → length part ≡ n + n * n
+  pub solved-leaves : (r : Result ℕ Refusal) {part m' v' : List Float} → solved n r part ≡ solution n a (take (n + n * n) out) → length part ≡ n + n * n
       → m' ≡ cleared zero⁺ m → v' ≡ cleared zero⁺ v → called r (part ++ drop (n + n * n) out) m' v' ≡ leaves n (jacobi n a) out m v
   unfolding leaves written
   solved-leaves r {part} {m'} {v'} e many hm hv =

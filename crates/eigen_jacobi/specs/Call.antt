@@ -1,15 +1,14 @@
 -- Section 4, `jacobi_eigen`: a whole call, its answer and what all that is lent holds afterwards (document 01, the table and below it). Definitions only.
-use Rattle.std.specs.Prelude.{ℕ, ◌+◌, ◌*◌, Bool, ◌||◌, List, [], ◌∷◌, ◌++◌, ltb, length, Float}
+use Rattle.std.specs.Prelude.{ℕ, ◌+◌, ◌*◌, Bool, ◌||◌, Result, List, [], ◌∷◌, ◌++◌, ltb, length, Float}
 use Rattle.limits.specs.Limits.{most_samples}
 use Rattle.float.specs.Floats.{zero⁺}
 use Rattle.lists.specs.Filters.{any}
 use Rattle.outcome.specs.Refusals.{Line, ◌when◌, first, unfit, short}
-use Rattle.outcome.specs.Numbers.{number}
-use Rattle.outcome.specs.Outcome.{Outcome, answered, refused, judged, and_then}
+use Rattle.outcome.specs.declared.Refusal.{Refusal}
+use Rattle.outcome.specs.Numbers as numbers
+use Rattle.outcome.specs.Outcome.{Outcome, answered, judged, and_then}
 use Rattle.outcome.specs.Slices.{output, work}
 use Rattle.eigen_matrix.specs.Finite.{not_finite}
-use Rattle.eigen_jacobi.specs.declared.Answer.{Answer}
-use Rattle.eigen_jacobi.specs.declared.Answer.TheVariants.{Sweeps, Refused}
 use Rattle.eigen_jacobi.specs.Eigen.{Eigen, jacobi}
 
 -- what is asked of slices: the output must hold n values and n rows of n; then m and v
@@ -51,11 +50,10 @@ leaves n o out m v = record { answer = sweeps_of o; out = written n o out; m = w
 unfoldable pub jacobi_call : ℕ → List Float → List Float → List Float → List Float → Called
 jacobi_call n a out m v = leaves n (judged (first (jacobi_lines n a (length out) (length m) (length v))) (jacobi n a)) out m v
 
--- ---- how a contract says it: the enum that is returned, and what the slices hold
+-- ---- how a contract says it: what is returned, and what the slices hold
 
-abbrev pub outcome_of : Answer → Outcome ℕ
-outcome_of (Sweeps k) = answered k
-outcome_of (Refused r) = refused (number r)
+abbrev pub outcome_of : Result ℕ Refusal → Outcome ℕ
+outcome_of r = numbers.outcome_of r
 
-abbrev pub called : Answer → List Float → List Float → List Float → Called
+abbrev pub called : Result ℕ Refusal → List Float → List Float → List Float → Called
 called r out m v = record { answer = outcome_of r; out = out; m = m; v = v }

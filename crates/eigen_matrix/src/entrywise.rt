@@ -3,15 +3,24 @@ ghost use Rattle.std.specs.Prelude.{◌≡◌, ◌+◌, ◌*◌, length, get_or}
 ghost use Rattle.std.specs.Float.{nan};
 ghost use Rattle.float.specs.Floats.{◌⊕◌, ◌⊖◌, ◌⊗◌, ◌⊘◌};
 ghost use Rattle.lists.specs.Ranges.{table};
+ghost use Rattle.eigen_matrix.specs.inner.Rewriting.{Rewriting, Rewrites};
+
+// Each entry becomes f of its place and itself.
+pub fn rewrite<F: Fn(usize, f64) -> f64>(row: &mut [f64], f: F)
+    requires { Rewriting (F.pre f) (length row.old) }
+    ensures { Rewrites (F.post f) row.old row.new }
+{
+    for c in 0..row.len() {
+        row[c] = f(c, row[c]);
+    }
+}
 
 // row + other.
 pub fn add(row: &mut [f64], other: &[f64])
     requires { length other.now ≡ length row.old }
     ensures { row.new ≡ table (length row.old) (λ c. get_or row.old c nan ⊕ get_or other.now c nan) }
 {
-    for c in 0..row.len() {
-        row[c] = row[c] + other[c];
-    }
+    rewrite(row, |c, r| r + other[c]);
 }
 
 // row + s * other.
@@ -19,18 +28,14 @@ pub fn add_multiple(row: &mut [f64], s: f64, other: &[f64])
     requires { length other.now ≡ length row.old }
     ensures { row.new ≡ table (length row.old) (λ c. get_or row.old c nan ⊕ s ⊗ get_or other.now c nan) }
 {
-    for c in 0..row.len() {
-        row[c] = row[c] + s * other[c];
-    }
+    rewrite(row, |c, r| r + s * other[c]);
 }
 
 // row / by.
 pub fn divide(row: &mut [f64], by: f64)
     ensures { row.new ≡ table (length row.old) (λ c. get_or row.old c nan ⊘ by) }
 {
-    for c in 0..row.len() {
-        row[c] = row[c] / by;
-    }
+    rewrite(row, |_, r| r / by);
 }
 
 // w * d.
@@ -38,9 +43,7 @@ pub fn scale(row: &mut [f64], w: f64, d: &[f64])
     requires { length d.now ≡ length row.old }
     ensures { row.new ≡ table (length row.old) (λ c. w ⊗ get_or d.now c nan) }
 {
-    for c in 0..row.len() {
-        row[c] = w * d[c];
-    }
+    rewrite(row, |c, _| w * d[c]);
 }
 
 // a - b.
@@ -48,7 +51,5 @@ pub fn subtract(row: &mut [f64], a: &[f64], b: &[f64])
     requires { (length a.now ≡ length row.old) × (length b.now ≡ length row.old) }
     ensures { row.new ≡ table (length row.old) (λ c. get_or a.now c nan ⊖ get_or b.now c nan) }
 {
-    for c in 0..row.len() {
-        row[c] = a[c] - b[c];
-    }
+    rewrite(row, |c, _| a[c] - b[c]);
 }

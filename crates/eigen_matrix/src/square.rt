@@ -1,8 +1,16 @@
-// A square matrix lent as one slice, row by row: its trace, and made symmetric.
+// A square matrix lent as one slice, row by row: its trace, and made symmetric; the struct that says so of one that is read.
 ghost use Rattle.std.specs.Prelude.{◌≡◌, ◌+◌, ◌*◌, ◌<◌, length};
 ghost use Rattle.eigen_matrix.specs.Trace.{trace};
 ghost use Rattle.eigen_matrix.specs.Symmetric.{symmetrised};
 ghost use Rattle.eigen_matrix.specs.inner.Symmetric.{evened, evened_row};
+
+// One that is read: n rows of n entries.
+#[derive(Clone, Copy)]
+pub struct Square<'a> {
+    pub entries: &'a [f64],
+    pub n: usize,
+    pub ghost sized: { length entries.now ≡ n * n },
+}
 
 // The sum of the diagonal.
 pub fn trace(b: &[f64], n: usize) -> f64

@@ -5,11 +5,8 @@ use Rattle.float.specs.Floats.{zero⁺}
 use Rattle.lists.specs.Writes.{over, cleared}
 use Rattle.lists.proofs.Writes.{over-all}
 use Rattle.outcome.specs.declared.Refusal.{Refusal}
-use Rattle.outcome.specs.declared.Refusal.TheVariants.{Unordered}
-use Rattle.outcome.specs.declared.Check.TheVariants.{Passed, Refused}
+use Rattle.std.specs.Prelude.{Result, Ok, Err}
 use Rattle.outcome.specs.{Outcome.Outcome, Outcome.answered, Outcome.refused, Outcome.and_then, Numbers.number, Slices.output}
-use Rattle.eigen_jacobi.specs.declared.Answer.{Answer}
-use Rattle.eigen_jacobi.specs.declared.Answer.TheVariants as jacobi-answers
 use Rattle.eigen_jacobi.specs.Eigen.{Eigen, jacobi}
 use Rattle.eigen_jacobi.specs.inner.Call.{eigen_of}
 use Rattle.eigen_jacobi.proofs.Calls.{only-unordered}
@@ -22,16 +19,16 @@ small-square h = mul-le-mul h h
 
 -- An output of just the length, by what is found: zeros on 11, else the values and the vectors.
 module _ (k n : ℕ) (out : List Float) (len : length out ≡ k + k * n) {out' : List Float} where
-  gives-unordered : out' ≡ cleared zero⁺ out → given k (Refused Unordered) out' ≡ gives k n (refused 11) out
+  gives-unordered : (why : Refusal) → number why ≡ 11 → out' ≡ cleared zero⁺ out → given k (Err why) out' ≡ gives k n (refused (number why)) out
   unfolding gives written output cleared
-  gives-unordered h =
+  gives-unordered why e h =
       let many = length-replicate (k + k * n) zero⁺ in
       let all : out' ≡ over (replicate (k + k * n) zero⁺) out =
       h ∙ ap (λ (j : ℕ). replicate j zero⁺) len ∙ sym (over-all (replicate (k + k * n) zero⁺) out (omega arith)) in
-      ap (λ (l : List Float). record { found = refused 11; out = l }) all
+      rw e (ap (λ (l : List Float). record { found = refused 11; out = l }) all)
 
   gives-pairs : (values vectors : List Float) → length values ≡ k → length vectors ≡ k * n → out' ≡ values ++ vectors
-      → given k Passed out' ≡ gives k n (answered (record { values = values; vectors = vectors })) out
+      → given k (Ok tt) out' ≡ gives k n (answered (record { values = values; vectors = vectors })) out
   unfolding gives written output
   gives-pairs values vectors many more h =
       let both = length-append values vectors in
@@ -41,20 +38,18 @@ module _ (k n : ℕ) (out : List Float) (len : length out ≡ k + k * n) {out' :
       λ i. record { found = answered (record { values = front i; vectors = back i }); out = all i }
 
   -- what follows from the answer of Jacobi for b by b entries t: `pairs` holds b values, and then b rows of b
-  module _ (b : ℕ) (t : List Float) (found : Eigen → Pairs) (pairs : List Float) {r : Answer} (e : eigen_of b r pairs ≡ jacobi b t) where
-    pub found-refused : {why : Refusal} → r ≡ jacobi-answers.Refused why → out' ≡ cleared zero⁺ out
-        → given k (Refused Unordered) out' ≡ gives k n (and_then (jacobi b t) (λ p. answered (found p))) out
+  module _ (b : ℕ) (t : List Float) (found : Eigen → Pairs) (pairs : List Float) {r : Result ℕ Refusal} (e : eigen_of b r pairs ≡ jacobi b t) where
+    pub found-refused : {why : Refusal} → r ≡ Err why → out' ≡ cleared zero⁺ out → given k (Err why) out' ≡ gives k n (and_then (jacobi b t) (λ p. answered (found p))) out
     unfolding and_then
     found-refused {why} is h =
-        let here : refused (number why) ≡ jacobi b t = ap (λ (s : Answer). eigen_of b s pairs) (sym is) ∙ e in
-        let only : refused 11 ≡ jacobi b t = ap (λ (j : ℕ). refused j) (sym (only-unordered b t (number why) here)) ∙ here in
-        gives-unordered h ∙ ap (λ (o : Outcome Eigen). gives k n (and_then o (λ p. answered (found p))) out) only
+        let here : refused (number why) ≡ jacobi b t = ap (λ (s : Result ℕ Refusal). eigen_of b s pairs) (sym is) ∙ e in
+        gives-unordered why (only-unordered b t (number why) here) h ∙ ap (λ (o : Outcome Eigen). gives k n (and_then o (λ p. answered (found p))) out) here
 
-    pub found-answered : {s : ℕ} (values vectors : List Float) → r ≡ jacobi-answers.Sweeps s → length values ≡ k → length vectors ≡ k * n → out' ≡ values ++ vectors
+    pub found-answered : {s : ℕ} (values vectors : List Float) → r ≡ Ok s → length values ≡ k → length vectors ≡ k * n → out' ≡ values ++ vectors
         → found (record { values = take b pairs; vectors = drop b pairs; sweeps = s }) ≡ record { values = values; vectors = vectors }
-        → given k Passed out' ≡ gives k n (and_then (jacobi b t) (λ p. answered (found p))) out
+        → given k (Ok tt) out' ≡ gives k n (and_then (jacobi b t) (λ p. answered (found p))) out
     unfolding and_then
     found-answered {s} values vectors is many more h is_found =
-        let here : answered (record { values = take b pairs; vectors = drop b pairs; sweeps = s }) ≡ jacobi b t = ap (λ (s : Answer). eigen_of b s pairs) (sym is) ∙ e in
+        let here : answered (record { values = take b pairs; vectors = drop b pairs; sweeps = s }) ≡ jacobi b t = ap (λ (s : Result ℕ Refusal). eigen_of b s pairs) (sym is) ∙ e in
         gives-pairs values vectors many more h ∙ ap (λ (p : Pairs). gives k n (answered p) out) (sym is_found)
         ∙ ap (λ (o : Outcome Eigen). gives k n (and_then o (λ p. answered (found p))) out) here

@@ -18,7 +18,5 @@ pub fn fill_projected(t: &mut [f64], q: &[f64], aq: &[f64], n: usize, b: usize)
     requires { (length t.old ≡ b * b) × (length q.now ≡ b * n) × (length aq.now ≡ b * n) }
     ensures { t.new ≡ projected_matrix n b q.now aq.now }
 {
-    for i in 0..b {
-        projected_row(&mut t[i * b..i * b + b], q, aq, n, b, i);
-    }
+    eigen_matrix::fill_rows(t, b, b, |i, row| projected_row(row, q, aq, n, b, i));
 }

@@ -28,9 +28,7 @@ fn combine(out: &mut [f64], v: &[f64], q: &[f64], n: usize, b: usize, k: usize)
     requires { (length out.old ≡ k * n) × (length v.now ≡ b * b) × (length q.now ≡ b * n) × (k ≤ b) }
     ensures { out.new ≡ ritz_vectors n b k v.now q.now }
 {
-    for j in 0..k {
-        combine_row(&mut out[j * n..j * n + n], v, q, n, b, j);
-    }
+    eigen_matrix::fill_rows(out, k, n, |j, row| combine_row(row, v, q, n, b, j));
 }
 
 // The first k of the small matrix's eigenpairs: the values, and the vectors turned back.
@@ -38,6 +36,6 @@ pub fn turn_back(out: &mut [f64], pairs: &[f64], q: &[f64], n: usize, b: usize, 
     requires { (length out.old ≡ k + k * n) × (length pairs.now ≡ b + b * b) × (length q.now ≡ b * n) × (k ≤ b) }
     ensures { out.new ≡ take k pairs.now ++ ritz_vectors n b k (drop b pairs.now) q.now }
 {
-    lists::copy(&mut out[..k], &pairs[..k]);
+    out[..k].copy_from_slice(&pairs[..k]);
     combine(&mut out[k..], &pairs[b..], q, n, b, k);
 }

@@ -15,9 +15,9 @@ fn off_in_row(row: &[f64], i: usize, sum: f64) -> f64
     ensures { result ≡ sum_from sum (squares_but i row.now) }
 {
     let mut t = sum;
-    for j in 0..row.len() {
+    for (j, e) in row.iter().enumerate() {
         if j != i {
-            t = t + row[j] * row[j];
+            t = t + e * e;
         }
     }
     t
@@ -40,15 +40,13 @@ fn sweep_all(m: &mut [f64], v: &mut [f64], x: &mut [f64], y: &mut [f64], n: usiz
     requires { (length m.old ≡ n * n) × (length v.old ≡ n * n) × (length x.old ≡ n) × (length y.old ≡ n) }
     ensures { swept result (turned m.new v.new) ≡ sweeps_from 100 n 0 (turned m.old v.old) }
 {
-    let mut made: usize = 0;
-    while made < 100 {
+    for made in 0..100 {
         if off_diagonal(m, n) < 1e-22 {
             return made;
         }
         sweep::sweep(m, v, x, y, n);
-        made += 1;
     }
-    made
+    100
 }
 
 // ---- the start and the end
@@ -58,7 +56,7 @@ fn fill_unit(row: &mut [f64], i: usize)
     requires { i < length row.old }
     ensures { row.new ≡ table (length row.old) (unit i) }
 {
-    lists::clear(row);
+    row.fill(0.0);
     row[i] = 1.0;
 }
 
@@ -67,9 +65,7 @@ fn fill_identity(v: &mut [f64], n: usize)
     requires { length v.old ≡ n * n }
     ensures { v.new ≡ identity n }
 {
-    for i in 0..n {
-        fill_unit(&mut v[i * n..i * n + n], i);
-    }
+    eigen_matrix::fill_rows(v, n, n, |i, row| fill_unit(row, i));
 }
 
 // The diagonal goes to d.
@@ -95,7 +91,7 @@ pub fn diagonalise(
     ensures { (swept result (turned m.new v.new) ≡ sweeps_from 100 n 0 (turned a.now (identity n)))
         × (x.new ≡ diagonal n m.new) }
 {
-    lists::copy(m, a);
+    m.copy_from_slice(a);
     fill_identity(v, n);
     let made = sweep_all(m, v, x, y, n);
     gather_diagonal(x, m, n);

@@ -2,8 +2,8 @@
 use Rattle.lists.proofs.Base.{◌≡◌, refl, ap, ◌∙◌, true, List, ◌++◌, ℕ, ◌+◌, ◌*◌, min, length, take, drop, Float}
 use Rattle.float.specs.Floats.{zero⁺}
 use Rattle.lists.specs.{Filters.all, Writes.cleared}
-use Rattle.outcome.specs.declared.Check.{Check}
-use Rattle.outcome.specs.declared.Check.TheVariants.{Passed, Refused}
+use Rattle.std.specs.Prelude.{Result, Ok, Err}
+use Rattle.outcome.specs.declared.Refusal.{Refusal}
 use Rattle.outcome.specs.{Refusals.first, Outcome.Outcome, Outcome.Told, Outcome.refused, Outcome.passed, Outcome.judged}
 use Rattle.outcome.specs.{Outcome.told_of, Numbers.told, Slices.output, Slices.work, Slices.untouched}
 use Rattle.outcome.proofs.Table.{first-untouched}
@@ -15,11 +15,11 @@ use Rattle.eigen_top.proofs.TopPairs.{top-min, top-work}
 
 -- ---- on slices that may be longer, with the work cleared
 
-check-read : (k : ℕ) (r : Check) (out : List Float) → told r ≡ told_of (pairs_of k r out)
-check-read k Passed out = refl
-check-read k (Refused r) out = refl
+check-read : (k : ℕ) (r : Result Unit Refusal) (out : List Float) → told r ≡ told_of (pairs_of k r out)
+check-read k (Ok _) out = refl
+check-read k (Err r) out = refl
 
-pub given-leaves : (k n : ℕ) (a out w m v : List Float) (r : Check) {part w' m' v' : List Float} →
+pub given-leaves : (k n : ℕ) (a out w m v : List Float) (r : Result Unit Refusal) {part w' m' v' : List Float} →
     given k r part ≡ gives k n (top_eigs k n a) (take (k + k * n) out) → length part ≡ k + k * n
     → w' ≡ cleared zero⁺ w → m' ≡ cleared zero⁺ m → v' ≡ cleared zero⁺ v → called r (part ++ drop (k + k * n) out) w' m' v' ≡ leaves k n (top_eigs k n a) out w m v
 unfolding leaves gives written

@@ -5,16 +5,13 @@ ghost use Rattle.outcome.specs.Refusals.{first};
 ghost use Rattle.eigen_top.specs.TopLines.{top_lines};
 ghost use Rattle.eigen_top.specs.TopLines as Table;
 
-use outcome::{Check, Refusal};
+use outcome::Refusal;
 
 // Components above n mean n.
 pub fn components_used(components: usize, n: usize) -> usize
     ensures { result ≡ min components n }
 {
-    if components < n {
-        return components;
-    }
-    n
+    components.min(n)
 }
 
 // Line 1, for slices of these lengths; n * n must not wrap.
@@ -22,36 +19,17 @@ fn misfits(k: usize, n: usize, a: usize, out: usize, w: usize, m: usize, v: usiz
     requires { k ≤ n }
     ensures { result ≡ Table.misfits k n a out w m v }
 {
-    if 0xffff_ffff < n {
+    let Some(s) = n.checked_mul(n) else {
         return true;
-    }
-    let s = n * n;
-    if a != s {
-        return true;
-    }
-    if out < k + k * n {
-        return true;
-    }
-    if w < n + s {
-        return true;
-    }
-    if m < s {
-        return true;
-    }
-    v < s
+    };
+    a != s || outcome::is_short(&[out, w, m, v], &[k + k * n, n + s, s, s])
 }
 
 // Line 2.
 fn beyond(n: usize, components: usize) -> bool
     ensures { result ≡ Table.beyond n components }
 {
-    if limits::MOST_SAMPLES < n {
-        return true;
-    }
-    if components == 0 {
-        return true;
-    }
-    limits::MOST_COMPONENTS < components
+    limits::MOST_SAMPLES < n || components == 0 || limits::MOST_COMPONENTS < components
 }
 
 // Lines 1 to 3 of the table, for slices of these lengths.
@@ -64,18 +42,18 @@ pub fn check(
     w: usize,
     m: usize,
     v: usize,
-) -> Check
+) -> Result<(), Refusal>
     requires { k ≡ min components n }
     ensures { told result ≡ first (top_lines components n a.now out w m v) }
 {
     if misfits(k, n, a.len(), out, w, m, v) {
-        return Check::Refused(Refusal::Length);
+        return Err(Refusal::Length);
     }
     if beyond(n, components) {
-        return Check::Refused(Refusal::Limit);
+        return Err(Refusal::Limit);
     }
     if eigen_matrix::has_not_finite(a) {
-        return Check::Refused(Refusal::Value);
+        return Err(Refusal::Value);
     }
-    Check::Passed
+    Ok(())
 }

@@ -3,44 +3,19 @@ ghost use Rattle.std.specs.Prelude.{◌≡◌, ◌++◌, ◌+◌, ◌*◌, ◌�
 ghost use Rattle.eigen_ritz.specs.inner.Given.{given, gives};
 ghost use Rattle.eigen_top.specs.Leading.{leading};
 
-use outcome::{Check, Refusal};
+use outcome::Refusal;
 
 // The first k values and the first k rows of n, of all the eigenpairs.
 fn copy_leading(out: &mut [f64], pairs: &[f64], n: usize, k: usize)
     requires { (length out.old ≡ k + k * n) × (length pairs.now ≡ n + n * n) × (k ≤ n) }
     ensures { out.new ≡ take k pairs.now ++ take (k * n) (drop n pairs.now) }
 {
-    lists::copy(&mut out[..k], &pairs[..k]);
-    lists::copy(&mut out[k..], &pairs[n..n + k * n]);
+    out[..k].copy_from_slice(&pairs[..k]);
+    out[k..].copy_from_slice(&pairs[n..n + k * n]);
 }
 
-// `pairs`, `m`, `v`, `row` and `order` are work.
-fn by_jacobi(
-    out: &mut [f64],
-    pairs: &mut [f64],
-    m: &mut [f64],
-    v: &mut [f64],
-    row: &mut [f64],
-    order: &mut [u16],
-    a: &[f64],
-    n: usize,
-    k: usize,
-) -> Check
-    requires out_len { (length out.old ≡ k + k * n) × (length pairs.old ≡ n + n * n) × (length m.old ≡ n * n) × (length v.old ≡ n * n) × (length row.old ≡ n) × (length order.old ≡ n) }
-    requires a_len { (length a.now ≡ n * n) × (n ≤ 64) × (k ≤ n) }
-    ensures { given k result out.new ≡ gives k n (leading k n a.now) out.old }
-{
-    let r = eigen_jacobi::eigen(a, n, pairs, m, v, row, order);
-    let eigen_jacobi::Answer::Sweeps(_) = r else {
-        lists::clear(out);
-        return Check::Refused(Refusal::Unordered);
-    };
-    copy_leading(out, pairs, n, k);
-    Check::Passed
-}
-
-// The scratch row and the order live here.
-pub fn by_jacobi_in(
+// `pairs`, `m` and `v` are work.
+pub fn by_jacobi(
     out: &mut [f64],
     pairs: &mut [f64],
     m: &mut [f64],
@@ -48,11 +23,18 @@ pub fn by_jacobi_in(
     a: &[f64],
     n: usize,
     k: usize,
-) -> Check
+) -> Result<(), Refusal>
     requires { (length out.old ≡ k + k * n) × (length pairs.old ≡ n + n * n) × (length m.old ≡ n * n) × (length v.old ≡ n * n) × (length a.now ≡ n * n) × (n ≤ 64) × (k ≤ n) }
     ensures { given k result out.new ≡ gives k n (leading k n a.now) out.old }
 {
-    let mut row = [0.0; 64];
-    let mut order = [0u16; 64];
-    by_jacobi(out, pairs, m, v, &mut row[..n], &mut order[..n], a, n, k)
+    match eigen_jacobi::eigen_within::<64>(a, n, pairs, m, v) {
+        Ok(_) => {
+            copy_leading(out, pairs, n, k);
+            Ok(())
+        }
+        Err(e) => {
+            out.fill(0.0);
+            Err(e)
+        }
+    }
 }

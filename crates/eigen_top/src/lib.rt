@@ -11,7 +11,8 @@ ghost use Rattle.eigen_ritz.specs.inner.Given.{given, gives};
 ghost use Rattle.eigen_top.specs.TopEigs.{top_eigs};
 ghost use Rattle.eigen_top.specs.Call.{leaves, top_call, called};
 
-use outcome::Check;
+use eigen_matrix::square::Square;
+use outcome::Refusal;
 
 // ---- the pairs, for any n by n entries
 
@@ -24,16 +25,17 @@ pub fn top_pairs(
     w: &mut [f64],
     m: &mut [f64],
     v: &mut [f64],
-) -> Check
+) -> Result<(), Refusal>
     requires a_len { (length a.now ≡ n * n) × (length out.old ≡ k + k * n) × (length w.old ≡ n + n * n) × (length m.old ≡ n * n) × (length v.old ≡ n * n) }
     requires n_le_most_samples { (n ≤ most_samples) × (k ≤ n) × (k ≤ most_components) }
     ensures { given k result out.new ≡ gives k n (top_eigs k n a.now) out.old }
 {
     if n <= 64 {
-        return leading::by_jacobi_in(out, w, m, v, a, n, k);
+        return leading::by_jacobi(out, w, m, v, a, n, k);
     }
     let b = k + 8;
-    subspace::by_block(out, &mut w[..b * n], &mut m[..b * n], a, n, b, k)
+    let a = Square { entries: a, n };
+    subspace::by_block(out, &mut w[..b * n], &mut m[..b * n], a, b, k)
 }
 
 // ---- the operation
@@ -47,7 +49,7 @@ fn solve(
     a: &[f64],
     n: usize,
     k: usize,
-) -> Check
+) -> Result<(), Refusal>
     requires n_in_bounds { (k + k * n ≤ length out.old) × (n + n * n ≤ length w.old) × (n * n ≤ length m.old) × (n * n ≤ length v.old) }
     requires a_len { (length a.now ≡ n * n) × (n ≤ most_samples) × (k ≤ n) × (k ≤ most_components) }
     ensures { called result out.new w.new m.new v.new
@@ -63,9 +65,9 @@ fn solve(
         &mut m[..s],
         &mut v[..s],
     );
-    lists::clear(w);
-    lists::clear(m);
-    lists::clear(v);
+    w.fill(0.0);
+    m.fill(0.0);
+    v.fill(0.0);
     r
 }
 
@@ -79,12 +81,12 @@ pub fn top_eigs(
     eigenpairs: &mut [f64],
     rotated: &mut [f64],
     vectors: &mut [f64],
-) -> Check
+) -> Result<(), Refusal>
     ensures { called result out.new eigenpairs.new rotated.new vectors.new
         ≡ top_call components n a.now out.old eigenpairs.old rotated.old vectors.old }
 {
     let k = checks::components_used(components, n);
-    let c = checks::check(
+    checks::check(
         a,
         n,
         components,
@@ -93,9 +95,6 @@ pub fn top_eigs(
         eigenpairs.len(),
         rotated.len(),
         vectors.len(),
-    );
-    match c {
-        Check::Refused(e) => Check::Refused(e),
-        Check::Passed => solve(out, eigenpairs, rotated, vectors, a, n, k),
-    }
+    )?;
+    solve(out, eigenpairs, rotated, vectors, a, n, k)
 }

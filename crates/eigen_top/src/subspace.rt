@@ -8,8 +8,9 @@ ghost use Rattle.eigen_ritz.specs.inner.Given.{given, gives};
 ghost use Rattle.eigen_top.specs.Subspace.{shift_of, last_block, by_block};
 
 use eigen_block::{orthonormal, power};
+use eigen_matrix::square::Square;
 use eigen_vectors::products;
-use outcome::Check;
+use outcome::Refusal;
 
 // The first block goes to q; the shift is returned. z, x and y are work.
 fn prepare(
@@ -17,16 +18,15 @@ fn prepare(
     z: &mut [f64],
     x: &mut [f64],
     y: &mut [f64],
-    a: &[f64],
-    n: usize,
+    a: Square<'_>,
     b: usize,
 ) -> f64
-    requires { (length q.old ≡ b * n) × (length z.old ≡ b * n) × (length x.old ≡ n) × (length y.old ≡ n) × (length a.now ≡ n * n) × (n ≤ b * n) }
-    ensures { (q.new ≡ first_block n b) × (result ≡ shift_of n a.now (first_block n b)) }
+    requires { (length q.old ≡ b * a.n) × (length z.old ≡ b * a.n) × (length x.old ≡ a.n) × (length y.old ≡ a.n) × (a.n ≤ b * a.n) }
+    ensures { (q.new ≡ first_block a.entry.n b) × (result ≡ shift_of a.entry.n a.entry.entries.now (first_block a.entry.n b)) }
 {
-    orthonormal::first_block(q, z, n, b);
-    lists::copy(x, &q[..n]);
-    power::power_bound(x, y, a, n) * 1.05
+    orthonormal::first_block(q, z, a.n, b);
+    x.copy_from_slice(&q[..a.n]);
+    power::power_bound(x, y, a) * 1.05
 }
 
 // The block at the end of the rounds goes to q, its product to aq. `before` takes the Ritz values that are watched; x and y are work.
@@ -36,24 +36,23 @@ fn find_last_block(
     before: &mut [f64],
     x: &mut [f64],
     y: &mut [f64],
-    a: &[f64],
-    n: usize,
+    a: Square<'_>,
     b: usize,
     k: usize,
 )
-    requires q_len { (length q.old ≡ b * n) × (length aq.old ≡ b * n) × (before.old ≡ replicate k zero⁺) × (length x.old ≡ n) × (length y.old ≡ n) }
-    requires a_len { (length a.now ≡ n * n) × (n ≤ b * n) × (k ≤ b) }
-    ensures { (q.new ≡ last_block k b n a.now) × (aq.new ≡ times_block n a.now b q.new) }
+    requires q_len { (length q.old ≡ b * a.n) × (length aq.old ≡ b * a.n) × (before.old ≡ replicate k zero⁺) × (length x.old ≡ a.n) × (length y.old ≡ a.n) }
+    requires b_room { (a.n ≤ b * a.n) × (k ≤ b) }
+    ensures { (q.new ≡ last_block k b a.entry.n a.entry.entries.now) × (aq.new ≡ times_block a.entry.n a.entry.entries.now b q.new) }
 {
-    let shift = prepare(q, aq, x, y, a, n, b);
-    products::matvec_block(aq, a, n, q, b);
-    eigen_block::iterate(q, aq, before, a, n, b, shift);
+    let shift = prepare(q, aq, x, y, a, b);
+    products::matvec_block(aq, a, q, b);
+    eigen_block::iterate(q, aq, before, a, b, shift);
 }
 
 // The same with room of its own.
-fn last_block(q: &mut [f64], aq: &mut [f64], a: &[f64], n: usize, b: usize, k: usize)
-    requires { (length q.old ≡ b * n) × (length aq.old ≡ b * n) × (length a.now ≡ n * n) × (n ≤ b * n) × (k ≤ b) × (n ≤ most_samples) × (k ≤ most_components) }
-    ensures { (q.new ≡ last_block k b n a.now) × (aq.new ≡ times_block n a.now b q.new) }
+fn last_block(q: &mut [f64], aq: &mut [f64], a: Square<'_>, b: usize, k: usize)
+    requires { (length q.old ≡ b * a.n) × (length aq.old ≡ b * a.n) × (a.n ≤ b * a.n) × (k ≤ b) × (a.n ≤ most_samples) × (k ≤ most_components) }
+    ensures { (q.new ≡ last_block k b a.entry.n a.entry.entries.now) × (aq.new ≡ times_block a.entry.n a.entry.entries.now b q.new) }
 {
     let mut before = [0.0; 16];
     let mut x = [0.0; limits::MOST_SAMPLES];
@@ -62,10 +61,9 @@ fn last_block(q: &mut [f64], aq: &mut [f64], a: &[f64], n: usize, b: usize, k: u
         q,
         aq,
         &mut before[..k],
-        &mut x[..n],
-        &mut y[..n],
+        &mut x[..a.n],
+        &mut y[..a.n],
         a,
-        n,
         b,
         k,
     );
@@ -76,15 +74,14 @@ pub fn by_block(
     out: &mut [f64],
     q: &mut [f64],
     aq: &mut [f64],
-    a: &[f64],
-    n: usize,
+    a: Square<'_>,
     b: usize,
     k: usize,
-) -> Check
-    requires out_len { (length out.old ≡ k + k * n) × (length q.old ≡ b * n) × (length aq.old ≡ b * n) × (length a.now ≡ n * n) × (n ≤ b * n) × (n ≤ most_samples) }
+) -> Result<(), Refusal>
+    requires out_len { (length out.old ≡ k + k * a.n) × (length q.old ≡ b * a.n) × (length aq.old ≡ b * a.n) × (a.n ≤ b * a.n) × (a.n ≤ most_samples) }
     requires k_le_b { (k ≤ b) × (k ≤ most_components) × (b ≤ 24) }
-    ensures { given k result out.new ≡ gives k n (by_block k b n a.now) out.old }
+    ensures { given k result out.new ≡ gives k a.entry.n (by_block k b a.entry.n a.entry.entries.now) out.old }
 {
-    last_block(q, aq, a, n, b, k);
-    eigen_ritz::rayleigh_ritz(out, q, aq, n, b, k)
+    last_block(q, aq, a, b, k);
+    eigen_ritz::rayleigh_ritz(out, q, aq, a.n, b, k)
 }

@@ -1,4 +1,4 @@
--- Laws of loops over the entries of vectors.
+-- Laws of an inner product's loop.
 -- Laws of products.
 pub mod Entries
 pub mod ProductsEntries

@@ -8,6 +8,8 @@ ghost use Rattle.lists.specs.Rows.{row};
 ghost use Rattle.eigen_vectors.specs.Vectors.{dot, norm, less_times, divided, projected_off, unit};
 ghost use Rattle.eigen_vectors.specs.inner.Vectors.{dot_four};
 
+use eigen_matrix::entrywise;
+
 // ---- inner products
 
 pub fn dot(x: &[f64], y: &[f64]) -> f64
@@ -15,23 +17,15 @@ pub fn dot(x: &[f64], y: &[f64]) -> f64
     ensures { result ≡ dot x.now y.now }
 {
     let mut s = -0.0;
-    for i in 0..x.len() {
-        s = s + x[i] * y[i];
+    for (a, b) in x.iter().zip(y) {
+        s = s + a * b;
     }
     s
 }
 
-// Four inner products with one vector.
-#[derive(Drop)]
-pub struct Four {
-    pub a: f64,
-    pub b: f64,
-    pub c: f64,
-    pub d: f64,
-}
-
 // The inner products of a, b, c, d with x. Each has its own order of additions; together they do not wait on each other.
-pub fn dot_four(a: &[f64], b: &[f64], c: &[f64], d: &[f64], x: &[f64]) -> Four
+// (By places: a zip of five slices is no plainer.)
+pub fn dot_four(a: &[f64], b: &[f64], c: &[f64], d: &[f64], x: &[f64]) -> [f64; 4]
     requires { (length a.now ≡ length x.now) × (length b.now ≡ length x.now) × (length c.now ≡ length x.now) × (length d.now ≡ length x.now) }
     ensures { result ≡ dot_four a.now b.now c.now d.now x.now }
 {
@@ -46,12 +40,7 @@ pub fn dot_four(a: &[f64], b: &[f64], c: &[f64], d: &[f64], x: &[f64]) -> Four
         v = v + c[k] * e;
         w = w + d[k] * e;
     }
-    Four {
-        a: t,
-        b: u,
-        c: v,
-        d: w,
-    }
+    [t, u, v, w]
 }
 
 pub fn norm(x: &[f64]) -> f64
@@ -74,9 +63,7 @@ pub fn less_times(x: &mut [f64], d: f64, y: &[f64])
     requires { length x.old ≡ length y.now }
     ensures { x.new ≡ less_times d x.old y.now }
 {
-    for i in 0..y.len() {
-        x[i] = x[i] - d * y[i];
-    }
+    entrywise::rewrite(x, |i, u| u - d * y[i]);
 }
 
 // x without its part along y.
@@ -93,9 +80,7 @@ pub fn put_divided(x: &mut [f64], y: &[f64], d: f64)
     requires { length x.old ≡ length y.now }
     ensures { x.new ≡ divided d y.now }
 {
-    for i in 0..y.len() {
-        x[i] = y[i] / d;
-    }
+    entrywise::rewrite(x, |i, _| y[i] / d);
 }
 
 // y at length 1 goes to x.

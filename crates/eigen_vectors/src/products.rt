@@ -6,10 +6,10 @@ ghost use Rattle.eigen_vectors.specs.Vectors.{dot};
 ghost use Rattle.eigen_vectors.specs.inner.Vectors.{dot_four};
 ghost use Rattle.eigen_vectors.specs.Products.{times, times_block};
 
-use crate::Four;
+use eigen_matrix::square::Square;
 
 // The inner products of x with four rows of a, from row i on.
-fn dot_four_rows(a: &[f64], n: usize, i: usize, x: &[f64]) -> Four
+fn dot_four_rows(a: &[f64], n: usize, i: usize, x: &[f64]) -> [f64; 4]
     requires { (i + 4 ≤ n) × ((i + 4) * n ≤ length a.now) × (length x.now ≡ n) }
     ensures { result ≡ dot_four (row n i a.now) (row n (i + 1) a.now) (row n (i + 2) a.now) (row n (i + 3) a.now) x.now }
 {
@@ -25,48 +25,34 @@ fn dot_four_rows(a: &[f64], n: usize, i: usize, x: &[f64]) -> Four
     )
 }
 
-// Four entries from i on.
-fn put_four(y: &mut [f64], i: usize, f: Four)
-    requires { i + 4 ≤ length y.old }
-    ensures { y.new ≡ set (set (set (set y.old i f.a) (i + 1) f.b) (i + 2) f.c) (i + 3) f.d }
+// The entries of the product from one on.
+fn last_products(y: &mut [f64], a: &[f64], n: usize, x: &[f64], from: usize)
+    requires { (length y.old ≡ n) × (length a.now ≡ n * n) × (length x.now ≡ n) × (from ≤ n) }
+    ensures { y.new ≡ from_to (λ k l. set l k (dot (row n k a.now) x.now)) from n y.old }
 {
-    y[i] = f.a;
-    y[i + 1] = f.b;
-    y[i + 2] = f.c;
-    y[i + 3] = f.d;
-}
-
-// The next entries of the product: four where there are as many, else one. The place after them is returned.
-fn matvec_from(y: &mut [f64], a: &[f64], n: usize, x: &[f64], i: usize) -> usize
-    requires { (length y.old ≡ n) × (length a.now ≡ n * n) × (length x.now ≡ n) × (i < n) × (i * n + n ≤ length a.now) }
-    ensures { (i < result) × (result ≤ n) × (y.new ≡ from_to (λ k l. set l k (dot (row n k a.now) x.now)) i result y.old) }
-{
-    if n - i < 4 {
+    for i in from..n {
         y[i] = crate::dot(&a[i * n..i * n + n], x);
-        return i + 1;
     }
-    let f = dot_four_rows(a, n, i, x);
-    put_four(y, i, f);
-    i + 4
 }
 
-// a times x goes to y.
-pub fn matvec(y: &mut [f64], a: &[f64], n: usize, x: &[f64])
-    requires { (length y.old ≡ n) × (length a.now ≡ n * n) × (length x.now ≡ n) }
-    ensures { y.new ≡ times n a.now x.now }
+// a times x goes to y: four entries at a time, and then the last.
+pub fn matvec(y: &mut [f64], a: Square<'_>, x: &[f64])
+    requires { (length y.old ≡ a.n) × (length x.now ≡ a.n) }
+    ensures { y.new ≡ times a.entry.n a.entry.entries.now x.now }
 {
-    let mut i: usize = 0;
-    while i < n {
-        i = matvec_from(y, a, n, x, i);
+    let n = a.n;
+    for k in 0..n / 4 {
+        let i = 4 * k;
+        y[i..i + 4].copy_from_slice(&dot_four_rows(a.entries, n, i, x));
     }
+    last_products(y, a.entries, n, x, n / 4 * 4);
 }
 
 // a times each column of q goes to z.
-pub fn matvec_block(z: &mut [f64], a: &[f64], n: usize, q: &[f64], b: usize)
-    requires { (length z.old ≡ b * n) × (length a.now ≡ n * n) × (length q.now ≡ b * n) }
-    ensures { z.new ≡ times_block n a.now b q.now }
+pub fn matvec_block(z: &mut [f64], a: Square<'_>, q: &[f64], b: usize)
+    requires { (length z.old ≡ b * a.n) × (length q.now ≡ b * a.n) }
+    ensures { z.new ≡ times_block a.entry.n a.entry.entries.now b q.now }
 {
-    for c in 0..b {
-        matvec(&mut z[c * n..c * n + n], a, n, &q[c * n..c * n + n]);
-    }
+    let n = a.n;
+    eigen_matrix::fill_rows(z, b, n, |c, column| matvec(column, a, &q[c * n..c * n + n]));
 }

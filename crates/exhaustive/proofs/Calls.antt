@@ -3,14 +3,13 @@ use Rattle.lists.proofs.Base.{◌≡◌, refl, sym, ap, subst, ◌∙◌, Bool, 
 use Rattle.float.specs.Floats.{zero⁺}
 use Rattle.lists.specs.Writes.{over, cleared}
 use Rattle.lists.proofs.Writes.{cleared-same}
-use Rattle.outcome.specs.declared.{Refusal.Refusal, Check.Check}
+use Rattle.outcome.specs.declared.Refusal.{Refusal}
 use Rattle.outcome.specs.declared.Refusal.TheVariants.{Ways}
-use Rattle.outcome.specs.declared.Check.TheVariants as check
 use Rattle.outcome.specs.{Numbers.number, Numbers.told, Refusals.Line, Refusals.◌when◌, Refusals.first, Refusals.short}
 use Rattle.outcome.specs.Outcome.{Outcome, Told, passed, answered, refused, judged, and_then}
 use Rattle.outcome.specs.Slices.{untouched, output, work}
 use Rattle.outcome.proofs.Table.{first-after, first-before, told-refused}
-use Rattle.lot.specs.{Lot.Lot, Lot.lot_of, Kept.group_count, Lines.test_lines}
+use Rattle.lot.specs.{Lot.Lot, Kept.group_count, Lines.test_lines}
 use Rattle.lot.proofs.AcceptedLots.{lines-untouched}
 use Rattle.lot_design.specs.declared.Design.{Design}
 use Rattle.lot_design.specs.inner.Designs.{group_labels_of, Describes}
@@ -20,7 +19,7 @@ use Rattle.exhaustive_ways.specs.Ways.{way_count}
 use Rattle.exhaustive_ways.specs.inner.Ways.{capped}
 use Rattle.exhaustive_ways.proofs.WayCounts.{many-ways}
 use Rattle.exhaustive_hits.specs.declared.judgement.Judgement.{Judgement}
-use Rattle.exhaustive_hits.specs.declared.every_way.Answer.TheVariants.{Judged, Refused}
+use Rattle.std.specs.Prelude.{Result, Ok, Err}
 use Rattle.exhaustive_hits.specs.Exhaustive.{judgement, coordinates, exhaustive}
 use Rattle.exhaustive_hits.specs.Call.{Slices, Called, slices_of, called, exhaustive_asks, lengths_of, too_short, exhaustive_lines, call_in, call_by, outcome_of, exhaustive_call}
 use Rattle.exhaustive_hits.specs.inner.Call.{early}
@@ -47,42 +46,32 @@ module _ (lot : Lot) where
 
 -- ---- what is left once the lines let a call pass
 
-module _ (n : ℕ) (distances : List Float) (labels : List ℕ) (stratified : Bool) (strata : List ℕ) (weighted : Bool) (weights : List Float) where
-  abbrev lot : Lot
-  lot = lot_of n distances labels stratified strata weighted weights
-
-  refused-call : (r : ℕ) (s : Slices) → untouched r ≡ false → turned (group_count labels) r s ≡ call_by lot (refused r) s
+module _ (lot : Lot) where
+  refused-call : (r : ℕ) (s : Slices) → untouched r ≡ false → turned (group_count lot.labels) r s ≡ call_by lot (refused r) s
   unfolding turned call_by call_in output work
   refused-call r s u = rw u refl
 
-  pub settled-refused : {g : ℕ} {r : Refusal} {c : Check} (coords : List Float) (s s' : Slices) {b : Called} → g ≡ group_count labels → c ≡ check.Refused r
-      → coords_told n c coords ≡ coords_of (pcoa 8 n distances) → turned g (number r) s' ≡ turned g (number r) s → b ≡ turned g (number r) s' → b ≡ call_by lot (exhaustive lot) s
+  pub settled-refused : {g : ℕ} {r : Refusal} {c : Result Unit Refusal} (coords : List Float) (s s' : Slices) {b : Called} → g ≡ group_count lot.labels → c ≡ Err r
+      → coords_told lot.n c coords ≡ coords_of (pcoa 8 lot.n lot.distances) → turned g (number r) s' ≡ turned g (number r) s → b ≡ turned g (number r) s' → b ≡ call_by lot (exhaustive lot) s
   unfolding exhaustive coordinates
   settled-refused {g} {r} {c} coords s s' eg ec h es eb =
-      let is : refused (number r) ≡ coords_of (pcoa 8 n distances) = ap (λ (c : Check). coords_told n c coords) (sym ec) ∙ h in
-      eb ∙ es ∙ ap (λ (g : ℕ). turned g (number r) s) eg ∙ refused-call (number r) s (late-told n distances is)
-      ∙ ap (λ (o : Outcome Judgement). call_by lot o s) (refused-by lot (pcoa 8 n distances) is)
+      let is : refused (number r) ≡ coords_of (pcoa 8 lot.n lot.distances) = ap (λ (c : Result Unit Refusal). coords_told lot.n c coords) (sym ec) ∙ h in
+      eb ∙ es ∙ ap (λ (g : ℕ). turned g (number r) s) eg ∙ refused-call (number r) s (late-told lot.n lot.distances is)
+      ∙ ap (λ (o : Outcome Judgement). call_by lot o s) (refused-by lot (pcoa 8 lot.n lot.distances) is)
 
-  pub settled-answered : {d : Design} {c : Check} (coords : List Float) (s : Slices) {j : Judgement} {ns counts : List ℕ}
+  pub settled-answered : {d : Design} {c : Result Unit Refusal} (coords : List Float) (s : Slices) {j : Judgement} {ns counts : List ℕ}
       {means pair_terms weighted_squares coords' eigenpairs vectors : List Float} {label_counts : List ℕ}
-      → Describes lot d → c ≡ check.Passed → coords_told n c coords ≡ coords_of (pcoa 8 n distances) → Answers lot (coords_in n coords) s.counts s.means counts means j
+      → Describes lot d → c ≡ Ok tt → coords_told lot.n c coords ≡ coords_of (pcoa 8 lot.n lot.distances) → Answers lot (coords_in lot.n coords) s.counts s.means counts means j
       → ns ≡ over (group_labels_of d) s.labels → pair_terms ≡ cleared zero⁺ s.pair_terms → weighted_squares ≡ cleared zero⁺ s.weighted_squares →
       coords' ≡ cleared zero⁺ s.coords
       → eigenpairs ≡ cleared zero⁺ s.eigenpairs → vectors ≡ cleared zero⁺ s.vectors → label_counts ≡ cleared 0 s.label_counts
-      → called (Judged j) (slices_of ns counts means pair_terms weighted_squares coords' eigenpairs vectors label_counts) ≡ call_by lot (exhaustive lot) s
+      → called (Ok j) (slices_of ns counts means pair_terms weighted_squares coords' eigenpairs vectors label_counts) ≡ call_by lot (exhaustive lot) s
   unfolding exhaustive coordinates call_by call_in output work
   settled-answered {d} {c} coords s e ec h r en et ep eo er ev ew =
-      let is : answered (coords_in n coords) ≡ coords_of (pcoa 8 n distances) = ap (λ (c : Check). coords_told n c coords) (sym ec) ∙ h in
+      let is : answered (coords_in lot.n coords) ≡ coords_of (pcoa 8 lot.n lot.distances) = ap (λ (c : Result Unit Refusal). coords_told lot.n c coords) (sym ec) ∙ h in
       let named = en ∙ ap (λ (l : List ℕ). over l s.labels) e.names_are in
-      (λ i. called (Judged (r.answer i)) (slices_of (named i) (r.listed.sizes i) (r.listed.mean_z i) (et i) (ep i) (eo i) (er i) (ev i) (ew i)))
-      ∙ ap (λ (o : Outcome Judgement). call_by lot o s) (answered-by lot (pcoa 8 n distances) is)
-
--- the lot by its design's number of samples
-pub call-by : (n : ℕ) (distances : List Float) (labels : List ℕ) (stratified : Bool) (strata : List ℕ) (weighted : Bool) (weights : List Float) (s : Slices) {k : ℕ} {b : Called} → k ≡ n
-    → b ≡ call_by (lot_of k distances labels stratified strata weighted weights) (exhaustive (lot_of k distances labels stratified strata weighted weights)) s
-    → b ≡ call_by (lot_of n distances labels stratified strata weighted weights) (exhaustive (lot_of n distances labels stratified strata weighted weights)) s
-call-by n distances labels stratified strata weighted weights s e eb =
-    eb ∙ ap (λ (k : ℕ). call_by (lot_of k distances labels stratified strata weighted weights) (exhaustive (lot_of k distances labels stratified strata weighted weights)) s) e
+      (λ i. called (Ok (r.answer i)) (slices_of (named i) (r.listed.sizes i) (r.listed.mean_z i) (et i) (ep i) (eo i) (er i) (ev i) (ew i)))
+      ∙ ap (λ (o : Outcome Judgement). call_by lot o s) (answered-by lot (pcoa 8 lot.n lot.distances) is)
 
 -- an outcome with these slices
 abbrev call_of : Outcome Judgement → Slices → Called
@@ -115,11 +104,11 @@ module _ (lot : Lot) (s : Slices) where
   early-is es ec = ec ∙ ap (λ (b : Bool). first (test_lines lot b false)) es
 
   -- a call that a line turns away leaves all as it was
-  stays : (r : Refusal) → untouched (number r) ≡ true → called (Refused r) s ≡ call_by lot (refused (number r)) s
+  stays : (r : Refusal) → untouched (number r) ≡ true → called (Err r) s ≡ call_by lot (refused (number r)) s
   unfolding call_by call_in output work
   stays r u = rw u refl
 
-  pub call-refused : {c : Check} {r : Refusal} → told c ≡ early lot s → c ≡ check.Refused r → called (Refused r) s ≡ exhaustive_call lot s
+  pub call-refused : {c : Result Unit Refusal} {r : Refusal} → told c ≡ early lot s → c ≡ Err r → called (Err r) s ≡ exhaustive_call lot s
   unfolding exhaustive_call outcome_of exhaustive_lines early
   call-refused {c} {r} h i =
       let e = told-refused h i in
@@ -127,7 +116,7 @@ module _ (lot : Lot) (s : Slices) where
       ∙ ap (λ (c : Told). call_by lot (judged c (exhaustive lot)) s) (sym (first-before (test_lines lot (too_short lot.n s) false) late (sym e)))
 
   -- line 8
-  pub call-many : {w : ℕ} → early lot s ≡ passed → w ≡ capped (way_count lot) → most_ways < w → called (Refused Ways) s ≡ exhaustive_call lot s
+  pub call-many : {w : ℕ} → early lot s ≡ passed → w ≡ capped (way_count lot) → most_ways < w → called (Err Ways) s ≡ exhaustive_call lot s
   unfolding exhaustive_call outcome_of exhaustive_lines early first
   call-many {w} clear e h =
       let holds : first late ≡ refused 8 = rw (lt-ltb most_ways (way_count lot) (many-ways (way_count lot) e h)) refl in

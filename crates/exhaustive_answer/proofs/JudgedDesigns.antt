@@ -21,7 +21,7 @@ use Rattle.exhaustive_ways.specs.inner.Remaining.{HasRows}
 use Rattle.exhaustive_ways.proofs.CountsLeft.{rows-below}
 use Rattle.exhaustive_hits.specs.Assignments.{columns_of}
 use Rattle.exhaustive_walk.specs.declared.way_statistics.Frame.{Frame}
-use Rattle.exhaustive_walk.specs.inner.WayStatistics.{frame_of, Framed, Placing, Prepared, Judged}
+use Rattle.exhaustive_walk.specs.inner.WayStatistics.{frame_of, Framed, HasRoom, Prepared, Judged}
 use Rattle.exhaustive_walk.proofs.WayAssignments.{way-judged}
 use Rattle.exhaustive_walk.specs.inner.Walks.{Walkable}
 use Rattle.exhaustive_hits.proofs.SameStatistics.{every_way}
@@ -56,8 +56,8 @@ moved-walkable en eg ek es eh j = rw (en, eg, ek, es, eh) j
 moved-below : {n n' : ℕ} {l l' : List ℕ} → n ≡ n' → l ≡ l' → Below n' l' → Below n l
 moved-below en el b = rw (en, el) b
 
-moved-prepared : {f : Frame} {m m' : ℕ} {t p w x : List Float} {ks : List ℕ} {s s' : ℕ} → m ≡ m' → s ≡ s' → Prepared f m' t p w x ks s' → Prepared f m t p w x ks s
-moved-prepared em es a = rw (em, es) a
+moved-prepared : {f : Frame} {m m' : ℕ} {t p w x : List Float} {ks : List ℕ} → m ≡ m' → Prepared f m' t p w x ks → Prepared f m t p w x ks
+moved-prepared em a = rw em a
 
 square-of : {l l' : List Float} {m m' : ℕ} → l ≡ l' → m ≡ m' → length l' ≡ m' * m' → length l ≡ m * m
 square-of el em h = rw (el, em) h
@@ -116,42 +116,36 @@ module _ {d : Design} {p t w x : List Float} {label_counts scores : ℕ} (a : An
     narrow = omega (arith, min-le_left 8 d.n);
   }
 
-  samples-long : length (kept_of d) ≡ d.kept
+  pub samples-long : length (kept_of d) ≡ d.kept
   unfolding kept_count
   samples-long = ap length e.kept_are ∙ sym e.kept_many
 
-  pub strata-long : length (strata_of d) ≡ d.kept
+  strata-long : length (strata_of d) ≡ d.kept
   strata-long = ap length e.strata_are ∙ length-strata lot ∙ sym e.kept_many
 
-  judged-placing : (total : Float) → Placing (frame_of d.n d.kept d.groups x total) d.kept x (kept_of d) scores
+  judged-room : (total : Float) → HasRoom (frame_of d.n d.kept d.groups x total) scores
   unfolding columns_used axes_of
-  judged-placing total =
+  judged-room total =
       let columns = columns_of d.n in
       let lead = columns_used columns d.kept d.groups in
       let wide : columns ≤ d.n = min-le_right 8 d.n in
       let leads : lead ≤ columns = min-le_left columns (d.kept - (d.groups + 1)) in
       let axes : axes_of d.groups lead ≤ d.n = omega (arith, min-le_right (d.groups - 1) lead) in
-      record {
-        framed = framed total;
-        coordinates = a.coordinates;
-        samples = samples-long;
-        places = samples-below lot e;
-        room = omega (arith, a.scores_room, mul-le-mul {n₁ = d.n} {m₁ = axes_of d.groups lead} {n₂ = d.n} {m₂ = d.n} (omega arith) axes);
-      }
+      omega (arith, a.scores_room, mul-le-mul {n₁ = d.n} {m₁ = axes_of d.groups lead} {n₂ = d.n} {m₂ = d.n} (omega arith) axes)
 
-  judged-own : Judged d.n d.kept d.groups (kept_of d) (groups_of d)
-  judged-own = moved-judged n-is e.kept_many e.groups_many e.kept_are e.groups_are (way-judged lot a.owns.labelled a.few (groups lot.labels) (own-way lot))
+  judged-own : Judged d.n (length (kept_of d)) d.groups (kept_of d) (groups_of d)
+  judged-own = moved-judged n-is (samples-long ∙ e.kept_many) e.groups_many e.kept_are e.groups_are (way-judged lot a.owns.labelled a.few (groups lot.labels) (own-way lot))
 
   judged-walkable : Walkable d.n d.groups (kept_of d) (strata_of d) (groups_of d)
   judged-walkable = moved-walkable n-is e.groups_many e.kept_are e.strata_are e.groups_are walkable-lot
     where
       walkable-lot : Walkable lot.n (group_count lot.labels) (kept lot.labels) (strata lot) (groups lot.labels)
       walkable-lot = unfold ways way_count kept_count group_count in record {
+        samples = length-strata lot;
         grouped = length-groups lot.labels ∙ sym (length-strata lot);
         below = groups-below lot.labels;
         few = a.few_ways;
-        judged = λ way h. subst (λ (k : ℕ). Judged lot.n k (group_count lot.labels) (kept lot.labels) way) (sym (length-strata lot))
-            (way-judged lot a.owns.labelled a.few way ((every_way lot).sound way h));
+        judged = λ way h. way-judged lot a.owns.labelled a.few way ((every_way lot).sound way h);
       }
 
   judged-rows : (counts : List ℕ) → length counts ≡ label_counts → HasRows d.groups (strata_of d) counts
@@ -159,18 +153,25 @@ module _ {d : Design} {p t w x : List Float} {label_counts scores : ℕ} (a : An
       (below_more (strata_count lot) (kept_count lot.labels) (strata lot) (strata-within lot a.two) (strata-below lot)))
       (omega (arith, a.label_counts_room))
 
-  prepared : (total : Float) {m : ℕ} → m ≡ d.kept → {s : ℕ} → s ≡ scores → Prepared (frame_of d.n d.kept d.groups x total) m t p w x (kept_of d) s
-  prepared total em es =
+  prepared : (total : Float) → Prepared (frame_of d.n d.kept d.groups x total) (length (kept_of d)) t p w x (kept_of d)
+  prepared total =
       let l = judged-weighed in
-      moved-prepared em es (record { weighed = record { pair_terms = l.pair_terms; weighted_squares = l.weighted_squares; weights = l.weights }; placing = judged-placing total })
+      moved-prepared samples-long (record {
+        weighed = record { pair_terms = l.pair_terms; weighted_squares = l.weighted_squares; weights = l.weights };
+        placing = record { framed = framed total; coordinates = a.coordinates; samples = samples-long; places = samples-below lot e };
+      })
 
   -- by the frame that the code makes
   module _ {f : Frame} (total : Float) (made : f ≡ frame_of d.n d.kept d.groups x total) where
-    pub see-ready : Placing f d.kept x (kept_of d) scores × Judged f.n d.kept f.groups (kept_of d) (groups_of d)
-    see-ready = subst (λ (f : Frame). Placing f d.kept x (kept_of d) scores × Judged f.n d.kept f.groups (kept_of d) (groups_of d)) (sym made) (judged-placing total, judged-own)
+    pub basis-ready : Prepared f (length (kept_of d)) t p w x (kept_of d)
+    basis-ready = subst (λ (f : Frame). Prepared f (length (kept_of d)) t p w x (kept_of d)) (sym made) (prepared total)
 
-    pub count-ready : {s : ℕ} → s ≡ scores → (counts : List ℕ) → length counts ≡ label_counts
-        → Prepared f (length (strata_of d)) t p w x (kept_of d) s × (Walkable f.n f.groups (kept_of d) (strata_of d) (groups_of d) × HasRows f.groups (strata_of d) counts)
-    count-ready {s} es counts h = subst
-        (λ (f : Frame). Prepared f (length (strata_of d)) t p w x (kept_of d) s × (Walkable f.n f.groups (kept_of d) (strata_of d) (groups_of d) × HasRows f.groups (strata_of d) counts))
-        (sym made) (prepared total strata-long es, (judged-walkable, judged-rows counts h))
+    pub see-ready : Judged f.n (length (kept_of d)) f.groups (kept_of d) (groups_of d)
+    see-ready = subst (λ (f : Frame). Judged f.n (length (kept_of d)) f.groups (kept_of d) (groups_of d)) (sym made) judged-own
+
+    pub room-ready : {s : ℕ} → s ≡ scores → HasRoom f s
+    room-ready es = subst (λ (s : ℕ). HasRoom f s) (sym es) (subst (λ (f : Frame). HasRoom f scores) (sym made) (judged-room total))
+
+    pub count-ready : (counts : List ℕ) → length counts ≡ label_counts → Walkable f.n f.groups (kept_of d) (strata_of d) (groups_of d) × HasRows f.groups (strata_of d) counts
+    count-ready counts h = subst (λ (f : Frame). Walkable f.n f.groups (kept_of d) (strata_of d) (groups_of d) × HasRows f.groups (strata_of d) counts)
+        (sym made) (judged-walkable, judged-rows counts h)

@@ -2,8 +2,8 @@
 use Rattle.lists.proofs.Base.{◌≡◌, refl, sym, ap, subst, ◌∙◌, false, List, ◌++◌, ℕ, ◌+◌, ◌-◌, ◌*◌, ◌≤◌, min-le_left}
 use Rattle.lists.proofs.Base.{min-le_right, mul-le-mul, arith, length, take, drop, length-drop, Float}
 use lib.Seq.{length-take-le, drop-append-le, take_at}
-use Rattle.outcome.specs.declared.Check.{Check}
-use Rattle.outcome.specs.declared.Check.TheVariants as check
+use Rattle.std.specs.Prelude.{Result, Ok, Err}
+use Rattle.outcome.specs.declared.Refusal.{Refusal}
 use Rattle.outcome.specs.{Outcome.Outcome, Outcome.answered, Outcome.refused, Slices.untouched}
 use Rattle.ordination_coordinates.specs.{Finish.Coordinates, Centred.centred, Pcoa.ordinate, Pcoa.pcoa}
 use Rattle.ordination_pcoa.specs.inner.Given.{Given, given, gives, coordinates_of}
@@ -38,17 +38,17 @@ coords-lent n k out rest e =
     let long : length (drop (k + k) out) ≡ n * k = omega (arith, length-drop (k + k) out) in
     ap (take (n * k)) (drop-append-le (k + k) out rest (omega arith)) ∙ take_at (drop (k + k) out) rest (n * k) long
 
-told-by : (n : ℕ) {k : ℕ} (r : Check) (out rest : List Float) → k ≡ columns_of n → length out ≡ k + k + n * k → coords_told n r (out ++ rest) ≡ coords_of (coordinates_of k r out)
+told-by : (n : ℕ) {k : ℕ} (r : Result Unit Refusal) (out rest : List Float) → k ≡ columns_of n → length out ≡ k + k + n * k → coords_told n r (out ++ rest) ≡ coords_of (coordinates_of k r out)
 unfolding coords_of
-told-by n {k} check.Passed out rest ek e = ap answered (ap (λ (k : ℕ). coords_at n k (out ++ rest)) (sym ek) ∙ coords-lent n k out rest e)
-told-by n (check.Refused r) out rest ek e = refl
+told-by n {k} (Ok _) out rest ek e = ap answered (ap (λ (k : ℕ). coords_at n k (out ++ rest)) (sym ek) ∙ coords-lent n k out rest e)
+told-by n (Err r) out rest ek e = refl
 
 -- components above n mean n
 pcoa-min : (n : ℕ) (d : List Float) {k : ℕ} → k ≡ columns_of n → pcoa k n d ≡ pcoa 8 n d
 unfolding pcoa
 pcoa-min n d e = ap (λ (k : ℕ). ordinate k n (centred n d)) e ∙ ordinate-min 8 n (centred n d)
 
-pub told_is : (n : ℕ) {k : ℕ} (d : List Float) (r : Check) (out old rest : List Float) → k ≡ columns_of n → length out ≡ k + k + n * k → given k r out ≡ gives k n (pcoa k n d) old
+pub told_is : (n : ℕ) {k : ℕ} (d : List Float) (r : Result Unit Refusal) (out old rest : List Float) → k ≡ columns_of n → length out ≡ k + k + n * k → given k r out ≡ gives k n (pcoa k n d) old
     → coords_told n r (out ++ rest) ≡ coords_of (pcoa 8 n d)
 unfolding gives
 told_is n d r out old rest ek e h = told-by n r out rest ek e ∙ ap (λ (g : Given). coords_of g.found) h ∙ ap coords_of (pcoa-min n d ek)

@@ -4,7 +4,7 @@ use Rattle.float.specs.Floats.{zero⁺}
 use Rattle.lists.specs.Writes.{over, cleared}
 use Rattle.outcome.specs.declared.Refusal.{Refusal}
 use Rattle.outcome.specs.Numbers.{number}
-use Rattle.exhaustive_hits.specs.declared.every_way.Answer.TheVariants.{Refused}
+use Rattle.std.specs.Prelude.{Err}
 use Rattle.exhaustive_hits.specs.Call.{Slices, slices_of, called}
 use Rattle.exhaustive_answer.specs.inner.Refused.{turned}
 
@@ -21,6 +21,6 @@ pub turned-is : (g : ℕ) (r : Refusal) (s : Slices) {group_labels counts : List
     → group_labels ≡ over (replicate g 0) s.labels → counts ≡ over (replicate g 0) s.counts → means ≡ over (replicate g zero⁺) s.means →
     pair_terms ≡ cleared zero⁺ s.pair_terms → weighted_squares ≡ cleared zero⁺ s.weighted_squares → coords ≡ cleared zero⁺ s.coords →
     eigenpairs ≡ cleared zero⁺ s.eigenpairs → vectors ≡ cleared zero⁺ s.vectors → label_counts ≡ cleared 0 s.label_counts →
-    called (Refused r) (slices_of group_labels counts means pair_terms weighted_squares coords eigenpairs vectors label_counts) ≡ turned g (number r) s
+    called (Err r) (slices_of group_labels counts means pair_terms weighted_squares coords eigenpairs vectors label_counts) ≡ turned g (number r) s
 unfolding turned
-turned-is g r s en ec em et ep eo er ev ew = λ i. called (Refused r) (slices_of (en i) (ec i) (em i) (et i) (ep i) (eo i) (er i) (ev i) (ew i))
+turned-is g r s en ec em et ep eo er ev ew = λ i. called (Err r) (slices_of (en i) (ec i) (em i) (et i) (ep i) (eo i) (er i) (ev i) (ew i))

@@ -6,7 +6,7 @@ ghost use Rattle.exhaustive_hits.specs.Call.{slices_of, called};
 ghost use Rattle.outcome.specs.Numbers.{number};
 ghost use Rattle.exhaustive_answer.specs.inner.Refused.{turned};
 
-use exhaustive_hits::every_way::Answer;
+use exhaustive_hits::judgement::Judgement;
 use outcome::Refusal;
 
 // All work becomes zero.
@@ -22,12 +22,12 @@ pub fn clear_work(
         × (coords.new ≡ cleared zero⁺ coords.old) × (eigenpairs.new ≡ cleared zero⁺ eigenpairs.old)
         × (vectors.new ≡ cleared zero⁺ vectors.old) × (label_counts.new ≡ cleared 0 label_counts.old) }
 {
-    lists::clear(pair_terms);
-    lists::clear(weighted_squares);
-    lists::clear(coords);
-    lists::clear(eigenpairs);
-    lists::clear(vectors);
-    lists::clear_u16(label_counts);
+    pair_terms.fill(0.0);
+    weighted_squares.fill(0.0);
+    coords.fill(0.0);
+    eigenpairs.fill(0.0);
+    vectors.fill(0.0);
+    label_counts.fill(0);
 }
 
 // The outputs' first part and all work become zero.
@@ -43,14 +43,14 @@ pub fn refuse(
     label_counts: &mut [u16],
     g: usize,
     r: Refusal,
-) -> Answer
+) -> Result<Judgement, Refusal>
     requires { (g ≤ length group_labels.old) × (g ≤ length counts.old) × (g ≤ length means.old) }
     ensures { called result (slices_of group_labels.new counts.new means.new pair_terms.new weighted_squares.new coords.new eigenpairs.new vectors.new label_counts.new)
         ≡ turned g (number r) (slices_of group_labels.old counts.old means.old pair_terms.old weighted_squares.old coords.old eigenpairs.old vectors.old label_counts.old) }
 {
-    lists::clear_u16(&mut group_labels[..g]);
-    lists::clear_u16(&mut counts[..g]);
-    lists::clear(&mut means[..g]);
+    group_labels[..g].fill(0);
+    counts[..g].fill(0);
+    means[..g].fill(0.0);
     clear_work(
         pair_terms,
         weighted_squares,
@@ -59,5 +59,5 @@ pub fn refuse(
         vectors,
         label_counts,
     );
-    Answer::Refused(r)
+    Err(r)
 }

@@ -7,13 +7,15 @@ pub mod ordination;
 ghost use Rattle.std.specs.Prelude.{◌≡◌, length};
 ghost use Rattle.lot.specs.Lot.{Lot};
 ghost use Rattle.permanova_statistics.specs.inner.Observed.{observed_of};
-ghost use Rattle.exhaustive_walk.specs.inner.WayStatistics.{frame_of, assignment_by, Placing, Judged};
+ghost use Rattle.exhaustive_walk.specs.inner.WayStatistics.{frame_of, HasRoom};
+ghost use Rattle.exhaustive_walk.specs.inner.OnBasis.{assignment_on, JudgedOn};
 ghost use Rattle.exhaustive_answer.specs.inner.Counted.{seen_by, counted_of};
 ghost use Rattle.exhaustive_answer.specs.inner.Answering.{Answerable, Answering, Owns, Answers};
 
 use eigen_top::checks;
 use exhaustive_hits::Seen;
 use exhaustive_hits::judgement::{Counted, Judgement};
+use exhaustive_walk::basis::Basis;
 use exhaustive_walk::way_statistics::Frame;
 use exhaustive_walk::{hit_counts, way_statistics};
 use lot_design::Design;
@@ -26,37 +28,26 @@ fn frame_of(d: Design, x: &[f64], total: f64) -> Frame
 {
     let columns = checks::components_used(8, d.n);
     let lead = dapc_discriminant::columns_used(columns, d.kept, d.groups);
-    let barred = way_statistics::is_barred(x, lead);
     Frame {
         n: d.n,
         groups: d.groups,
         columns,
         lead,
-        barred,
+        barred: way_statistics::is_barred(x, lead),
         total,
     }
 }
 
 // The three statistics of the observed way, two of which are at hand.
-fn see(
-    scores: &mut [f64],
-    x: &[f64],
-    ks: &[u16],
-    gs: &[u16],
-    m: usize,
-    f: Frame,
-    o: Observed,
-) -> Seen
-    requires { Placing f m x.now ks.now (length scores.old) × Judged f.n m f.groups ks.now gs.now }
-    ensures { result ≡ seen_by o (assignment_by f x.now ks.now gs.now) }
+fn see(scores: &mut [f64], b: Basis<'_>, gs: &[u16], o: Observed) -> Seen
+    requires judged { JudgedOn b gs.now }
+    requires room { HasRoom b.frame (length scores.old) }
+    ensures { result ≡ seen_by o (assignment_on b.entry gs.now) }
 {
-    let assignment = way_statistics::assignment_of(scores, x, ks, gs, m, f);
-    let location = permanova_p_values::statistic_of(o.f);
-    let dispersion = permanova_p_values::statistic_of(o.disp_f);
     Seen {
-        location,
-        dispersion,
-        assignment,
+        location: permanova_p_values::statistic_of(o.f),
+        dispersion: permanova_p_values::statistic_of(o.disp_f),
+        assignment: way_statistics::assignment_of(scores, b, gs),
     }
 }
 
@@ -75,24 +66,19 @@ fn count(
     ensures { (lot : Lot) → Owns lot d p.now t.now w.now → o ≡ observed_of lot → result ≡ counted_of lot x.now }
 {
     let m = d.kept;
-    let ks = d.samples;
-    let gs = d.group;
-    let ss = d.stratum;
-    let f = frame_of(d, x, o.total);
-    let seen = see(scores, x, &ks[..m], &gs[..m], m, f, o);
-    let hits = hit_counts::count_hits(
-        label_counts,
-        scores,
-        &ss[..m],
-        &gs[..m],
-        t,
-        p,
-        w,
-        x,
-        &ks[..m],
-        f,
-        seen,
-    );
+    let ks = &d.samples[..m];
+    let gs = &d.group[..m];
+    let ss = &d.stratum[..m];
+    let basis = Basis {
+        frame: frame_of(d, x, o.total),
+        pair_terms: t,
+        weighted_squares: p,
+        weights: w,
+        coords: x,
+        samples: ks,
+    };
+    let seen = see(scores, basis, gs, o);
+    let hits = hit_counts::count_hits(label_counts, scores, ss, gs, basis, seen);
     Counted { seen, hits }
 }
 

@@ -4,7 +4,7 @@ ghost use Rattle.ordination_coordinates.specs.Pcoa.{pcoa};
 ghost use Rattle.exhaustive_answer.specs.inner.Ordination.{coords_told, coords_of, Ordinating};
 
 use eigen_top::checks;
-use outcome::Check;
+use outcome::Refusal;
 
 // The coordinates of all n samples go to `coords`, after their values and shares. The others lend room.
 pub fn ordinate(
@@ -15,7 +15,7 @@ pub fn ordinate(
     vectors: &mut [f64],
     distances: &[f64],
     n: usize,
-) -> Check
+) -> Result<(), Refusal>
     requires { Ordinating n distances.now (length coords.old) (length pair_terms.old) (length weighted_squares.old) (length eigenpairs.old) (length vectors.old) }
     ensures { coords_told n result coords.new ≡ coords_of (pcoa 8 n distances.now) }
 {

@@ -1,5 +1,6 @@
 -- Demand 3: of every lot that the exhaustive test accepts, all M calls are accepted, with exact hits, and each of the three tests keeps its level.
 use Rattle.lists.proofs.Base.{◌≡◌, ap, ap₂, ◌∙◌, Bool, ◌&&◌, ℕ, ◌≤◌, T, leb}
+use Rattle.std.specs.Prelude.{Option}
 use mathlib.Core.List.{List, Memᴰ as Member}
 use lib.Ieee.{binary64, fits}
 use lib.Ieee.Fits.{div-fits}
@@ -15,7 +16,6 @@ use Rattle.permanova_statistics.specs.{Statistics.location_f, Statistics.dispers
 use Rattle.permanova_statistics.specs.Statistics as statistics
 use Rattle.ordination_coordinates.specs.Finish.{Coordinates}
 use Rattle.exhaustive_ways.specs.Ways.{ways}
-use Rattle.exhaustive_hits.specs.declared.Assignment.{Assignment}
 use Rattle.exhaustive_hits.specs.WayHits.{as_right, is_given}
 use Rattle.exhaustive_hits.specs.declared.judgement.Judgement.{Judgement}
 use Rattle.exhaustive_hits.specs.Exhaustive.{location_of, dispersion_of, assignment_of, hits, location_hits, dispersion_hits, assignment_hits, coordinates, judgement, exhaustive}
@@ -112,11 +112,11 @@ module _ (lot : Lot) (s : Slices) (j : Judgement) (answers : (exhaustive_call lo
       (λ way w. few-hits hit (dispersion_of lot) k way (accepts way w).exact.dispersion_hits))
       (f-level (dispersion_f lot) (dispersion-fits lot) (ways lot) k)
 
-  assigned-level : (k : ℕ) → calls lot made (λ j. is_given j.assigned.assignment && leb j.assigned.hits k) ≤ k
+  assigned-level : (k : ℕ) → calls lot made (λ j. is_given j.assigned.statistic && leb j.assigned.hits k) ≤ k
   assigned-level k =
       let right = assignment_of lot ordination.0.coords in
-      rw (calls_are (λ j. is_given j.assigned.assignment && leb j.assigned.hits k) (λ way. is_given (right way) && leb (count_if (λ v. as_right (right way) (right v)) (ways lot)) k)
-      (λ way w. ap₂ (λ (a : Assignment) (b : Bool). is_given a && b) (accepts way w).exact.assigned (few-hits as_right right k way (accepts way w).exact.assigned_hits)))
+      rw (calls_are (λ j. is_given j.assigned.statistic && leb j.assigned.hits k) (λ way. is_given (right way) && leb (count_if (λ v. as_right (right way) (right v)) (ways lot)) k)
+      (λ way w. ap₂ (λ (a : Option ℕ) (b : Bool). is_given a && b) (accepts way w).exact.assigned (few-hits as_right right k way (accepts way w).exact.assigned_hits)))
       (right-level right (ways lot) k)
 
   keeps-level : Level lot made

@@ -1,5 +1,6 @@
 -- The level of the two kinds of hits: of an F that is finite or unbounded, and of an assignment that may be withheld.
 use Rattle.lists.proofs.Base.{◌≡◌, refl, sym, Bool, true, false, cond, true≢false, ◌⊎◌, inl, inr, List, ℕ, arith, T, leb, le-leb, leb-true}
+use Rattle.std.specs.Prelude.{Option, Some, None}
 use native.Mathlib.Decide.{dec_le}
 use lib.Ieee.{Float, binary64, fits}
 use lib.Ieee.Scale.{finite}
@@ -11,8 +12,6 @@ use Rattle.permanova_p_values.specs.declared.Statistic.TheVariants.{Finite, Unbo
 use Rattle.permanova_p_values.specs.Hits.{statistic, hit}
 use Rattle.exhaustive_ways.specs.Level.{KeepsLevel}
 use Rattle.exhaustive_ways.proofs.ListLevels.{level, always}
-use Rattle.exhaustive_hits.specs.declared.Assignment.{Assignment}
-use Rattle.exhaustive_hits.specs.declared.Assignment.TheVariants.{Right, Withheld}
 use Rattle.exhaustive_hits.specs.WayHits.{as_right, is_given}
 
 leb-total : (a b : ℕ) → (leb a b ≡ true) ⊎ (leb b a ≡ true)
@@ -68,22 +67,22 @@ module _ {A : Type 0} (F : A → Float) (fit : (x : A) → T (fits binary64 (F x
 
 -- ---- assignments stand by their right count
 
-right-total : (x y : Assignment) → is_given x ≡ true → is_given y ≡ true → (as_right x y ≡ true) ⊎ (as_right y x ≡ true)
+right-total : (x y : Option ℕ) → is_given x ≡ true → is_given y ≡ true → (as_right x y ≡ true) ⊎ (as_right y x ≡ true)
 unfolding is_given as_right
-right-total Withheld Withheld p q = absurd (true≢false (sym p))
-right-total Withheld (Right r') p q = absurd (true≢false (sym p))
-right-total (Right r) Withheld p q = absurd (true≢false (sym q))
-right-total (Right r) (Right r') p q = leb-total r r'
+right-total None None p q = absurd (true≢false (sym p))
+right-total None (Some r') p q = absurd (true≢false (sym p))
+right-total (Some r) None p q = absurd (true≢false (sym q))
+right-total (Some r) (Some r') p q = leb-total r r'
 
-right-trans : (x y z : Assignment) → as_right x y ≡ true → as_right y z ≡ true → as_right x z ≡ true
+right-trans : (x y z : Option ℕ) → as_right x y ≡ true → as_right y z ≡ true → as_right x z ≡ true
 unfolding as_right
-right-trans Withheld Withheld z u v = absurd (true≢false (sym u))
-right-trans Withheld (Right b) z u v = absurd (true≢false (sym u))
-right-trans (Right a) Withheld z u v = absurd (true≢false (sym u))
-right-trans (Right a) (Right b) Withheld u v = v
-right-trans (Right a) (Right b) (Right c) u v = leb-trans a b c u v
+right-trans None None z u v = absurd (true≢false (sym u))
+right-trans None (Some b) z u v = absurd (true≢false (sym u))
+right-trans (Some a) None z u v = absurd (true≢false (sym u))
+right-trans (Some a) (Some b) None u v = v
+right-trans (Some a) (Some b) (Some c) u v = leb-trans a b c u v
 
-module _ {A : Type 0} (assigned : A → Assignment) where
+module _ {A : Type 0} (assigned : A → Option ℕ) where
   -- of those that are given
   pub right-level : (xs : List A) → KeepsLevel (λ x. is_given (assigned x)) (λ x y. as_right (assigned x) (assigned y)) xs
   right-level = level (λ x. is_given (assigned x)) (λ x y. as_right (assigned x) (assigned y))

@@ -45,7 +45,7 @@ module _ (lot : Lot) (e : List Float) (same : SameSquares e lot.distances) where
         ways = way_count lot;
         location = record { statistic = location-same i observed; hits = location-hits-same i };
         dispersion = record { statistic = dispersion-same i observed; hits = dispersion-hits-same i };
-        assigned = record { assignment = assignment_of lot coords observed; hits = assignment_hits lot coords };
+        assigned = record { statistic = assignment_of lot coords observed; hits = assignment_hits lot coords };
       }
 
   pub same-exhaustive : exhaustive (with_distances lot e) ≡ exhaustive lot

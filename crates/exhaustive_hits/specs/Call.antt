@@ -1,10 +1,10 @@
 -- A whole call of `exhaustive`: its answer, and what all that is lent holds afterwards (section 6, and below the table). Definitions only.
-use Rattle.std.specs.Prelude.{ℕ, ◌+◌, ◌*◌, ◌≤◌, Bool, false, List, [], ◌∷◌, ◌++◌, ltb, length, Float}
+use Rattle.std.specs.Prelude.{ℕ, ◌+◌, ◌*◌, ◌≤◌, Bool, false, List, [], ◌∷◌, ◌++◌, ltb, length, Float, Result}
 use Rattle.limits.specs.Limits.{judged_components, most_ways}
 use Rattle.float.specs.Floats.{zero⁺}
-use Rattle.outcome.specs.Numbers.{number}
+use Rattle.outcome.specs.Numbers as numbers
 use Rattle.outcome.specs.Refusals.{Line, ◌when◌, first, short}
-use Rattle.outcome.specs.Outcome.{Outcome, answered, refused, judged}
+use Rattle.outcome.specs.Outcome.{Outcome, judged}
 use Rattle.outcome.specs.Slices.{output, work}
 use Rattle.lot.specs.Lot.{Lot}
 use Rattle.lot.specs.Kept.{group_labels, groups, kept_count, group_count}
@@ -14,8 +14,7 @@ use Rattle.permanova_statistics.specs.Statistics.{z_of}
 use Rattle.permanova_statistics.specs.Warnings.{sizes_of}
 use Rattle.exhaustive_ways.specs.Ways.{way_count}
 use Rattle.exhaustive_hits.specs.declared.judgement.Judgement.{Judgement}
-use Rattle.exhaustive_hits.specs.declared.every_way.Answer.{Answer}
-use Rattle.exhaustive_hits.specs.declared.every_way.Answer.TheVariants.{Judged, Refused}
+use Rattle.outcome.specs.declared.Refusal.{Refusal}
 use Rattle.exhaustive_hits.specs.Exhaustive.{exhaustive}
 
 -- What is lent: outputs for g labels, counts and mean z; work for the terms, the weighted squares, the coordinates, the ordination and its vectors, and for the label
@@ -94,17 +93,16 @@ outcome_of lot before = judged (first (exhaustive_lines lot before)) (exhaustive
 unfoldable pub exhaustive_call : Lot → Slices → Called
 exhaustive_call lot before = call_by lot (outcome_of lot before) before
 
--- ---- how a contract says it: the enum that is returned, and what the slices hold
+-- ---- how a contract says it: what is returned, and what the slices hold
 
 abbrev pub slices_of : List ℕ → List ℕ → List Float → List Float → List Float → List Float → List Float → List Float → List ℕ → Slices
 slices_of labels counts means pair_terms weighted_squares coords eigenpairs vectors label_counts =
     record { labels = labels; counts = counts; means = means; pair_terms = pair_terms; weighted_squares = weighted_squares; coords = coords; eigenpairs = eigenpairs; vectors = vectors; label_counts = label_counts }
 
-abbrev pub answer_of : Answer → Outcome Judgement
-answer_of (Judged j) = answered j
-answer_of (Refused r) = refused (number r)
+abbrev pub answer_of : Result Judgement Refusal → Outcome Judgement
+answer_of r = numbers.outcome_of r
 
-abbrev pub called : Answer → Slices → Called
+abbrev pub called : Result Judgement Refusal → Slices → Called
 called r after = record { answer = answer_of r; after = after }
 
 -- ---- the second slices are no shorter than the first, one by one

@@ -1,6 +1,6 @@
 -- Section 6: the exhaustive test of a lot. Definitions only.
 -- A way has a group for each kept sample; the observed one is `groups lot.labels`.
-use Rattle.std.specs.Prelude.{ℕ, Bool, List, Float}
+use Rattle.std.specs.Prelude.{ℕ, Bool, List, Float, Option}
 use Rattle.lists.specs.Filters.{count_if}
 use Rattle.outcome.specs.Outcome.{Outcome, answered, and_then}
 use Rattle.lot.specs.Lot.{Lot}
@@ -13,7 +13,6 @@ use Rattle.permanova_statistics.specs.Summaries.{summary_of}
 use Rattle.ordination_coordinates.specs.Finish.{Coordinates}
 use Rattle.ordination_coordinates.specs.Pcoa.{pcoa}
 use Rattle.exhaustive_ways.specs.Ways.{ways, way_count}
-use Rattle.exhaustive_hits.specs.declared.Assignment.{Assignment}
 use Rattle.exhaustive_hits.specs.WayHits.{as_right}
 use Rattle.exhaustive_hits.specs.Assignments.{assignment, columns_of}
 use Rattle.exhaustive_hits.specs.declared.judgement.Judgement.{Judgement}
@@ -29,7 +28,7 @@ unfoldable pub dispersion_of : Lot → List ℕ → Statistic
 dispersion_of lot way = statistic (dispersion_f lot way)
 
 -- `dapc` with the way's labels, on coordinates of all n samples
-unfoldable pub assignment_of : Lot → List Float → List ℕ → Assignment
+unfoldable pub assignment_of : Lot → List Float → List ℕ → Option ℕ
 assignment_of lot coords way = assignment lot.n (columns_of lot.n) coords (relabelled lot way).labels
 
 -- ---- over all ways
@@ -58,7 +57,7 @@ judgement lot coords =
       ways = way_count lot;
       location = record { statistic = location_of lot observed; hits = location_hits lot };
       dispersion = record { statistic = dispersion_of lot observed; hits = dispersion_hits lot };
-      assigned = record { assignment = assignment_of lot coords observed; hits = assignment_hits lot coords };
+      assigned = record { statistic = assignment_of lot coords observed; hits = assignment_hits lot coords };
     }
 
 -- `pcoa` with 8 components of the full matrix

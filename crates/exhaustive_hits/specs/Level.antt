@@ -39,7 +39,7 @@ pub record Exact (lot : Lot) (c : Coordinates) (way : List ℕ) (j : Judgement) 
   pub location_hits : j.location.hits ≡ hits hit (location_of lot) way (ways lot)
   pub dispersion : j.dispersion.statistic ≡ dispersion_of lot way
   pub dispersion_hits : j.dispersion.hits ≡ hits hit (dispersion_of lot) way (ways lot)
-  pub assigned : j.assigned.assignment ≡ assignment_of lot c.coords way
+  pub assigned : j.assigned.statistic ≡ assignment_of lot c.coords way
   pub assigned_hits : j.assigned.hits ≡ hits as_right (assignment_of lot c.coords) way (ways lot)
 
 -- It is accepted, with such an answer.
@@ -68,7 +68,7 @@ pub record Level (lot : Lot) (made : List ℕ → Called) : Type 0 where
   pub accepted : (way : List ℕ) → IsWay lot way → Accepted lot c way (made way)
   pub location : (k : ℕ) → calls lot made (λ j. leb j.location.hits k) ≤ k
   pub dispersion : (k : ℕ) → calls lot made (λ j. leb j.dispersion.hits k) ≤ k
-  pub assigned : (k : ℕ) → calls lot made (λ j. is_given j.assigned.assignment && leb j.assigned.hits k) ≤ k
+  pub assigned : (k : ℕ) → calls lot made (λ j. is_given j.assigned.statistic && leb j.assigned.hits k) ≤ k
 
 -- A lot that a call accepts, and the M calls made, each as its contract says, with the slices that `lend` gives: no shorter, whatever they hold.
 abbrev pub Demand3 : Type 0

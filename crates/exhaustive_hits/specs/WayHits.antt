@@ -1,21 +1,20 @@
--- Section 6: the hits of an assignment, and of all three statistics of a way. Definitions only.
-use Rattle.std.specs.Prelude.{Bool, true, false, ℕ, leb}
-use Rattle.exhaustive_hits.specs.declared.Assignment.{Assignment}
-use Rattle.exhaustive_hits.specs.declared.Assignment.TheVariants.{Right, Withheld}
+-- Section 6: the hits of an assignment, and of all three statistics of a way. An assignment is how many kept samples were found to be in their own group, and none
+-- where `dapc` refuses. Definitions only.
+use Rattle.std.specs.Prelude.{Bool, true, false, ℕ, leb, Option, Some, None}
 
 -- Hits of an assignment: the ways with as many right or more. A way that has none is no hit, and has no hits.
-unfoldable pub as_right : Assignment → Assignment → Bool
-as_right Withheld Withheld = false
-as_right Withheld (Right r') = false
-as_right (Right r) Withheld = false
-as_right (Right r) (Right r') = leb r r'
+unfoldable pub as_right : Option ℕ → Option ℕ → Bool
+as_right None None = false
+as_right None (Some r') = false
+as_right (Some r) None = false
+as_right (Some r) (Some r') = leb r r'
 
 -- whether `dapc` does not refuse
-unfoldable pub is_given : Assignment → Bool
-is_given (Right r) = true
-is_given Withheld = false
+unfoldable pub is_given : Option ℕ → Bool
+is_given (Some r) = true
+is_given None = false
 
 -- how many are right, 0 where none is given
-abbrev pub right_of : Assignment → ℕ
-right_of (Right r) = r
-right_of Withheld = 0
+abbrev pub right_of : Option ℕ → ℕ
+right_of (Some r) = r
+right_of None = 0

@@ -2,21 +2,14 @@
 ghost use Rattle.std.specs.Prelude.{◌≡◌};
 ghost use Rattle.exhaustive_hits.specs.inner.Judgements.{concluded};
 
-use crate::{Assignment, Hits, Seen};
+use crate::{Hits, Seen};
 use permanova_p_values::Statistic;
 use permanova_statistics::summary::Summary;
 
 // A statistic of the observed way, and how many ways are its hits.
 #[derive(Clone, Copy)]
-pub struct Tested {
-    pub statistic: Statistic,
-    pub hits: usize,
-}
-
-// The assignment of the observed way, and its hits.
-#[derive(Clone, Copy)]
-pub struct Assigned {
-    pub assignment: Assignment,
+pub struct Tested<T> {
+    pub statistic: T,
     pub hits: usize,
 }
 
@@ -26,9 +19,10 @@ pub struct Judgement {
     pub summary: Summary,
     // M
     pub ways: usize,
-    pub location: Tested,
-    pub dispersion: Tested,
-    pub assigned: Assigned,
+    pub location: Tested<Statistic>,
+    pub dispersion: Tested<Statistic>,
+    // how many kept samples are found in their own group, and none where `dapc` refuses
+    pub assigned: Tested<Option<usize>>,
 }
 
 // The three statistics of the observed way, and their hits.
@@ -42,24 +36,20 @@ pub struct Counted {
 pub fn conclude(summary: Summary, ways: usize, c: Counted) -> Judgement
     ensures { result ≡ concluded summary ways c }
 {
-    let seen = c.seen;
-    let hits = c.hits;
-    let location = seen.location;
-    let dispersion = seen.dispersion;
-    let assignment = seen.assignment;
+    let Counted { seen, hits } = c;
     Judgement {
         summary,
         ways,
         location: Tested {
-            statistic: location,
+            statistic: seen.location,
             hits: hits.location,
         },
         dispersion: Tested {
-            statistic: dispersion,
+            statistic: seen.dispersion,
             hits: hits.dispersion,
         },
-        assigned: Assigned {
-            assignment,
+        assigned: Tested {
+            statistic: seen.assignment,
             hits: hits.assignment,
         },
     }

@@ -18,14 +18,13 @@ use Rattle.dapc_discriminant.specs.Dapc.{Scores, columns_used, axes_of, discrimi
 use Rattle.dapc.specs.DapcLines.{misfits, bad_coordinate, shape_lines, group_lines, dapc_lines}
 use Rattle.dapc.specs.Call.{call_by, dapc_call}
 use Rattle.dapc.proofs.LabelGroups.{grouped-kept, numbered-each}
-use Rattle.exhaustive_hits.specs.declared.Assignment.{Assignment}
-use Rattle.exhaustive_hits.specs.declared.Assignment.TheVariants.{Withheld}
+use Rattle.std.specs.Prelude.{Option, None}
 use Rattle.exhaustive_hits.specs.Assignments.{columns_of, assignment}
 use Rattle.exhaustive_walk.specs.inner.WayStatistics.{barred_by, frame_of, location_by, dispersion_by, found, assignment_by, statistics_by, Judged}
 use Rattle.exhaustive_walk.proofs.WayStatisticsCases.{answer-found}
 
 -- by the two lines that coordinates can meet
-by_lines : (b c : Bool) (o : Outcome Scores) → found (judged (cond b (refused 3) (cond c (refused 9) passed)) o) ≡ cond (b || c) Withheld (found o)
+by_lines : (b c : Bool) (o : Outcome Scores) → found (judged (cond b (refused 3) (cond c (refused 9) passed)) o) ≡ cond (b || c) None (found o)
 unfolding found
 by_lines true c o = refl
 by_lines false true o = refl
@@ -61,7 +60,7 @@ module _ (n columns : ℕ) (x : List Float) (labels : List ℕ) (coordinates : l
   unfolding dapc kept_count
   scored = ap (λ (ks : List ℕ). discriminate n columns (columns_used columns (length ks) g) x (group_each labels) g) (grouped-kept labels (omega arith))
 
-  assignment-is : assignment n columns x labels ≡ cond (barred_by x (columns_used columns m g)) Withheld (found (discriminate n columns (columns_used columns m g) x (group_each labels) g))
+  assignment-is : assignment n columns x labels ≡ cond (barred_by x (columns_used columns m g)) None (found (discriminate n columns (columns_used columns m g) x (group_each labels) g))
   unfolding assignment dapc_call call_by barred_by
   assignment-is =
       let answer = judged (first (dapc_lines n columns x labels (length out) (length assigned))) (dapc n columns x (group_each labels) g) in
@@ -107,8 +106,8 @@ module _ (lot : Lot) (labelled : length lot.labels ≡ lot.n) (few : lot.n ≤ 2
 
   -- on coordinates of all samples
   module _ (x : List Float) (coordinates : length x ≡ lot.n * columns_of lot.n) (two : 2 ≤ g₀) where
-    by-groups : ℕ → ℕ → List ℕ → Assignment
-    by-groups m g each = let lead = columns_used (columns_of lot.n) m g in cond (barred_by x lead) Withheld (found (discriminate lot.n (columns_of lot.n) lead x each g))
+    by-groups : ℕ → ℕ → List ℕ → Option ℕ
+    by-groups m g each = let lead = columns_used (columns_of lot.n) m g in cond (barred_by x lead) None (found (discriminate lot.n (columns_of lot.n) lead x each g))
 
     -- its assignment is what `dapc` answers for its labels
     pub assignment-way : (total : Float) → assignment_by (frame_of lot.n m₀ g₀ x total) x (kept lot.labels) way ≡ assignment lot.n (columns_of lot.n) x new

@@ -10,17 +10,17 @@ use Rattle.permanova_p_values.specs.declared.Statistic.{Statistic}
 use Rattle.permanova_p_values.specs.Hits.{statistic}
 use Rattle.dapc_scatter.specs.Means.{grouped}
 use Rattle.dapc_scatter.specs.inner.Means.{Numbered}
-use Rattle.dapc_discriminant.specs.declared.{Separation.Separation, Answer.Answer}
-use Rattle.dapc_discriminant.specs.declared.Answer.TheVariants.{Scored, Refused}
-use Rattle.dapc_discriminant.specs.{Dapc.Scores, Dapc.axes_of, Dapc.discriminate, Outputs.Called, Outputs.leaves, Outputs.called, Outputs.outcome_of}
+use Rattle.dapc_discriminant.specs.declared.Separation.{Separation}
+use Rattle.dapc_discriminant.specs.{Dapc.Scores, Dapc.axes_of, Dapc.discriminate, Outputs.Called, Outputs.leaves, Outputs.called}
 use Rattle.dapc_discriminant.specs.inner.Outputs.{Ready}
 use Rattle.dapc.specs.DapcLines.{bad_coordinate}
-use Rattle.exhaustive_hits.specs.declared.{Assignment.Assignment, Seen.Seen, Hits.Hits}
-use Rattle.exhaustive_hits.specs.declared.Assignment.TheVariants.{Right, Withheld}
+use Rattle.exhaustive_hits.specs.declared.{Seen.Seen, Hits.Hits}
+use Rattle.std.specs.Prelude.{Option, None, Result}
+use Rattle.outcome.specs.Numbers.{outcome_of}
 use Rattle.exhaustive_hits.specs.inner.WayHits.{hits_of}
 use Rattle.exhaustive_walk.specs.declared.way_statistics.Frame.{Frame}
 use Rattle.exhaustive_hits.specs.Assignments.{right_count}
-use Rattle.exhaustive_walk.specs.inner.WayStatistics.{barred_by, location_by, dispersion_by, found, assignment_by, statistics_by, Placing, Judged}
+use Rattle.exhaustive_walk.specs.inner.WayStatistics.{barred_by, location_by, dispersion_by, found, assignment_by, statistics_by, Placing, HasRoom, Judged}
 
 -- ---- location and dispersion
 
@@ -35,26 +35,18 @@ module _ (f : Frame) (m : ℕ) (t p w : List Float) (way : List ℕ) {r : Statis
 
 -- ---- what `dapc` answers
 
-pub right-scored : {r : Answer} {s : Separation} → r ≡ Scored s → Right s.right ≡ right_count (outcome_of r)
-unfolding right_count
-right-scored e = rw e
-
-pub right-refused : {r : Answer} {x : Refusal} → r ≡ Refused x → Withheld ≡ right_count (outcome_of r)
-unfolding right_count
-right-refused e = rw e
-
 pub answer-found : (n p axes : ℕ) (o : Outcome Scores) (out : List Float) (assigned : List ℕ) → right_count (leaves n p axes o out assigned).answer ≡ found o
 unfolding right_count found leaves and_then
 answer-found n p axes (answered s) out assigned = refl
 answer-found n p axes (refused r) out assigned = refl
 
-pub found-by : (n p axes : ℕ) (o : Outcome Scores) (out : List Float) (assigned : List ℕ) (r : Answer) {out' : List Float} {assigned' : List ℕ} {a : Assignment}
+pub found-by : (n p axes : ℕ) (o : Outcome Scores) (out : List Float) (assigned : List ℕ) (r : Result Separation Refusal) {out' : List Float} {assigned' : List ℕ} {a : Option ℕ}
     → a ≡ right_count (outcome_of r) → called r out' assigned' ≡ leaves n p axes o out assigned → a ≡ found o
 found-by n p axes o out assigned r e h = e ∙ ap (λ (c : Called). right_count c.answer) h ∙ answer-found n p axes o out assigned
 
 -- ---- the groups of a way are ready for the scores
 
-module _ {f : Frame} {m : ℕ} {x : List Float} {ks way : List ℕ} {scores : ℕ} (a : Placing f m x ks scores) (j : Judged f.n m f.groups ks way) {each : List ℕ}
+module _ {f : Frame} {m : ℕ} {x : List Float} {ks way : List ℕ} {scores : ℕ} (a : Placing f m x ks) (room : HasRoom f scores) (j : Judged f.n m f.groups ks way) {each : List ℕ}
     (is : each ≡ placed f.n ks way) (long : length each ≡ f.n) where
   pub way-ready : Ready f.columns f.lead (axes_of f.groups f.lead) f.groups x each scores 256 × (m ≡ length (grouped each))
   way-ready = (
@@ -67,13 +59,13 @@ module _ {f : Frame} {m : ℕ} {x : List Float} {ks way : List ℕ} {scores : �
       numbered = subst (λ (l : List ℕ). Numbered f.groups l) (sym is) j.numbered;
       few = omega (arith, a.framed.few);
       axial = refl;
-      room = omega (arith, a.room, ap (λ (k : ℕ). k * axes_of f.groups f.lead) long);
+      room = omega (arith, room, ap (λ (k : ℕ). k * axes_of f.groups f.lead) long);
       places = omega (arith, a.framed.few);
     },
     j.grouped ∙ ap (λ (l : List ℕ). length (grouped l)) (sym is),
   )
 
-  pub way-found : {r : Assignment} → f.barred ≡ false → r ≡ found (discriminate (length each) f.columns f.lead x each f.groups) → r ≡ assignment_by f x ks way
+  pub way-found : {r : Option ℕ} → f.barred ≡ false → r ≡ found (discriminate (length each) f.columns f.lead x each f.groups) → r ≡ assignment_by f x ks way
   unfolding assignment_by
   way-found unbarred e = rw unbarred (e ∙ ap₂ (λ (k : ℕ) (l : List ℕ). found (discriminate k f.columns f.lead x l f.groups)) long is)
 
@@ -87,13 +79,13 @@ pub barred-few : (x : List Float) (lead : ℕ) {b : Bool} → b ≡ any bad_coor
 unfolding barred_by
 barred-few x lead e h = ap (λ (t : Bool). t || ltb lead 2) (sym h ∙ e)
 
-pub assignment-barred : (f : Frame) (x : List Float) (ks way : List ℕ) → f.barred ≡ true → Withheld ≡ assignment_by f x ks way
+pub assignment-barred : (f : Frame) (x : List Float) (ks way : List ℕ) → f.barred ≡ true → None ≡ assignment_by f x ks way
 unfolding assignment_by
 assignment-barred f x ks way e = rw e
 
 -- ---- all three
 
-module _ (f : Frame) (m : ℕ) (t p w x : List Float) (ks way : List ℕ) {l d : Statistic} {a : Assignment} where
+module _ (f : Frame) (m : ℕ) (t p w x : List Float) (ks way : List ℕ) {l d : Statistic} {a : Option ℕ} where
   pub statistics-are : l ≡ location_by f m t w way → d ≡ dispersion_by f m t p w way → a ≡ assignment_by f x ks way
       → record { location = l; dispersion = d; assignment = a } ≡ statistics_by f m t p w x ks way
   unfolding statistics_by

@@ -1,3 +1,4 @@
 -- What only inner functions need: what they are asked, and what they leave. No reader of a public contract needs it.
 pub mod WayStatistics
 pub mod Walks
+pub mod OnBasis

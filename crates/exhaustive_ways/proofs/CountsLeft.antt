@@ -1,7 +1,7 @@
 -- The counts left, in one list: a row of g numbers for each stratum.
 use Rattle.lists.proofs.Base.{◌≡◌, refl, sym, ap, ap₂, ◌∙◌, subst, ⊎_elim, ℕ, suc, ◌+◌, ◌-◌, ◌*◌, ◌/◌, ◌%◌, ◌≤◌, ◌<◌, suc-le-suc}
-use Rattle.lists.proofs.Base.{arith, ℕ_discrete, dec_lt, length, get_or, drop, set, replicate, length-replicate, length-set}
-use Rattle.lists.proofs.Base.{length-drop, List·get_or-eq-default, get_or-set_same, get_or-set_other, ext_get_or}
+use Rattle.lists.proofs.Base.{arith, ℕ_discrete, dec_lt, length, get_or, drop, set, replicate, length-replicate, length-set, get_or-replicate}
+use Rattle.lists.proofs.Base.{List·get_or-eq-default, get_or-set_same, get_or-set_other, ext_get_or}
 use mathlib.Core.List.Memᴰ.{cases_cons}
 use mathlib.Core.List.Memᴰ.{head as here}
 use mathlib.Core.List.Memᴰ.{not-nil}
@@ -11,7 +11,7 @@ use native.Mathlib.Nat.{div-add-mod', le_trans}
 use lib.Arith.{digits_div, digits_mod}
 use Rattle.lists.specs.inner.Numbers.{Below}
 use Rattle.lists.specs.Writes.{cleared}
-use Rattle.lists.proofs.{Ranges.length-table, Ranges.get_or-table, Ranges.table-ext, Writes.replicate-table, Rows.row-end}
+use Rattle.lists.proofs.{Ranges.length-table, Ranges.get_or-table, Rows.row-end}
 use Rattle.lot.specs.Way.{mark, tally}
 use Rattle.exhaustive_ways.specs.Ways.{spend, deal, ways_of}
 use Rattle.exhaustive_ways.specs.inner.Remaining.{left_in, HasRows, tallies, onward}
@@ -40,7 +40,7 @@ left-spend g counts s₀ j₀ h₀ b s j h =
       | no d ↦ other (mark-stratum s₀ j₀ s j d) (λ e. d (place-one g s s₀ j j₀ h h₀ e).0)
     ]
 
--- ---- the rows at the start, filled sample by sample from the last
+-- ---- the rows at the start, filled sample by sample
 
 pub length-tallies : (g : ℕ) (ss labels : List ℕ) (n : ℕ) → length (tallies g ss labels n) ≡ n
 unfolding tallies
@@ -50,38 +50,19 @@ get_or-tallies : (g : ℕ) (ss labels : List ℕ) (n p : ℕ) → p < n → get_
 unfolding tallies
 get_or-tallies g ss labels n p h = get_or-table _ n p 0 h
 
--- none counted: all zero
-pub tallies-none : (g : ℕ) (ss labels counts : List ℕ) (k : ℕ) → k ≡ length ss → cleared 0 counts ≡ tallies g (drop k ss) (drop k labels) (length counts)
-unfolding tallies cleared
-tallies-none g ss labels counts k e =
-    sym (table-ext _ (λ _. 0) (length counts) (λ p _. tally-end ss labels k (p / g) (p % g) e) ∙ replicate-table (length counts) 0)
-
 -- one sample more: one more at its place
-module _ (g s j : ℕ) (ss labels : List ℕ) (n : ℕ) (h : j < g) (b : s * g + j < n) where
-  more-at : (p : ℕ) → p < n → (place : ℕ) → place ≡ s * g + j
-      → get_or (set (tallies g ss labels n) place (get_or (tallies g ss labels n) place 0 + 1)) p 0 ≡ mark s j (p / g) (p % g) + tally ss labels (p / g) (p % g)
-  more-at p l place e =
-      let t = tallies g ss labels n in
+module _ (g s j : ℕ) (counts : List ℕ) (h : j < g) (b : s * g + j < length counts) where
+  more-at : (p : ℕ) → get_or (set counts (s * g + j) (get_or counts (s * g + j) 0 + 1)) p 0 ≡ mark s j (p / g) (p % g) + get_or counts p 0
+  more-at p =
+      let place = s * g + j in
       elim (ℕ_discrete p place) [
         | yes q ↦
-            let here : mark s j (place / g) (place % g) ≡ 1 = mark-same s j _ _ (ap (λ (k : ℕ). k / g) e ∙ digits_div s h) (ap (λ (k : ℕ). k % g) e ∙ digits_mod s h) in
-            rw q (get_or-set_same t place _ 0 (omega (arith, length-tallies g ss labels n)) ∙ omega (arith, get_or-tallies g ss labels n place (omega arith)))
-        | no d ↦ ⊎_elim (λ w. absurd (d (sym (div-add-mod' p g) ∙ ap₂ (λ (a c : ℕ). a * g + c) w.0 w.1 ∙ sym e)))
-            (λ z. get_or-set_other t place p _ 0 d ∙ omega (arith, get_or-tallies g ss labels n p l))
+            let here : mark s j (place / g) (place % g) ≡ 1 = mark-same s j _ _ (digits_div s h) (digits_mod s h) in
+            rw q (get_or-set_same counts place _ 0 b ∙ omega arith)
+        | no d ↦ ⊎_elim (λ w. absurd (d (sym (div-add-mod' p g) ∙ ap₂ (λ (a c : ℕ). a * g + c) w.0 w.1)))
+            (λ z. get_or-set_other counts place p _ 0 d ∙ omega arith)
             (mark-cases s j (p / g) (p % g))
       ]
-
--- with sample k counted
-pub tallies-step : (g : ℕ) (ss labels : List ℕ) (n k : ℕ) → length labels ≡ length ss → k < length ss → get_or labels k 0 < g → get_or ss k 0 * g + get_or labels k 0 < n
-    → {counts : List ℕ} {place : ℕ} → counts ≡ tallies g (drop (k + 1) ss) (drop (k + 1) labels) n → place ≡ get_or ss k 0 * g + get_or labels k 0
-    → set counts place (get_or counts place 0 + 1) ≡ tallies g (drop k ss) (drop k labels) n
-tallies-step g ss labels n k fits h hj b {counts} {place} inv e =
-    let t = tallies g (drop (k + 1) ss) (drop (k + 1) labels) n in
-    let long = length-set t place (get_or t place 0 + 1) ∙ length-tallies g (drop (k + 1) ss) (drop (k + 1) labels) n in
-    rw inv (ext_get_or 0 (set t place (get_or t place 0 + 1)) (tallies g (drop k ss) (drop k labels) n) (long ∙ sym (length-tallies g (drop k ss) (drop k labels) n))
-    (λ p l. let l' : p < n = omega (arith, long) in
-    more-at g (get_or ss k 0) (get_or labels k 0) (drop (k + 1) ss) (drop (k + 1) labels) n hj b p l' place e
-    ∙ sym (tally-step ss labels k fits h (p / g) (p % g)) ∙ sym (get_or-tallies g (drop k ss) (drop k labels) n p l')))
 
 -- a list cleared is one of zeros
 pub zeros-cleared : (old : List ℕ) {l : List ℕ} → l ≡ cleared 0 old → l ≡ cleared 0 l
@@ -124,7 +105,7 @@ pub onward-ways : (g : ℕ) (ss labels counts : List ℕ) → HasRows g ss count
 unfolding onward ways_of
 onward-ways g ss labels counts rows {filled} e = ap (λ (t : List ℕ). deal g ss (left_in g t)) e ∙ deal-cong g ss _ _ (left-tallies g ss labels counts rows)
 
--- ---- the loop of `fill_counts`: k goes down, and the rows count the samples from k on
+-- ---- the loop of `fill_counts`: after k turns the rows count the first k samples
 
 pub record Filling (g : ℕ) (ss labels counts₀ counts : List ℕ) (k : ℕ) : Type 0 where
   pub fits : length labels ≡ length ss
@@ -132,44 +113,54 @@ pub record Filling (g : ℕ) (ss labels counts₀ counts : List ℕ) (k : ℕ) :
   pub rows : HasRows g ss counts₀
   pub most : k ≤ length ss
   pub long : length counts ≡ length counts₀
-  pub held : counts ≡ tallies g (drop k ss) (drop k labels) (length counts₀)
+  pub left : (p : ℕ) → p < length counts₀ → get_or counts p 0 + tally (drop k ss) (drop k labels) (p / g) (p % g) ≡ tally ss labels (p / g) (p % g)
 
 pub filling-none : (g : ℕ) (ss labels counts : List ℕ) → length labels ≡ length ss → Below g labels → HasRows g ss counts → counts ≡ cleared 0 counts
-    → Filling g ss labels counts counts (length ss)
-filling-none g ss labels counts fits below rows zeros =
-    record { fits = fits; below = below; rows = rows; most = omega arith; long = refl; held = zeros ∙ tallies-none g ss labels counts (length ss) refl }
+    → Filling g ss labels counts counts 0
+unfolding cleared
+filling-none g ss labels counts fits below rows zeros = record {
+  fits = fits;
+  below = below;
+  rows = rows;
+  most = omega arith;
+  long = refl;
+  left = λ p h. omega (arith, ap (λ (l : List ℕ). get_or l p 0) zeros, get_or-replicate {A = ℕ} (length counts) p 0 0 h);
+}
 
 module _ {g : ℕ} {ss labels counts₀ counts : List ℕ} {k : ℕ} (f : Filling g ss labels counts₀ counts k) where
-  -- sample k - 1, of stratum s and label j, is counted in its stratum's row, where at most the number of samples stands
-  pub filling-place : {s j : ℕ} → 0 < k → s ≡ get_or ss (k - 1) 0 → j ≡ get_or labels (k - 1) 0 → s * g + j < length counts₀
+  -- sample k, of stratum s and label j, is counted in its stratum's row, where at most the number of samples stands
+  pub filling-place : {s j : ℕ} → k < length ss → s ≡ get_or ss k 0 → j ≡ get_or labels k 0 → s * g + j < length counts₀
   unfolding HasRows
-  filling-place {s} {j} some es ej =
-      let fits = f.fits in
-      let most = f.most in omega (arith, f.rows (k - 1) (omega arith), f.below (k - 1) (omega arith), ap (λ (n : ℕ). n * g) es)
+  filling-place {s} {j} more es ej =
+      let fits = f.fits in omega (arith, f.rows k more, f.below k (omega arith), ap (λ (n : ℕ). n * g) es)
 
   pub filling-small : (p : ℕ) → p < length counts₀ → get_or counts p 0 ≤ length ss
-  filling-small p h = omega (
-    arith,
-    ap (λ (t : List ℕ). get_or t p 0) f.held,
-    get_or-tallies g (drop k ss) (drop k labels) (length counts₀) p h,
-    tally-le (drop k ss) (drop k labels) (p / g) (p % g),
-    length-drop k ss,
-  )
+  filling-small p h = omega (arith, f.left p h, tally-le ss labels (p / g) (p % g))
 
-  pub filling-next : {s j : ℕ} → 0 < k → s ≡ get_or ss (k - 1) 0 → j ≡ get_or labels (k - 1) 0
-      → Filling g ss labels counts₀ (set counts (s * g + j) (get_or counts (s * g + j) 0 + 1)) (k - 1)
-  filling-next {s} {j} some es ej =
-      let back : k ≡ k - 1 + 1 = omega arith in
+  pub filling-next : {s j n : ℕ} → k < length ss → s ≡ get_or ss k 0 → j ≡ get_or labels k 0 → n ≡ k + 1
+      → Filling g ss labels counts₀ (set counts (s * g + j) (get_or counts (s * g + j) 0 + 1)) n
+  filling-next {s} {j} {n} more es ej en =
       let fits = f.fits in
-      let most = f.most in record {
+      let below : j < g = omega (arith, f.below k (omega arith)) in
+      let inside : s * g + j < length counts = omega (arith, filling-place more es ej, f.long) in
+      subst (Filling g ss labels counts₀ (set counts (s * g + j) (get_or counts (s * g + j) 0 + 1))) (sym en) (record {
         fits = fits;
         below = f.below;
         rows = f.rows;
         most = omega arith;
         long = length-set counts (s * g + j) (get_or counts (s * g + j) 0 + 1) ∙ f.long;
-        held = tallies-step g ss labels (length counts₀) (k - 1) fits (omega arith) (f.below (k - 1) (omega arith)) (filling-place some refl refl)
-            (f.held ∙ ap (λ (i : ℕ). tallies g (drop i ss) (drop i labels) (length counts₀)) back) (ap₂ (λ (a b : ℕ). a * g + b) es ej);
-      }
+        left = λ p h. omega (
+          arith,
+          f.left p h,
+          more-at g s j counts below inside p,
+          tally-step ss labels k fits more (p / g) (p % g),
+          ap₂ (λ (a b : ℕ). mark a b (p / g) (p % g)) es ej,
+        );
+      })
 
-  pub filling-all : k ≤ 0 → counts ≡ tallies g ss labels (length counts₀)
-  filling-all none = let z : k ≡ 0 = omega arith in f.held ∙ ap (λ (i : ℕ). tallies g (drop i ss) (drop i labels) (length counts₀)) z
+  pub filling-all : length ss ≤ k → counts ≡ tallies g ss labels (length counts₀)
+  filling-all done =
+      let end : k ≡ length ss = omega (arith, f.most) in
+      ext_get_or 0 counts (tallies g ss labels (length counts₀)) (f.long ∙ sym (length-tallies g ss labels (length counts₀))) (λ p h.
+      let inside : p < length counts₀ = omega (arith, f.long) in
+      omega (arith, f.left p inside, tally-end ss labels k (p / g) (p % g) end, get_or-tallies g ss labels (length counts₀) p inside))

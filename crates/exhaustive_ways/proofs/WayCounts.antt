@@ -1,14 +1,16 @@
 -- M, sample by sample from the last.
 use Rattle.lists.proofs.Base.{◌≡◌, refl, sym, ap, ap₂, ◌∙◌, ⊎_elim, ℕ, zero, suc, ◌+◌, ◌-◌, ◌*◌, ◌/◌, ◌≤◌, ◌<◌, suc-le-suc}
-use Rattle.lists.proofs.Base.{arith, dec_lt, length, get_or, drop, length-drop, eqb, lt-ltb, le-ltb, Bool, cond}
+use Rattle.lists.proofs.Base.{arith, dec_lt, length, get_or, take, drop, length-drop, eqb, eqb-true, eqb-false, lt-ltb, le-ltb, Bool, true, false, ◌&&◌, cond}
+use Rattle.std.specs.List.{count_by, zip}
 use mathlib.Core.List.Memᴰ.{head as here}
 use mathlib.Core.List.Memᴰ.{tail as there}
 use mathlib.Core.List.{List, [], ◌∷◌}
 use native.Mathlib.Nat.{mul_assoc, mul_left_comm, mul-le-mul, le_of_mul-le-mul_right, eq_of_mul-eq-mul_right, div-eq_of_eq-mul_left, le_trans, le_refl}
 use lib.Seq.{drop-length}
+use Rattle.lists.specs.Filters.{count_if}
 use Rattle.lists.specs.Numbers.{productℕ, how_many, upward}
 use Rattle.lists.specs.inner.Numbers.{Below}
-use Rattle.lists.proofs.{Filters.drop_more, Filters.count_if-below, Upward.member-upward}
+use Rattle.lists.proofs.{Filters.drop_more, Filters.count_if-below, Rows.part-rest, Chains.count_if_from, Upward.member-upward}
 use Rattle.lot.specs.Way.{δ, mark, tally}
 use Rattle.limits.specs.Limits.{most_ways}
 use Rattle.exhaustive_ways.specs.Ways.{spend, deal, ways_of, size_factorials, label_factorials, way_count_of}
@@ -16,7 +18,7 @@ use Rattle.exhaustive_ways.specs.inner.Ways.{capped}
 use Rattle.exhaustive_ways.proofs.Distinct.{distinct-upward}
 use Rattle.exhaustive_ways.proofs.DealtWays.{how_many-cons, balanced-tally, counts!, sizes!, counts!-pos, counts!-cong, counts!-spend, sizes!-cons, deal-count}
 use Rattle.exhaustive_ways.proofs.Every.{ways-count}
-use Rattle.lot.proofs.Tallies.{δ-same, mark-same, mark-cases}
+use Rattle.lot.proofs.Tallies.{δ-same, mark-same, mark-stratum, mark-label, mark-cases}
 
 -- ---- the cap
 
@@ -137,6 +139,21 @@ module _ (ss labels : List ℕ) (k : ℕ) (fits : length labels ≡ length ss) (
   pub tally-pos : 0 < tally (drop k ss) (drop k labels) (get_or ss k 0) (get_or labels k 0)
   tally-pos = omega (arith, tally-step (get_or ss k 0) (get_or labels k 0), mark-same (get_or ss k 0) (get_or labels k 0) (get_or ss k 0) (get_or labels k 0) refl refl)
 
+-- counted pair by pair
+pair-more : (s₀ j₀ s j n : ℕ) (a b : Bool) → eqb s₀ s ≡ a → eqb j₀ j ≡ b → cond (a && b) 1 0 + n ≡ mark s₀ j₀ s j + n
+pair-more s₀ j₀ s j n true true e f = omega (arith, mark-same s₀ j₀ s j (sym (eqb-true s₀ s e)) (sym (eqb-true j₀ j f)))
+pair-more s₀ j₀ s j n true false e f = omega (arith, mark-label s₀ j₀ s j (λ q. eqb-false j₀ j f (sym q)))
+pair-more s₀ j₀ s j n false b e f = omega (arith, mark-stratum s₀ j₀ s j (λ q. eqb-false s₀ s e (sym q)))
+
+tally-pairs : (ss labels : List ℕ) (s j : ℕ) → count_if (λ (w : ℕ × ℕ). eqb w.0 s && eqb w.1 j) (zip ss labels) ≡ tally ss labels s j
+unfolding tally count_if
+tally-pairs [] labels s j = refl
+tally-pairs (s₀ ∷ ss) [] s j = refl
+tally-pairs (s₀ ∷ ss) (j₀ ∷ labels) s j = pair-more s₀ j₀ s j _ (eqb s₀ s) (eqb j₀ j) refl refl ∙ ap (λ (n : ℕ). mark s₀ j₀ s j + n) (tally-pairs ss labels s j)
+
+pub tally_from : {r : ℕ} (ss labels : List ℕ) (s j : ℕ) → r ≡ count_by (λ (w : ℕ × ℕ). eqb w.0 s && eqb w.1 j) (zip ss labels) → r ≡ tally ss labels s j
+tally_from ss labels s j e = count_if_from (λ (w : ℕ × ℕ). eqb w.0 s && eqb w.1 j) (zip ss labels) e ∙ tally-pairs ss labels s j
+
 pub tally-end : (ss labels : List ℕ) (k s j : ℕ) → k ≡ length ss → tally (drop k ss) (drop k labels) s j ≡ 0
 unfolding tally
 tally-end ss labels k s j e = rw (e, drop-length) refl
@@ -147,18 +164,26 @@ tally-le ss labels s j = omega (arith, tally-most ss labels s j, count_if-below 
 
 -- ---- the loop of `count_ways`: k goes down, and m is M of the samples from k on
 
+-- what is lent from place k on
+abbrev rest_of : List ℕ → ℕ → List ℕ
+rest_of l k = take (length l - k) (drop k l)
+
 module _ (ss labels : List ℕ) (fits : length labels ≡ length ss) where
-  pub count_turn : {m k z n : ℕ} → 0 < k → k ≤ length ss → m ≡ way_count_of (drop k ss) (drop k labels) → z ≡ how_many (get_or ss (k - 1) 0) (drop (k - 1) ss)
-      → n ≡ tally (drop (k - 1) ss) (drop (k - 1) labels) (get_or ss (k - 1) 0) (get_or labels (k - 1) 0)
+  pub label-count : (k s j : ℕ) → tally (rest_of ss k) (rest_of labels k) s j ≡ tally (drop k ss) (drop k labels) s j
+  label-count k s j = ap₂ (λ (a b : List ℕ). tally a b s j) (part-rest ss k) (part-rest labels k)
+
+  pub count_turn : {m k z n : ℕ} → 0 < k → k ≤ length ss → m ≡ way_count_of (drop k ss) (drop k labels) → z ≡ how_many (get_or ss (k - 1) 0) (rest_of ss (k - 1))
+      → n ≡ tally (rest_of ss (k - 1)) (rest_of labels (k - 1)) (get_or ss (k - 1) 0) (get_or labels (k - 1) 0)
       → m * z / n ≡ way_count_of (drop (k - 1) ss) (drop (k - 1) labels)
   count_turn {m} {k} some most inv ez en =
       let back : k ≡ k - 1 + 1 = omega arith in
-      ap₂ ◌/◌ (ap₂ ◌*◌ (inv ∙ ap (λ (i : ℕ). way_count_of (drop i ss) (drop i labels)) back) ez) en ∙ count-step ss labels (k - 1) fits (omega arith)
+      ap₂ ◌/◌ (ap₂ ◌*◌ (inv ∙ ap (λ (i : ℕ). way_count_of (drop i ss) (drop i labels)) back) (ez ∙ ap (how_many (get_or ss (k - 1) 0)) (part-rest ss (k - 1))))
+      (en ∙ label-count (k - 1) (get_or ss (k - 1) 0) (get_or labels (k - 1) 0)) ∙ count-step ss labels (k - 1) fits (omega arith)
 
   -- a stratum's size is at most the number of samples
-  pub count-size : (k s : ℕ) {z : ℕ} → z ≡ how_many s (drop k ss) → z ≤ length ss
+  pub count-size : (k s : ℕ) {z : ℕ} → z ≡ how_many s (rest_of ss k) → z ≤ length ss
   unfolding how_many
-  count-size k s e = omega (arith, e, count_if-below (eqb s) (drop k ss), length-drop k ss)
+  count-size k s e = omega (arith, e, ap (how_many s) (part-rest ss k), count_if-below (eqb s) (drop k ss), length-drop k ss)
 
   -- above 20,000 it stops, since M is no smaller
   pub count-stops : (k : ℕ) {m : ℕ} → m ≡ way_count_of (drop k ss) (drop k labels) → most_ways < m → 20001 ≡ capped (way_count_of ss labels)

@@ -2,6 +2,9 @@
 use Rattle.lists.proofs.Base.{◌≡◌, refl, sym, ap, ap₂, subst, ◌∙◌, Bool, true, false, cond, ℕ, zero, suc, ◌+◌, ◌-◌, ◌*◌, ◌≤◌, ◌<◌, add-one}
 use Rattle.lists.proofs.Base.{arith, ℕ_discrete, dec_lt, eqb, length, get_or, take, drop, set, length-set, length-drop, lt-ltb, le-ltb}
 use mathlib.Core.List.{List, [], ◌∷◌, ◌++◌, map, reverse_aux, append-nil, append_assoc}
+use Rattle.std.proofs.Common.{IsSome, MatchOption}
+use Rattle.std.specs.declared.option.Option.{Option}
+use Rattle.std.specs.declared.option.Option.TheVariants.{None, Some}
 use lib.Seq.{drop-length, take-length, take-suc, set-set, set-get_or, get_or-set_same, get_or-set_other}
 use Rattle.lists.specs.{Ranges.rows, Ranges.table, Ranges.up_from, Numbers.sumℕ, Numbers.how_many}
 use Rattle.lists.specs.inner.Numbers.{Below}
@@ -14,6 +17,10 @@ use Rattle.exhaustive_ways.specs.inner.Order.{Balanced, place, taken, given, fro
 use Rattle.exhaustive_ways.specs.inner.Order.{after, Node, NextLabel, Onto, First, Beyond, Changed, GoneOn, NextWay}
 use Rattle.exhaustive_ways.proofs.DealtWays.{branch, deal-cons, branch-some, branch-none, deal-cong, how_many-cons, balanced-spend, balanced-unspend, balanced-le, balanced-tally}
 use Rattle.exhaustive_ways.proofs.{Every.ways-count, CountsLeft.left-spend, CountsLeft.length-tallies, CountsLeft.left-tallies, CountsLeft.onward-ways}
+
+-- what a look-up tells of what it found
+pub found : {r : Option ℕ} {i : ℕ} (P : Type 0) (Q : ℕ → Type 0) → r ≡ Some i → MatchOption r P Q → Q i
+found P Q e m = rw e at m
 
 -- ---- rows from a label on
 
@@ -89,8 +96,8 @@ module _ {g : ℕ} {counts : List ℕ} {row j i : ℕ} (p : Passed g counts row 
     pub label-found : 0 < get_or counts (row + i) 0 → NextLabel g counts row' j i
     label-found some = next-label (λ (_ : i < g). some)
 
-    pub label-missing : g ≤ i → NextLabel g counts row' j i
-    label-missing all = next-label (λ (h : i < g). absurd (omega arith))
+    pub label-missing : g ≤ i → NextLabel g counts row' j g
+    label-missing all = let done : i ≡ g = omega (arith, p.up_to) in subst (NextLabel g counts row' j) done (next-label (λ (h : i < g). absurd (omega arith)))
 
 -- ---- the ways through a sample, label by label
 
@@ -240,6 +247,10 @@ module _ {g : ℕ} {ss counts way : List ℕ} {k : ℕ} (node : Node g ss counts
           δ-same (get_or ss k 0) (get_or ss k 0) refl,
         ))
   ]
+
+  pub label-some : (Q : ℕ → Type 0) (r : Option ℕ) → MatchOption r (NextLabel g counts (get_or ss k 0 * g) 0 g) Q → IsSome r
+  label-some Q None n = let below : g < g = label-left n refl in absurd (omega arith)
+  label-some Q (Some i) n = refl
 
   module _ {r : ℕ} (less : r < g) (some : 0 < get_or counts (place g ss k r) 0) where
     pub node-placed : Node g ss (taken counts (place g ss k r)) (set way k r) (suc k)

@@ -3,7 +3,7 @@
 
 pub mod level;
 
-ghost use Rattle.std.specs.Prelude.{◌≡◌, ◌++◌, ◌≤◌, ◌<◌, ◌+◌, ◌*◌, length, drop, get_or, set};
+ghost use Rattle.std.specs.Prelude.{◌≡◌, ◌++◌, ◌≤◌, ◌<◌, ◌+◌, ◌*◌, length, drop, get_or, set, MatchOption};
 ghost use Rattle.limits.specs.Limits.{most_samples};
 ghost use Rattle.lists.specs.Numbers.{how_many};
 ghost use Rattle.lists.specs.inner.Numbers.{Below};
@@ -16,35 +16,22 @@ ghost use Rattle.exhaustive_ways.specs.inner.Order.{place, taken, given, front, 
 
 use lists::entry;
 
-// How many samples from `from` on are of stratum s.
-fn size_from(strata: &[u16], from: usize, s: u16) -> usize
-    requires { from ≤ length strata.now }
-    ensures { result ≡ how_many s (drop from strata.now) }
+// How many samples are of stratum s.
+fn size_of(strata: &[u16], s: u16) -> usize
+    ensures { result ≡ how_many s strata.now }
 {
-    let mut n: usize = 0;
-    for i in from..strata.len() {
-        if strata[i] == s {
-            n += 1;
-        }
-    }
-    n
+    strata.iter().filter(|x| **x == s).count()
 }
 
 // How many of them have the label j.
-fn label_from(strata: &[u16], groups: &[u16], from: usize, s: u16, j: u16) -> usize
-    requires within { from ≤ length strata.now }
-    requires sized { length groups.now ≡ length strata.now }
-    ensures { result ≡ tally (drop from strata.now) (drop from groups.now) s j }
+fn label_of(strata: &[u16], groups: &[u16], s: u16, j: u16) -> usize
+    ensures { result ≡ tally strata.now groups.now s j }
 {
-    let mut n: usize = 0;
-    for i in from..strata.len() {
-        if strata[i] == s {
-            if groups[i] == j {
-                n += 1;
-            }
-        }
-    }
-    n
+    strata
+        .iter()
+        .zip(groups)
+        .filter(|(x, y)| **x == s && **y == j)
+        .count()
 }
 
 // M, or 20,001 where it is above 20,000. With each sample, from the last, it grows by its stratum's size so far over its label's count there so far.
@@ -55,12 +42,10 @@ pub fn count_ways(strata: &[u16], groups: &[u16]) -> usize
     ensures { result ≡ capped (way_count_of strata.now groups.now) }
 {
     let mut m: usize = 1;
-    let mut k = strata.len();
-    while k > 0 {
-        k -= 1;
+    for k in (0..strata.len()).rev() {
         let s = strata[k];
         let j = groups[k];
-        m = m * size_from(strata, k, s) / label_from(strata, groups, k, s, j);
+        m = m * size_of(&strata[k..], s) / label_of(&strata[k..], &groups[k..], s, j);
         if m > limits::MOST_WAYS {
             return limits::ABOVE_MOST_WAYS;
         }
@@ -77,30 +62,26 @@ pub fn fill_counts(strata: &[u16], groups: &[u16], g: usize, counts: &mut [u16])
     requires zeros { counts.old ≡ cleared 0 counts.old }
     ensures { counts.new ≡ tallies g strata.now groups.now (length counts.old) }
 {
-    let mut k = strata.len();
-    while k > 0 {
-        k -= 1;
-        let place = entry(strata, k) * g + entry(groups, k);
+    for (s, j) in strata.iter().zip(groups) {
+        let place = usize::from(*s) * g + usize::from(*j);
         counts[place] += 1;
     }
 }
 
 // ---- from way to way, in the order of their labels
 
-// The first label from j on, below g, of which one is left for the stratum of sample `at`; g where none is.
-fn next_label(counts: &[u16], ss: &[u16], at: usize, j: usize, g: usize) -> usize
+// The first label from j on, below g, of which one is left for the stratum of sample `at`.
+fn next_label(counts: &[u16], ss: &[u16], at: usize, j: usize, g: usize) -> Option<usize>
     requires { HasRows g ss.now counts.now × (at < length ss.now) × (j ≤ g) }
-    ensures { NextLabel g counts.now (get_or ss.now at 0 * g) j result }
+    ensures { MatchOption result (NextLabel g counts.now (get_or ss.now at 0 * g) j g) (λ i. (i < g) × NextLabel g counts.now (get_or ss.now at 0 * g) j i) }
 {
     let row = entry(ss, at) * g;
-    let mut i = j;
-    while i < g {
+    for i in j..g {
         if counts[row + i] > 0 {
-            return i;
+            return Some(i);
         }
-        i += 1;
     }
-    i
+    None
 }
 
 // The label j is placed on sample `at`: one fewer is left for its stratum.
@@ -130,8 +111,7 @@ fn change(counts: &mut [u16], way: &mut [u16], ss: &[u16], at: usize, g: usize) 
     ensures { Changed result g ss.now counts.new way.new at (after g ss.now counts.old way.old (at + 1)) }
 {
     let last = give_back(counts, way, ss, at, g);
-    let j = next_label(counts, ss, at, last + 1, g);
-    if j < g {
+    if let Some(j) = next_label(counts, ss, at, last + 1, g) {
         put(counts, way, ss, at, j, g);
         return true;
     }
@@ -145,7 +125,7 @@ pub fn fill(counts: &mut [u16], way: &mut [u16], ss: &[u16], at: usize, g: usize
         (through g ss.now counts.old (front way.old at) at ++ after g ss.now counts.old way.old at) }
 {
     if at < ss.len() {
-        let j = next_label(counts, ss, at, 0, g);
+        let j = next_label(counts, ss, at, 0, g).unwrap();
         put(counts, way, ss, at, j, g);
         fill(counts, way, ss, at + 1, g);
     }

@@ -1,7 +1,7 @@
 -- Equal as numbers: the test is symmetric (`ne_comm`), what equals something equals itself (`ne-self`), and equal numbers have one square (`square-same`), -0.0 and 0.0
 -- among them.
 use mathlib.Core.Path.{◌≡◌, refl, sym, ap, ◌∙◌, subst}
-use mathlib.Core.Bool.{Bool, true, false, not, ◌&&◌}
+use mathlib.Core.Bool.{Bool, true, false, not}
 use Prim.Native.Nat.{ℕ, ◌*◌}
 use native.Mathlib.Nat.{mul-mul-mul_comm, mul-pos}
 use lib.Dec.{T, eqb, eqb→eq}

@@ -15,3 +15,4 @@ pub mod Equal
 pub mod Whole
 pub mod Tolerance
 pub mod Signs
+pub mod Library

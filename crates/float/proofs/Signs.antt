@@ -1,25 +1,23 @@
--- What the tests of `float::abs`, `max`, `signum` and `axis_sign` say of their arguments.
-use mathlib.Core.Path.{◌≡◌, refl, sym, ap, ap₂, ◌∙◌, subst}
-use Prim.Native.Nat.{ℕ, zero, suc, ◌+◌, ◌*◌, ◌/◌, ◌%◌, ◌≤◌, ◌<◌}
-use native.Mathlib.Nat.{not-le_of_lt, zero-lt-suc, zero-add, zero-mul, mul-one, mul-pos}
+-- What the tests of `float::max` and `axis_sign` say of their arguments.
+use mathlib.Core.Path.{◌≡◌, refl, sym, ap, ap₂, ◌∙◌}
+use Prim.Native.Nat.{ℕ, zero, suc, ◌+◌, ◌*◌}
+use native.Mathlib.Nat.{not-le_of_lt, zero-lt-suc, zero-mul, mul-one, mul-pos}
 use native.Mathlib.Omega.{arith}
 use mathlib.Core.Logic.{inl, inr, ◌↔◌}
-use mathlib.Core.Bool.{Bool, true, false, not, ◌&&◌, cond, true≢false, false≢true}
+use mathlib.Core.Bool.{Bool, true, false, ◌&&◌, cond, true≢false, false≢true}
 use mathlib.Core.List.{[], ◌∷◌, map}
 use lib.IntN.{ℤ}
-use lib.Dec.{T, leb, eqb, lt→ltb}
+use lib.Dec.{T, lt→ltb}
 use mir.Val.{bool_byte}
-use borrow.Author.Tests.{le-leb, lt-leb}
-use lib.Ieee.{Float, nan, inf, fin, Format, binary64, up, down, fits, is_nan, odd, round, sum, size, neg, add, sub, mul, lt, eq, le, ne, of_int, prec, low, hid, ones, top, of_fields, of_bits, to_bits}
-use lib.Ieee.Bits.{of_bits-to_bits, cond_no}
+use lib.Ieee.{Float, nan, inf, fin, Format, binary64, up, down, fits, odd, size, neg, add, sub, mul, lt, eq, le, ne, of_int, of_bits}
 use lib.Ieee.Compare.{differs_from_itself, nan_differs}
 use lib.Ieee.Fits.{up_pos, down_pos}
 use lib.Ieee.Exact.{HasValue}
-use Rattle.float.specs.{Floats.zero⁺, Floats.zero⁻, Floats.1·0, Floats.-1·0, Floats.2·0, Floats.◌⊖◌, Floats.◌⊗◌, Floats.num, Value.sign, Value.SignedLe}
-use Rattle.float.specs.Order.{magnitude, larger, signum, below_zero}
+use Rattle.float.specs.{Floats.zero⁺, Floats.zero⁻, Floats.1·0, Floats.-1·0, Floats.2·0, Floats.◌⊖◌, Floats.◌⊗◌, Floats.num, Value.SignedLe}
+use Rattle.float.specs.Order.{larger, below_zero}
 use Rattle.float.proofs.{Tests.fails, Tests.same_test, Tests.either_way, Signed.SignedEq}
-use Rattle.float.proofs.Value.{first-zero, sign_fits, unique, zero_of, zero-fits}
-use Rattle.float.proofs.{Order.le-over, Order.lt-over, Order.eq-over, Order.lt-value, Rounding.round-own, Sum.add_at}
+use Rattle.float.proofs.Value.{first-zero, unique, zero_of, zero-fits}
+use Rattle.float.proofs.{Order.le-over, Order.lt-over, Order.eq-over, Order.lt-value}
 
 -- ---- a finite value beside zero: ±a / c beside 0 / c
 module _ (s : Bool) (m : ℕ) (e : ℤ) where
@@ -52,37 +50,6 @@ zero_is f (inf s) p h = absurd (unfold eq of_bits in h)
 zero_is f (fin s m e) p h =
     let z : m * up e ≡ 0 = none s (m * up e) ((eq-zero s m e).0 h) in
     (s, unique f (fin s m e) (zero_of s) s 0 1 (zero-lt-suc 0) p (zero-fits f s) (refl, mul-one (m * up e) ∙ z ∙ sym (zero-mul (down e))) (refl, refl))
-
--- ---- `abs`
--- 0 and a value with no sign
-zero-add-abs : (f : Format) (m : ℕ) (e : ℤ) → T (fits f (fin false m e)) → add f (zero_of false) (fin false m e) ≡ fin false m e
-unfolding sum
-zero-add-abs f m e p = add_at f (zero_of false) (fin false m e) false 0 false (m * up e) (down e) (down_pos e) (refl, zero-mul (down e)) (refl, refl)
-    ∙ ap (λ (z : ℕ). round f false z (down e)) (zero-add (m * up e))
-    ∙ round-own f (fin false m e) false (m * up e) (down e) (down_pos e) p (refl, refl)
-
-abs-of-zero : (s : Bool) → sub binary64 zero⁺ (zero_of s) ≡ magnitude (zero_of s)
-unfolding sub of_bits magnitude
-abs-of-zero true = refl
-abs-of-zero false = refl
-
-pub abs-below : (x : Float) → T (fits binary64 x) → T (le x zero⁺) → sub binary64 zero⁺ x ≡ magnitude x
-unfolding sub neg of_bits magnitude
-abs-below nan p h = absurd (unfold le in h)
-abs-below (inf true) p h = unfold add in refl
-abs-below (inf false) p h = absurd (unfold le in h)
-abs-below (fin true m e) p h = zero-add-abs binary64 m e (sign_fits binary64 true false m e p)
-abs-below (fin false m e) p h =
-    let z = zero_is binary64 (fin false m e) p ((eq-zero false m e).1 ((le-zero false m e).0 h, omega arith)) in
-    ap (sub binary64 zero⁺) z.1 ∙ abs-of-zero z.0 ∙ sym (ap magnitude z.1)
-
-pub abs-above : (x : Float) → (T (le x zero⁺) → ⊥) → x ≡ magnitude x
-unfolding magnitude
-abs-above nan h = refl
-abs-above (inf true) h = absurd (h (unfold le of_bits in tt))
-abs-above (inf false) h = refl
-abs-above (fin true m e) h = absurd (h ((le-zero true m e).1 (omega arith)))
-abs-above (fin false m e) h = refl
 
 -- ---- `max`
 pub max-nan : (x y : Float) → T (ne x x) → y ≡ larger x y
@@ -151,44 +118,6 @@ max-rest (fin s m e) (fin t n d) h l k =
     same : (b : Bool) (v : Float) → cond b v v ≡ v
     same true v = refl
     same false v = refl
-
--- ---- `signum`: the highest bit of the pattern is the sign
-sign-odd : (d : ℕ) (s : Bool) (q k l : ℕ) → sign (odd d s q k l) ≡ s
-unfolding odd
-sign-odd d s zero k l = refl
-sign-odd d s (suc q) k l = refl
-
-sign-fields : (f : Format) (s : Bool) (x t : ℕ) → T (not (is_nan (of_fields f s x t))) → sign (of_fields f s x t) ≡ s
-unfolding of_fields is_nan
-sign-fields f s zero t h = sign-odd (prec f) s t 0 (low f)
-sign-fields f s (suc x) t h = go (eqb (suc x) (ones f)) (eqb t 0) h
-  where
-    go : (a b : Bool) → T (not (is_nan (cond a (cond b (inf s) nan) (odd (prec f) s (hid f + t) x (low f))))) → sign (cond a (cond b (inf s) nan) (odd (prec f) s (hid f + t) x (low f))) ≡ s
-    go true true h = refl
-    go true false h = absurd h
-    go false b h = sign-odd (prec f) s (hid f + t) x (low f)
-
-pub sign-bits : (f : Format) (x : Float) → T (fits f x) → T (not (is_nan x)) → leb (top f) (to_bits f x) ≡ sign x
-unfolding of_bits
-sign-bits f x p h =
-    let b = to_bits f x in
-    let e : of_bits f b ≡ x = of_bits-to_bits f x p in
-    let number : T (not (is_nan (of_bits f b))) = subst (λ (z : Float). T (not (is_nan z))) (sym e) h in
-    sym (sign-fields f (leb (top f) b) (b % top f / hid f) (b % hid f) number) ∙ ap sign e
-
-pub signum-nan : (x : Float) → T (ne x x) → x ≡ signum x
-unfolding signum is_nan
-signum-nan x h = let e = differs_from_itself x h in e ∙ sym (ap signum e)
-
-signum-sign : (x : Float) (s : Bool) → T (not (is_nan x)) → sign x ≡ s → cond s -1·0 1·0 ≡ signum x
-unfolding signum
-signum-sign x s h e = ap (λ (t : Bool). cond t -1·0 1·0) (sym e) ∙ sym (cond_no (is_nan x) nan (cond (sign x) -1·0 1·0) h)
-
-pub signum-clear : (x : Float) → T (fits binary64 x) → T (not (is_nan x)) → to_bits binary64 x < top binary64 → 1·0 ≡ signum x
-signum-clear x p h l = signum-sign x false h (sym (sign-bits binary64 x p h) ∙ lt-leb (top binary64) (to_bits binary64 x) l)
-
-pub signum-set : (x : Float) → T (fits binary64 x) → T (not (is_nan x)) → top binary64 ≤ to_bits binary64 x → -1·0 ≡ signum x
-signum-set x p h l = signum-sign x true h (sym (sign-bits binary64 x p h) ∙ le-leb (top binary64) (to_bits binary64 x) l)
 
 -- ---- `axis_sign`
 -- the comparison with zero tells what is below zero

@@ -10,14 +10,15 @@ ghost use Rattle.float.specs.Order as Order;
 ghost use Rattle.float.specs.Tolerance.{as_large};
 ghost use Rattle.float.specs.Tolerance as Tolerance;
 
-// x without its sign; NaN stays NaN. (-x would be -0.0 of 0.0.)
+// x without its sign; NaN stays NaN.
+#[tactic(auto, using(crate::proofs::Library::magnitude_from))]
 pub fn abs(x: f64) -> f64
     ensures { result ≡ magnitude x }
 {
-    if x <= 0.0 { 0.0 - x } else { x }
+    x.abs()
 }
 
-// The larger of a and b: 0.0 of -0.0 and 0.0, and the number of NaN and a number.
+// The larger of a and b: 0.0 of -0.0 and 0.0, and the number of NaN and a number. (std's `max` may give either zero.)
 pub fn max(a: f64, b: f64) -> f64
     ensures { result ≡ larger a b }
 {
@@ -35,24 +36,20 @@ pub fn max(a: f64, b: f64) -> f64
     a
 }
 
-// Whether x is a number, and no infinity: of those x - x is NaN.
+// Whether x is a number, and no infinity.
+#[tactic(auto, using(crate::proofs::Library::finite_from))]
 pub fn is_finite(x: f64) -> bool
     ensures { result ≡ finite x }
 {
-    x - x == 0.0
+    x.is_finite()
 }
 
 // 1 with the sign of x, also of a zero; NaN of NaN.
+#[tactic(auto, using(crate::proofs::Library::signum_from))]
 pub fn signum(x: f64) -> f64
     ensures { result ≡ Order.signum x }
 {
-    if x != x {
-        return x;
-    }
-    if f64::to_bits(x) < 0x8000_0000_0000_0000 {
-        return 1.0;
-    }
-    -1.0
+    x.signum()
 }
 
 // -1 where x is below zero, else 1, of both zeros and NaN too. No branch: one minus twice a number that is 1 below zero and else 0.

@@ -8,29 +8,28 @@ use Rattle.lot.specs.Lot.{Lot}
 use Rattle.exhaustive_hits.specs.declared.judgement.Judgement.{Judgement}
 use Rattle.judge_frames.specs.{Frames.read_lot, Fits.Fits, Call.read_call, Call.called, Call.fronts}
 use Rattle.judge_frames.specs.declared.Header.{Header}
-use Rattle.judge_frames.specs.declared.Answer as frames
-use Rattle.judge_frames.specs.declared.Answer.TheVariants.{Read, Refused}
+use Rattle.std.specs.Prelude.{Result, Ok, Err}
 use Rattle.judge_frames.proofs.{Fits.read_fits, ReadFronts.read-fronts, ReadFronts.read-refused, LongestText.front-tells}
 use Rattle.judge_printing.specs.{Page.Page, Page.page, Page.onto, Printed.printed}
 use Rattle.judge_printing.proofs.Printing.{printed-fits}
 use Rattle.judge.specs.{Judged.judgement, Judge.judge_text}
 
-module _ (text : List ℕ) (a : frames.Answer) {l s : List ℕ} {d : List Float} (e : called a l s d ≡ read_call text) where
-  this-read : (b : frames.Answer) → a ≡ b → called b l s d ≡ read_call text
-  this-read b i = ap (λ (a : frames.Answer). called a l s d) (sym i) ∙ e
+module _ (text : List ℕ) (a : Result Header Refusal) {l s : List ℕ} {d : List Float} (e : called a l s d ≡ read_call text) where
+  this-read : (b : Result Header Refusal) → a ≡ b → called b l s d ≡ read_call text
+  this-read b i = ap (λ (a : Result Header Refusal). called a l s d) (sym i) ∙ e
 
   -- a lot was read
-  pub fits-front : {h : Header} → a ≡ Read h → Fits (fronts h l s d)
-  fits-front {h} i = read_fits text (fronts h l s d) (read-fronts text (this-read (Read h) i))
+  pub fits-front : {h : Header} → a ≡ Ok h → Fits (fronts h l s d)
+  fits-front {h} i = read_fits text (fronts h l s d) (read-fronts text (this-read (Ok h) i))
 
-  pub of-lot : {h : Header} {o : Outcome Judgement} → a ≡ Read h → o ≡ judgement (fronts h l s d) → o ≡ and_then (read_lot text) judgement
+  pub of-lot : {h : Header} {o : Outcome Judgement} → a ≡ Ok h → o ≡ judgement (fronts h l s d) → o ≡ and_then (read_lot text) judgement
   unfolding and_then
-  of-lot {h} i j = j ∙ ap (λ (o : Outcome Lot). and_then o judgement) (sym (read-fronts text (this-read (Read h) i)))
+  of-lot {h} i j = j ∙ ap (λ (o : Outcome Lot). and_then o judgement) (sym (read-fronts text (this-read (Ok h) i)))
 
   -- the text was refused
-  pub of-refusal : {x : Refusal} → a ≡ Refused x → ◌≡◌ {A = Outcome Judgement} (refused (number x)) (and_then (read_lot text) judgement)
+  pub of-refusal : {x : Refusal} → a ≡ Err x → ◌≡◌ {A = Outcome Judgement} (refused (number x)) (and_then (read_lot text) judgement)
   unfolding and_then
-  of-refusal {x} i = ap (λ (o : Outcome Lot). and_then o judgement) (sym (read-refused text x (this-read (Refused x) i)))
+  of-refusal {x} i = ap (λ (o : Outcome Lot). and_then o judgement) (sym (read-refused text x (this-read (Err x) i)))
 
 -- that is printed
 pub judged-text : (text out : List ℕ) {o : Outcome Judgement} {new : List ℕ} {size : ℕ} → o ≡ and_then (read_lot text) judgement →

@@ -2,3 +2,4 @@
 -- Section 7 of document 01: from the whole input to the whole output.
 pub mod Judged
 pub mod Judge
+pub mod inner

@@ -1,23 +1,18 @@
 // The exhaustive test of a lot that was read (document 01, section 7).
-ghost use Rattle.std.specs.Prelude.{◌≡◌, false};
-ghost use Rattle.lot.specs.Lot.{lot_of};
-ghost use Rattle.exhaustive_hits.specs.Call.{answer_of};
-ghost use Rattle.judge_frames.specs.Fits.{Fits};
+ghost use Rattle.std.specs.Prelude.{◌≡◌};
+ghost use Rattle.outcome.specs.Numbers.{outcome_of};
+ghost use Rattle.lot.specs.Given.{lot_given};
 ghost use Rattle.judge.specs.Judged.{judgement};
+ghost use Rattle.judge.specs.inner.Judging.{Judging};
 
-use exhaustive_hits::every_way::Answer;
+use exhaustive_hits::judgement::Judgement;
+use lot::Lot;
+use outcome::Refusal;
 
 // What is found of a lot that was read; no weights are given.
-pub fn judge_lot(
-    n: usize,
-    distances: &[f64],
-    labels: &[u16],
-    stratified: bool,
-    strata: &[u16],
-    weights: &[f64],
-) -> Answer
-    requires { Fits (lot_of n distances.now labels.now stratified strata.now false weights.now) }
-    ensures { answer_of result ≡ judgement (lot_of n distances.now labels.now stratified strata.now false weights.now) }
+pub fn judge_lot(lot: Lot) -> Result<Judgement, Refusal>
+    requires { Judging (lot_given lot) }
+    ensures { outcome_of result ≡ judgement (lot_given lot.entry) }
 {
     let mut group_labels = [0u16; 32];
     let mut counts = [0u16; 32];
@@ -29,13 +24,7 @@ pub fn judge_lot(
     let mut vectors = [0.0f64; 1024];
     let mut label_counts = [0u16; 1024];
     exhaustive::exhaustive(
-        n,
-        distances,
-        labels,
-        stratified,
-        strata,
-        false,
-        weights,
+        lot,
         &mut group_labels,
         &mut counts,
         &mut means,

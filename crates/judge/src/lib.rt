@@ -6,7 +6,7 @@ pub mod judged_lot;
 ghost use Rattle.std.specs.Prelude.{◌≡◌, ◌≤◌, length};
 ghost use Rattle.limits.specs.Limits.{most_printed};
 ghost use Rattle.outcome.specs.Outcome.{and_then};
-ghost use Rattle.exhaustive_hits.specs.Call.{answer_of};
+ghost use Rattle.outcome.specs.Numbers.{outcome_of};
 ghost use Rattle.judge_frames.specs.Frames.{read_lot};
 ghost use Rattle.judge_frames.specs.Call.{fronts};
 ghost use Rattle.judge_frames.specs.Fits.{Fits};
@@ -15,36 +15,45 @@ ghost use Rattle.judge_printing.specs.Page.{page, onto};
 ghost use Rattle.judge.specs.Judged.{judgement};
 ghost use Rattle.judge.specs.Judge.{judge_text};
 
-use exhaustive_hits::every_way::Answer;
+use exhaustive_hits::judgement::Judgement;
 use judge_frames::Header;
+use lot::Lot;
+use outcome::Refusal;
 
 // What is found of the lot at the fronts of three slices.
-fn judge_front(h: Header, labels: &[u16], strata: &[u16], distances: &[f64]) -> Answer
+fn judge_front<'a>(
+    h: Header,
+    labels: &'a [u16],
+    strata: &'a [u16],
+    distances: &'a [f64],
+) -> Result<Judgement, Refusal>
     requires { Room labels.now strata.now distances.now × Fits (fronts h labels.now strata.now distances.now) }
-    ensures { answer_of result ≡ judgement (fronts h labels.now strata.now distances.now) }
+    ensures { outcome_of result ≡ judgement (fronts h labels.now strata.now distances.now) }
 {
     let n = h.n;
-    let q = n * n;
-    judged_lot::judge_lot(
+    let strata = h.stratified.then_some(&strata[..n]);
+    let lot = Lot {
         n,
-        &distances[..q],
-        &labels[..n],
-        h.stratified,
-        &strata[..n],
-        &distances[..0],
-    )
+        distances: &distances[..n * n],
+        labels: &labels[..n],
+        strata,
+        weights: None,
+    };
+    judged_lot::judge_lot(lot)
 }
 
 // What is found of a text. The slices lend room for its lot.
-fn judge_text(text: &[u8], labels: &mut [u16], strata: &mut [u16], distances: &mut [f64]) -> Answer
+fn judge_text(
+    text: &[u8],
+    labels: &mut [u16],
+    strata: &mut [u16],
+    distances: &mut [f64],
+) -> Result<Judgement, Refusal>
     requires { Room labels.old strata.old distances.old }
-    ensures { answer_of result ≡ and_then (read_lot text.now) judgement }
+    ensures { outcome_of result ≡ and_then (read_lot text.now) judgement }
 {
-    let a = judge_frames::read_into(text, labels, strata, distances);
-    match a {
-        judge_frames::Answer::Read(h) => judge_front(h, labels, strata, distances),
-        judge_frames::Answer::Refused(r) => Answer::Refused(r),
-    }
+    let header = judge_frames::read_into(text, labels, strata, distances)?;
+    judge_front(header, labels, strata, distances)
 }
 
 // `judge` on slices.

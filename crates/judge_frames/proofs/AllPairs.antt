@@ -4,9 +4,10 @@ use Rattle.lists.proofs.Base.{true≢false, List, [], ◌∷◌, ◌++◌, arith
 use Rattle.lists.specs.Filters.{any, count_if}
 use Rattle.lists.proofs.Filters.{count_if-append}
 use Rattle.outcome.specs.Outcome.{answered}
-use Rattle.judge_frames.specs.declared.reader.Frame.{Frame}
-use Rattle.judge_frames.specs.Frames.{joins, is_pair, pair_count, Taken, several}
-use Rattle.judge_frames.proofs.{Pairing.both, Pairing.pair-tests, Fits.several-keeps, Fits.several-length}
+use Rattle.std.specs.Prelude.{Option}
+use Rattle.judge_frames.specs.declared.reader.{Frame.Frame, Pair.Pair}
+use Rattle.judge_frames.specs.Frames.{joins, is_new, pair_in, pair_count, Taken, several}
+use Rattle.judge_frames.proofs.{Pairing.both, Pairing.pair-tests, Fits.several-keeps, Fits.is-taken, Fits.several-length}
 
 -- ---- sums over i < j < n
 
@@ -115,13 +116,13 @@ total-less (suc n) a b g l m e z = elim (ℕ_discrete b n) [
 
 -- ---- how many of the frames are the pair i < j
 
-here : ℕ → ℕ → Frame → Bool
-here i j f = eqb f.first i && eqb f.second j
+here : ℕ → ℕ → Pair → Bool
+here i j p = eqb p.i i && eqb p.j j
 
-none_here : (i j : ℕ) (ps : List Frame) → any (joins i j) ps ≡ false → count_if (here i j) ps ≡ 0
+none_here : (i j : ℕ) (ps : List Pair) → any (joins i j) ps ≡ false → count_if (here i j) ps ≡ 0
 unfolding any count_if joins here
 none_here i j [] e = refl
-none_here i j (f ∷ ps) e = go (here i j f) (here j i f) e (none_here i j ps)
+none_here i j (p ∷ ps) e = go (here i j p) (here j i p) e (none_here i j ps)
   where
     go : (a b : Bool) → ((a || b) || any (joins i j) ps) ≡ false → (any (joins i j) ps ≡ false → count_if (here i j) ps ≡ 0) → cond a 1 0 + count_if (here i j) ps ≡ 0
     go true b h rest = absurd (true≢false h)
@@ -129,7 +130,7 @@ none_here i j (f ∷ ps) e = go (here i j f) (here j i f) e (none_here i j ps)
     go false false h rest = omega (arith, rest h)
 
 -- each pair of the frames is one of the n, and each once
-record Once (n : ℕ) (ps : List Frame) : Type 0 where
+record Once (n : ℕ) (ps : List Pair) : Type 0 where
   counted : total n (λ i j. count_if (here i j) ps) ≡ length ps
   once : (i j : ℕ) → i < j → j < n → count_if (here i j) ps ≤ 1
 
@@ -137,49 +138,49 @@ once-none : (n : ℕ) → Once n []
 unfolding count_if
 once-none n = record { counted = total-zero n (λ i j. 0) (λ i j l m. refl); once = λ i j l m. omega arith }
 
-is-here : (f : Frame) → here f.first f.second f ≡ true
+is-here : (p : Pair) → here p.i p.j p ≡ true
 unfolding here
-is-here f = rw (eq-eqb f.first f.first refl, eq-eqb f.second f.second refl)
+is-here p = rw (eq-eqb p.i p.i refl, eq-eqb p.j p.j refl)
 
-module _ (n : ℕ) (ps : List Frame) (f : Frame) (new : is_pair n ps f ≡ true) (o : Once n ps) where
-  last : (i j : ℕ) → count_if (here i j) (ps ++ (f ∷ [])) ≡ count_if (here i j) ps + cond (here i j f) 1 0
+module _ (n : ℕ) (ps : List Pair) (p : Pair) (new : is_new n ps p ≡ true) (o : Once n ps) where
+  last : (i j : ℕ) → count_if (here i j) (ps ++ (p ∷ [])) ≡ count_if (here i j) ps + cond (here i j p) 1 0
   unfolding count_if
-  last i j = count_if-append (here i j) ps (f ∷ []) ∙ omega arith
+  last i j = count_if-append (here i j) ps (p ∷ []) ∙ omega arith
 
-  found : (i j : ℕ) → here i j f ≡ true → (f.first ≡ i) × (f.second ≡ j)
+  found : (i j : ℕ) → here i j p ≡ true → (p.i ≡ i) × (p.j ≡ j)
   unfolding here
-  found i j e = let s = both (eqb f.first i) (eqb f.second j) e in (eqb-true f.first i s.0, eqb-true f.second j s.1)
+  found i j e = let s = both (eqb p.i i) (eqb p.j j) e in (eqb-true p.i i s.0, eqb-true p.j j s.1)
 
-  elsewhere : (i j : ℕ) → (i ≡ f.first → j ≡ f.second → ⊥) → (b : Bool) → here i j f ≡ b → ◌≡◌ {A = ℕ} (cond b 1 0) 0
+  elsewhere : (i j : ℕ) → (i ≡ p.i → j ≡ p.j → ⊥) → (b : Bool) → here i j p ≡ b → ◌≡◌ {A = ℕ} (cond b 1 0) 0
   elsewhere i j d true e = let s = found i j e in absurd (d (sym s.0) (sym s.1))
   elsewhere i j d false e = refl
 
-  one_more : total n (λ i j. cond (here i j f) 1 0) ≡ 1
+  one_more : total n (λ i j. cond (here i j p) 1 0) ≡ 1
   one_more =
-      let p = pair-tests n ps f new in
-      total-one n f.first f.second (λ i j. cond (here i j f) 1 0) p.0 p.1 (ap (λ (b : Bool). cond b 1 0) (is-here f))
-      (λ i j l m d. elsewhere i j d (here i j f) refl)
+      let t = pair-tests n ps p new in
+      total-one n p.i p.j (λ i j. cond (here i j p) 1 0) t.0 t.1 (ap (λ (b : Bool). cond b 1 0) (is-here p))
+      (λ i j l m d. elsewhere i j d (here i j p) refl)
 
-  once_by : (i j : ℕ) → i < j → j < n → (b : Bool) → here i j f ≡ b → count_if (here i j) ps + cond b 1 0 ≤ 1
+  once_by : (i j : ℕ) → i < j → j < n → (b : Bool) → here i j p ≡ b → count_if (here i j) ps + cond b 1 0 ≤ 1
   once_by i j l m true e =
       let s = found i j e in
-      let absent : any (joins i j) ps ≡ false = ap₂ (λ (a b : ℕ). any (joins a b) ps) (sym s.0) (sym s.1) ∙ (pair-tests n ps f new).2 in
+      let absent : any (joins i j) ps ≡ false = ap₂ (λ (a b : ℕ). any (joins a b) ps) (sym s.0) (sym s.1) ∙ (pair-tests n ps p new).2 in
       omega (arith, none_here i j ps absent)
   once_by i j l m false e = omega (arith, o.once i j l m)
 
-  once-next : Once n (ps ++ (f ∷ []))
+  once-next : Once n (ps ++ (p ∷ []))
   once-next = record {
-    counted = total_ext n (λ i j. count_if (here i j) (ps ++ (f ∷ []))) (λ i j. count_if (here i j) ps + cond (here i j f) 1 0) last
-        ∙ total-add n (λ i j. count_if (here i j) ps) (λ i j. cond (here i j f) 1 0)
-        ∙ omega (arith, o.counted, one_more, length-append ps (f ∷ []));
-    once = λ i j l m. subst (λ (k : ℕ). k ≤ 1) (sym (last i j)) (once_by i j l m (here i j f) refl);
+    counted = total_ext n (λ i j. count_if (here i j) (ps ++ (p ∷ []))) (λ i j. count_if (here i j) ps + cond (here i j p) 1 0) last
+        ∙ total-add n (λ i j. count_if (here i j) ps) (λ i j. cond (here i j p) 1 0)
+        ∙ omega (arith, o.counted, one_more, length-append ps (p ∷ []));
+    once = λ i j l m. subst (λ (k : ℕ). k ≤ 1) (sym (last i j)) (once_by i j l m (here i j p) refl);
   }
 
 -- every pair i < j < n is among those taken
-pub complete : (n : ℕ) (fs : List Frame) (t : Taken) → several (is_pair n) (pair_count n) [] fs ≡ answered t → (i j : ℕ) → i < j → j < n → any (joins i j) t.taken ≡ true
+pub complete : (n : ℕ) (fs : List (Option Frame)) (t : Taken Pair) → several (pair_in n) (pair_count n) [] fs ≡ answered t → (i j : ℕ) → i < j → j < n → any (joins i j) t.taken ≡ true
 complete n fs t e i j l m =
-    let o = several-keeps (is_pair n) (Once n) (λ before f. once-next n before f) (pair_count n) [] fs t (once-none n) e in
-    let all = several-length (is_pair n) (pair_count n) [] fs t e in by o all (any (joins i j) t.taken) refl
+    let o = several-keeps (pair_in n) (Once n) (λ before f p g. once-next n before p (is-taken n before f g)) (pair_count n) [] fs t (once-none n) e in
+    let all = several-length (pair_in n) (pair_count n) [] fs t e in by o all (any (joins i j) t.taken) refl
   where
     by : Once n t.taken → length t.taken ≡ 0 + pair_count n → (b : Bool) → any (joins i j) t.taken ≡ b → b ≡ true
     by o all true g = refl

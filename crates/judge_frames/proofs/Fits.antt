@@ -1,6 +1,6 @@
 -- Every lot that is read fits its n, is symmetric and has a diagonal of 0; so the table's first line does not hold for it, and where 3 does not hold 14 does not.
 use Rattle.lists.proofs.Base.{ℕ, zero, suc, ◌+◌, ◌*◌, ◌≡◌, refl, sym, ap, ap₂, ◌∙◌, subst, Bool, true, false, ◌&&◌, ◌||◌, cond, List, [], ◌∷◌, ◌++◌}
-use Rattle.lists.proofs.Base.{map, ⊎_elim, arith, zero-add, eqb, leb, ltb, length, length-append, nan, is_nan, Float, eq-eqb, leb-true, ltb-true, lt-ltb, not, not-false, ◌<◌}
+use Rattle.lists.proofs.Base.{map, ⊎_elim, arith, zero-add, ltb, length, length-append, ◌≤◌, nan, is_nan, Float, eq-eqb, ltb-true, lt-ltb, not, not-false, ◌<◌}
 use lib.Dec.{T}
 use lib.Ieee.{le, ne}
 use Rattle.float.specs.Floats.{f64, zero⁺, 2^20}
@@ -10,11 +10,13 @@ use Rattle.outcome.specs.Outcome.{Outcome, answered, refused, and_then}
 use Rattle.float.proofs.{Tests.passes, Nan.nan-ne, Order.right-number}
 use Rattle.lot.specs.{Lot.Lot, Mirror.unmirrored, Lines.bad_distance, Lines.misfits}
 use Rattle.lot.proofs.Mirrored.{mirrors-unmirrored}
-use Rattle.judge_frames.specs.declared.reader.Frame.{Frame}
+use Rattle.std.specs.Prelude.{Option, Some, None}
+use Rattle.judge_frames.specs.declared.reader.{Frame.Frame, Opening.Opening, Sample.Sample, Pair.Pair}
+use Rattle.judge_frames.specs.declared.reader.Frame.TheVariants.{Header as OfHeader, Sample as OfSample, Pair as OfPair, End}
 use Rattle.judge_frames.specs.{Frame.frame, TextLines.text_lines, Places.is_end, Places.head, Places.tail}
-use Rattle.judge_frames.specs.Frames.{is_header, is_sample, joins, is_pair, pair_count, malformed, Taken, several, distance, described, lot_in, read_lot}
+use Rattle.judge_frames.specs.Frames.{if_passed, header_in, sample_in, joins, is_new, pair_in, pair_count, malformed, or_malformed, Taken, several, distance, described, lot_in, read_lot}
 use Rattle.judge_frames.specs.Fits.{Fits}
-use Rattle.judge_frames.proofs.{TakenFrames.length-map, ReadStages.final, ReadStages.from-pairs, ReadStages.from-samples}
+use Rattle.judge_frames.proofs.{TakenFrames.length-map, ReadStages.header-tests, ReadStages.final, ReadStages.from-pairs, ReadStages.from-samples}
 use Rattle.judge_frames.proofs.Pairing.{both, joins-turn, joined, pair-tests}
 
 -- ---- what was answered, step by step
@@ -38,67 +40,98 @@ by-step (refused r) f e = let z : ◌≡◌ {A = ℕ} 0 1 = cc in absurd (omega 
 
 -- ---- the frames that were taken
 
-pub several-length : (may : List Frame → Frame → Bool) (m : ℕ) (before fs : List Frame) (t : Taken) → several may m before fs ≡ answered t → length t.taken ≡ length before + m
+-- the next one, and what follows it
+pub record Next {A : Type 0} (may : List A → Option Frame → Option A) (m : ℕ) (before : List A) (fs : List (Option Frame)) (t : Taken A) : Type 0 where
+  pub value : A
+  pub may-follow : may before (head fs) ≡ Some value
+  pub after : several may m (before ++ (value ∷ [])) (tail fs) ≡ answered t
+
+pub by-turn : {A : Type 0} (may : List A → Option Frame → Option A) (m : ℕ) (before : List A) (fs : List (Option Frame)) (t : Taken A) →
+    several may (suc m) before fs ≡ answered t → Next may m before fs t
+unfolding several
+by-turn {A} may m before fs t e = by (may before (head fs)) refl e
+  where
+    by : (o : Option A) → may before (head fs) ≡ o
+        → elim o as (λ t. Outcome (Taken A)) [ Some a ↦ several may m (before ++ (a ∷ [])) (tail fs) | None ↦ malformed ] ≡ answered t → Next may m before fs t
+    by (Some a) g h = record { value = a; may-follow = g; after = h }
+    by None g h = never refl h
+
+pub several-length : {A : Type 0} (may : List A → Option Frame → Option A) (m : ℕ) (before : List A) (fs : List (Option Frame)) (t : Taken A) →
+    several may m before fs ≡ answered t → length t.taken ≡ length before + m
 unfolding several
 several-length may zero before fs t e = let same : t.taken ≡ before = cc in ap length same ∙ omega arith
 several-length may (suc m) before fs t e =
-    let step = several-length may m (before ++ (head fs ∷ [])) (tail fs) t (by-test (may before (head fs)) (several may m (before ++ (head fs ∷ [])) (tail fs)) e).1 in
-    step ∙ omega (arith, length-append before (head fs ∷ []))
+    let n = by-turn may m before fs t e in
+    several-length may m (before ++ (n.value ∷ [])) (tail fs) t n.after ∙ omega (arith, length-append before (n.value ∷ []))
 
-up : Frame → Bool
-up f = ltb f.first f.second
+up : Pair → Bool
+up p = ltb p.i p.j
 
-all-last : (fs : List Frame) (f : Frame) → all up fs ≡ true → up f ≡ true → all up (fs ++ (f ∷ [])) ≡ true
+all-last : (ps : List Pair) (p : Pair) → all up ps ≡ true → up p ≡ true → all up (ps ++ (p ∷ [])) ≡ true
 unfolding all
-all-last [] f h e = ap (λ (b : Bool). b && true) e
-all-last (g ∷ fs) f h e = let s = both (up g) (all up fs) h in ap₂ (λ (a b : Bool). a && b) s.0 (all-last fs f s.1 e)
+all-last [] p h e = ap (λ (b : Bool). b && true) e
+all-last (q ∷ ps) p h e = let s = both (up q) (all up ps) h in ap₂ (λ (a b : Bool). a && b) s.0 (all-last ps p s.1 e)
 
--- what each frame keeps holds of all that are taken
-pub several-keeps : (may : List Frame → Frame → Bool) (P : List Frame → Type 0) →
-    ((before : List Frame) (f : Frame) → may before f ≡ true → P before → P (before ++ (f ∷ []))) →
-    (m : ℕ) (before fs : List Frame) (t : Taken) → P before → several may m before fs ≡ answered t → P t.taken
+-- what each keeps holds of all that are taken
+pub several-keeps : {A : Type 0} (may : List A → Option Frame → Option A) (P : List A → Type 0) →
+    ((before : List A) (f : Option Frame) (a : A) → may before f ≡ Some a → P before → P (before ++ (a ∷ []))) →
+    (m : ℕ) (before : List A) (fs : List (Option Frame)) (t : Taken A) → P before → several may m before fs ≡ answered t → P t.taken
 unfolding several
 several-keeps may P keeps zero before fs t h e = let same : before ≡ t.taken = cc in subst P same h
 several-keeps may P keeps (suc m) before fs t h e =
-    let s = by-test (may before (head fs)) (several may m (before ++ (head fs ∷ [])) (tail fs)) e in
-    several-keeps may P keeps m (before ++ (head fs ∷ [])) (tail fs) t (keeps before (head fs) s.0 h) s.1
+    let n = by-turn may m before fs t e in
+    several-keeps may P keeps m (before ++ (n.value ∷ [])) (tail fs) t (keeps before (head fs) n.value n.may-follow h) n.after
 
-several-up : (n m : ℕ) (fs : List Frame) (t : Taken) → several (is_pair n) m [] fs ≡ answered t → all up t.taken ≡ true
+-- a pair that is taken is new
+pub is-taken : (n : ℕ) (before : List Pair) (f : Option Frame) {p : Pair} → pair_in n before f ≡ Some p → is_new n before p ≡ true
+unfolding pair_in
+is-taken n before (Some (OfPair q)) {p} e = by (is_new n before q) refl e
+  where
+    by : (b : Bool) → is_new n before q ≡ b → if_passed b q ≡ Some p → is_new n before p ≡ true
+    by true g h = let same : q ≡ p = cc in subst (λ (p : Pair). is_new n before p ≡ true) same g
+    by false g h = let z : ◌≡◌ {A = ℕ} 0 1 = cc in absurd (omega arith)
+is-taken n before (Some (OfHeader h)) e = let z : ◌≡◌ {A = ℕ} 0 1 = cc in absurd (omega arith)
+is-taken n before (Some (OfSample s)) e = let z : ◌≡◌ {A = ℕ} 0 1 = cc in absurd (omega arith)
+is-taken n before (Some End) e = let z : ◌≡◌ {A = ℕ} 0 1 = cc in absurd (omega arith)
+is-taken n before None e = let z : ◌≡◌ {A = ℕ} 0 1 = cc in absurd (omega arith)
+
+several-up : (n m : ℕ) (fs : List (Option Frame)) (t : Taken Pair) → several (pair_in n) m [] fs ≡ answered t → all up t.taken ≡ true
 unfolding up all
 several-up n m fs t e =
-    several-keeps (is_pair n) (λ ps. all up ps ≡ true) (λ before f g h. all-last before f h (lt-ltb f.first f.second (pair-tests n before f g).0)) m [] fs t refl e
+    several-keeps (pair_in n) (λ ps. all up ps ≡ true)
+    (λ before f p g h. all-last before p h (lt-ltb p.i p.j (pair-tests n before p (is-taken n before f g)).0)) m [] fs t refl e
 
 -- ---- distances
 
-distance-turn : (ps : List Frame) (i j : ℕ) → distance ps i j ≡ distance ps j i
+distance-turn : (ps : List Pair) (i j : ℕ) → distance ps i j ≡ distance ps j i
 unfolding distance
 distance-turn [] i j = refl
-distance-turn (f ∷ ps) i j = ap₂ (λ (b : Bool) (x : Float). cond b (f64 f.bits) x) (joins-turn i j f) (distance-turn ps i j)
+distance-turn (p ∷ ps) i j = ap₂ (λ (b : Bool) (x : Float). cond b (f64 p.bits) x) (joins-turn i j p) (distance-turn ps i j)
 
-no-pair : (i : ℕ) (f : Frame) → up f ≡ true → (b : Bool) → joins i i f ≡ b → b ≡ false
+no-pair : (i : ℕ) (p : Pair) → up p ≡ true → (b : Bool) → joins i i p ≡ b → b ≡ false
 unfolding up
-no-pair i f u true e =
-    let h = ltb-true f.first f.second u in
-    absurd (⊎_elim (λ s. omega (arith, h, s.0, s.1)) (λ s. omega (arith, h, s.0, s.1)) (joined i i f e))
-no-pair i f u false e = refl
+no-pair i p u true e =
+    let h = ltb-true p.i p.j u in
+    absurd (⊎_elim (λ s. omega (arith, h, s.0, s.1)) (λ s. omega (arith, h, s.0, s.1)) (joined i i p e))
+no-pair i p u false e = refl
 
-distance-diagonal : (ps : List Frame) (i : ℕ) → all up ps ≡ true → distance ps i i ≡ zero⁺
+distance-diagonal : (ps : List Pair) (i : ℕ) → all up ps ≡ true → distance ps i i ≡ zero⁺
 unfolding distance all
 distance-diagonal [] i h = refl
-distance-diagonal (f ∷ ps) i h =
-    let s = both (up f) (all up ps) h in
-    ap (λ (b : Bool). cond b (f64 f.bits) (distance ps i i)) (no-pair i f s.0 (joins i i f) refl) ∙ distance-diagonal ps i s.1
+distance-diagonal (p ∷ ps) i h =
+    let s = both (up p) (all up ps) h in
+    ap (λ (b : Bool). cond b (f64 p.bits) (distance ps i i)) (no-pair i p s.0 (joins i i p) refl) ∙ distance-diagonal ps i s.1
 
 -- ---- the lot
 
-described-fits : (h : Frame) (samples pairs : List Frame) → is_header h ≡ true → length samples ≡ h.first → all up pairs ≡ true → Fits (described h samples pairs)
-unfolding is_header described
+described-fits : (h : Opening) (samples : List Sample) (pairs : List Pair) → h.n ≤ 32 → length samples ≡ h.n → all up pairs ≡ true → Fits (described h samples pairs)
+unfolding described
 described-fits h samples pairs e m u =
-    let n = h.first in
+    let n = h.n in
     record {
-      few = leb-true h.first 32 (both (eqb h.kind 0xa1) (leb h.first 32) (both (eqb h.kind 0xa1 && leb h.first 32) (leb h.second 1) e).0).1;
-      labels = length-map (λ f. f.second) samples ∙ m;
-      strata = length-map (λ f. f.third) samples ∙ m;
+      few = e;
+      labels = length-map (λ s. s.label) samples ∙ m;
+      strata = length-map (λ s. s.stratum) samples ∙ m;
       distances = length-grid n n (distance pairs);
       unweighted = refl;
       weights = refl;
@@ -106,17 +139,26 @@ described-fits h samples pairs e m u =
       diagonal = λ i g. entry-grid n n (distance pairs) i i g g ∙ distance-diagonal pairs i u;
     }
 
-in-fits : (fs : List Frame) (lot : Lot) → lot_in fs ≡ answered lot → Fits lot
+pub by-header : {B : Type 0} (f : Option Frame) (g : Opening → Outcome B) {b : B} → and_then (or_malformed (header_in f)) g ≡ answered b →
+    (h : Opening) × (header_in f ≡ Some h) × (g h ≡ answered b)
+unfolding and_then
+by-header f g {b} e = by (header_in f) refl e
+  where
+    by : (o : Option Opening) → header_in f ≡ o → and_then (or_malformed o) g ≡ answered b → (h : Opening) × (header_in f ≡ Some h) × (g h ≡ answered b)
+    by (Some h) x y = (h, x, y)
+    by None x y = never refl y
+
+in-fits : (fs : List (Option Frame)) (lot : Lot) → lot_in fs ≡ answered lot → Fits lot
 unfolding lot_in from-samples from-pairs final all
 in-fits fs lot e =
-    let n = (head fs).first in
-    let h = by-test (is_header (head fs)) (from-samples (head fs) n (tail fs)) e in
-    let s = by-step (several is_sample n [] (tail fs)) (λ t. from-pairs (head fs) n t.taken t.rest) h.1 in
-    let p = by-step (several (is_pair n) (pair_count n) [] s.value.rest) (λ t. final (head fs) s.value.taken t.taken t.rest) s.after in
-    let l = by-test (is_end p.value.rest) (answered (described (head fs) s.value.taken p.value.taken)) p.after in
-    let same : described (head fs) s.value.taken p.value.taken ≡ lot = cc in
-    subst Fits same (described-fits (head fs) s.value.taken p.value.taken h.0
-    (several-length is_sample n [] (tail fs) s.value s.before ∙ zero-add n) (several-up n (pair_count n) s.value.rest p.value p.before))
+    let h = by-header (head fs) (λ h. from-samples h h.n (tail fs)) e in
+    let n = h.0.n in
+    let s = by-step (several sample_in n [] (tail fs)) (λ t. from-pairs h.0 n t.taken t.rest) h.2 in
+    let p = by-step (several (pair_in n) (pair_count n) [] s.value.rest) (λ t. final h.0 s.value.taken t.taken t.rest) s.after in
+    let l = by-test (is_end p.value.rest) (answered (described h.0 s.value.taken p.value.taken)) p.after in
+    let same : described h.0 s.value.taken p.value.taken ≡ lot = cc in
+    subst Fits same (described-fits h.0 s.value.taken p.value.taken (header-tests (head fs) h.1).0
+    (several-length sample_in n [] (tail fs) s.value s.before ∙ zero-add n) (several-up n (pair_count n) s.value.rest p.value p.before))
 
 pub read_fits : (text : List ℕ) (lot : Lot) → read_lot text ≡ answered lot → Fits lot
 unfolding read_lot

@@ -1,6 +1,5 @@
 -- The laws of hexadecimal fields, frames, lines and the end; of pairs and stages; of texts.
 pub mod HexFields
-pub mod LineFrames
 pub mod TextLines
 mod EndFrames
 pub mod PairCells

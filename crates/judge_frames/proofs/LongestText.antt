@@ -1,17 +1,18 @@
 -- No text that describes a lot is longer than that of 32 samples: 11,834 bytes. A longer one is 12, so its first 11,835 bytes tell.
 use Rattle.lists.proofs.Base.{ℕ, zero, suc, ◌+◌, ◌*◌, ◌<◌, ◌≤◌, ◌≡◌, refl, sym, ap, ◌∙◌, List, [], ◌∷◌, ◌++◌, map, arith, mul-le-mul}
-use Rattle.lists.proofs.Base.{eqb, leb, ltb, length, take, length-take-le, take_all, dec_lt, eqb-true, leb-true}
-use mathlib.Core.Bool.{Bool, true, false, not, ◌&&◌, cond, false≢true}
+use Rattle.lists.proofs.Base.{eqb, length, take, length-take-le, take_all, dec_lt, eqb-true}
+use mathlib.Core.Bool.{Bool, true, false, cond, false≢true}
 use Rattle.limits.specs.Limits.{most_text}
-use Rattle.lists.specs.Filters.{any}
 use Rattle.outcome.specs.Outcome.{Outcome, answered, refused, and_then}
 use Rattle.lot.specs.Lot.{Lot}
-use Rattle.judge_frames.specs.declared.reader.{Field.Field, Frame.Frame}
-use Rattle.judge_frames.specs.declared.reader.Field.TheVariants.{Number, Malformed}
-use Rattle.judge_frames.specs.{Hex.field_at, Frame.no_frame, Frame.with, Frame.with_fields, Frame.frame_of, Frame.of_kind, Frame.frame}
-use Rattle.judge_frames.specs.{TextLines.feed, TextLines.text_lines, Places.is_end, Places.head, Places.tail}
-use Rattle.judge_frames.specs.Frames.{is_header, is_sample, joins, is_pair, pair_count, malformed, Taken, several, described, lot_in, read_lot}
-use Rattle.judge_frames.proofs.{Pairing.both, ReadStages.final, ReadStages.from-pairs, ReadStages.from-samples, Fits.by-test, Fits.by-step}
+use Rattle.std.specs.Prelude.{Option, Some, None}
+use Rattle.judge_frames.specs.declared.reader.{Frame.Frame, Opening.Opening, Sample.Sample, Pair.Pair}
+use Rattle.judge_frames.specs.declared.reader.Frame.TheVariants.{Header as OfHeader, Sample as OfSample, Pair as OfPair, End}
+use Rattle.judge_frames.specs.{Hex.field_at, Frame.◌>>=◌, Frame.opening, Frame.sample, Frame.pair, Frame.of_length, Frame.of_kind, Frame.frame}
+use Rattle.judge_frames.specs.{TextLines.feed, TextLines.text_lines, Places.closes, Places.is_end, Places.head, Places.tail}
+use Rattle.judge_frames.specs.Frames.{header_in, sample_in, pair_in, pair_count, malformed, or_malformed, Taken, several, described, lot_in, read_lot}
+use Rattle.judge_frames.proofs.{Pairing.both, ReadStages.header-tests, ReadStages.final, ReadStages.from-pairs, ReadStages.from-samples}
+use Rattle.judge_frames.proofs.Fits.{by-test, by-step, by-header, by-turn}
 
 -- ---- the bytes of lines, with a line feed for each
 
@@ -35,107 +36,149 @@ lines-width (c ∷ text) = by (feed c) (text_lines text) (lines-width text)
 
 -- ---- the digits of a line of each kind
 
-digits : ℕ → ℕ
-digits k = cond (eqb k 0xa1) 6 (cond (eqb k 0xa2) 12 (cond (eqb k 0xa3) 22 2))
+digits : Frame → ℕ
+digits (OfHeader h) = 6
+digits (OfSample s) = 12
+digits (OfPair p) = 22
+digits End = 2
 
-module _ (k : ℕ) (some : 0 < k) where
-  fields-kind : (kind : ℕ) (x y z w : Field) → (with_fields kind x y z w).kind ≡ k → k ≡ kind
-  unfolding with_fields
-  fields-kind kind (Number x) (Number y) (Number z) (Number w) e = sym e
-  fields-kind kind (Number x) (Number y) (Number z) Malformed e = absurd (omega (arith, e))
-  fields-kind kind (Number x) (Number y) Malformed w e = absurd (omega (arith, e))
-  fields-kind kind (Number x) Malformed z w e = absurd (omega (arith, e))
-  fields-kind kind Malformed y z w e = absurd (omega (arith, e))
+never : {A B : Type 0} {a : A} → None ≡ Some a → B
+never e = let z : ◌≡◌ {A = ℕ} 0 1 = cc in absurd (omega arith)
 
-  of_length : (kind a b c d : ℕ) (line : List ℕ) → (frame_of kind a b c d line).kind ≡ k → (k ≡ kind) × (length line ≡ 2 + a + b + c + d)
-  unfolding frame_of
-  of_length kind a b c d line e = by (eqb (length line) (2 + a + b + c + d)) refl e
-    where
-      by : (t : Bool) → eqb (length line) (2 + a + b + c + d) ≡ t
-          → (cond t (with_fields kind (field_at line 2 a) (field_at line (2 + a) b) (field_at line (2 + a + b) c) (field_at line (2 + a + b + c) d)) no_frame).kind ≡ k
-          → (k ≡ kind) × (length line ≡ 2 + a + b + c + d)
-      by true g h = (
-        fields-kind kind (field_at line 2 a) (field_at line (2 + a) b) (field_at line (2 + a + b) c) (field_at line (2 + a + b + c) d) h,
-        eqb-true (length line) (2 + a + b + c + d) g,
-      )
-      by false g h = absurd (omega (arith, h))
+opening-digits : (line : List ℕ) {f : Frame} → opening line ≡ Some f → digits f ≡ 6
+unfolding opening digits
+opening-digits line {f} e = by (field_at line 2 2) (field_at line 4 2) e
+  where
+    by : (x y : Option ℕ) → (x >>= λ n. y >>= λ flag. Some (OfHeader (record { n = n; flag = flag }))) ≡ Some f → digits f ≡ 6
+    by (Some x) (Some y) g = let same : f ≡ OfHeader (record { n = x; flag = y }) = cc in ap digits same
+    by (Some x) None g = never g
+    by None y g = never g
 
-  by_kind : (line : List ℕ) (p q r s : Bool)
-      → (cond p (frame_of 0xa1 2 2 0 0 line) (cond q (frame_of 0xa2 2 4 4 0 line) (cond r (frame_of 0xa3 2 2 0 16 line) (cond s (frame_of 0xaf 0 0 0 0 line) no_frame)))).kind ≡ k
-      → length line ≡ digits k
-  unfolding digits
-  by_kind line true q r s e = let t = of_length 0xa1 2 2 0 0 line e in t.1 ∙ ap digits (sym t.0)
-  by_kind line false true r s e = let t = of_length 0xa2 2 4 4 0 line e in t.1 ∙ ap digits (sym t.0)
-  by_kind line false false true s e = let t = of_length 0xa3 2 2 0 16 line e in t.1 ∙ ap digits (sym t.0)
-  by_kind line false false false true e = let t = of_length 0xaf 0 0 0 0 line e in t.1 ∙ ap digits (sym t.0)
-  by_kind line false false false false e = absurd (omega (arith, e))
+sample-digits : (line : List ℕ) {f : Frame} → sample line ≡ Some f → digits f ≡ 12
+unfolding sample digits
+sample-digits line {f} e = by (field_at line 2 2) (field_at line 4 4) (field_at line 8 4) e
+  where
+    by : (x y z : Option ℕ) → (x >>= λ i. y >>= λ l. z >>= λ s. Some (OfSample (record { index = i; label = l; stratum = s }))) ≡ Some f → digits f ≡ 12
+    by (Some x) (Some y) (Some z) g = let same : f ≡ OfSample (record { index = x; label = y; stratum = z }) = cc in ap digits same
+    by (Some x) (Some y) None g = never g
+    by (Some x) None z g = never g
+    by None y z g = never g
 
-  by_field : (line : List ℕ) (f : Field) → (with f (of_kind line)).kind ≡ k → length line ≡ digits k
-  unfolding of_kind
-  by_field line (Number v) e = by_kind line (eqb v 0xa1) (eqb v 0xa2) (eqb v 0xa3) (eqb v 0xaf) e
-  by_field line Malformed e = absurd (omega (arith, e))
+pair-digits : (line : List ℕ) {f : Frame} → pair line ≡ Some f → digits f ≡ 22
+unfolding pair digits
+pair-digits line {f} e = by (field_at line 2 2) (field_at line 4 2) (field_at line 6 16) e
+  where
+    by : (x y z : Option ℕ) → (x >>= λ i. y >>= λ j. z >>= λ b. Some (OfPair (record { i = i; j = j; bits = b }))) ≡ Some f → digits f ≡ 22
+    by (Some x) (Some y) (Some z) g = let same : f ≡ OfPair (record { i = x; j = y; bits = z }) = cc in ap digits same
+    by (Some x) (Some y) None g = never g
+    by (Some x) None z g = never g
+    by None y z g = never g
 
-  frame-length : (line : List ℕ) → (frame line).kind ≡ k → length line ≡ digits k
-  unfolding frame
-  frame-length line e = by_field line (field_at line 0 2) e
+of_length-is : (k : ℕ) (line : List ℕ) (o : Option Frame) {f : Frame} → of_length k line o ≡ Some f → (length line ≡ k) × (o ≡ Some f)
+of_length-is k line o {f} e = by (eqb (length line) k) refl e
+  where
+    by : (b : Bool) → eqb (length line) k ≡ b → cond b o None ≡ Some f → (length line ≡ k) × (o ≡ Some f)
+    by true g h = (eqb-true (length line) k g, h)
+    by false g h = never h
+
+frame-length : (line : List ℕ) {f : Frame} → frame line ≡ Some f → length line ≡ digits f
+unfolding frame of_kind digits
+frame-length line {f} e = by (field_at line 0 2) e
+  where
+    by-kind : (p q r s : Bool)
+        → cond p (of_length 6 line (opening line)) (cond q (of_length 12 line (sample line)) (cond r (of_length 22 line (pair line)) (cond s (of_length 2 line (Some End)) None))) ≡ Some f
+        → length line ≡ digits f
+    by-kind true q r s g = let t = of_length-is 6 line (opening line) g in t.0 ∙ sym (opening-digits line t.1)
+    by-kind false true r s g = let t = of_length-is 12 line (sample line) g in t.0 ∙ sym (sample-digits line t.1)
+    by-kind false false true s g = let t = of_length-is 22 line (pair line) g in t.0 ∙ sym (pair-digits line t.1)
+    by-kind false false false true g = let t = of_length-is 2 line (Some End) g in let u = t.1 in let same : f ≡ End = cc in t.0 ∙ ap digits (sym same)
+    by-kind false false false false g = never g
+
+    by : (o : Option ℕ) → (o >>= of_kind line) ≡ Some f → length line ≡ digits f
+    by (Some k) g = by-kind (eqb k 0xa1) (eqb k 0xa2) (eqb k 0xa3) (eqb k 0xaf) g
+    by None g = never g
 
 -- ---- the bytes of frames that are taken
 
-record Left (ls : List (List ℕ)) (bytes : ℕ) (rest : List Frame) : Type 0 where
+record Left (ls : List (List ℕ)) (bytes : ℕ) (rest : List (Option Frame)) : Type 0 where
   left : List (List ℕ)
   are : rest ≡ map frame left
   wide : width ls ≡ bytes + width left
 
-several-width : (may : List Frame → Frame → Bool) (k : ℕ) → 0 < k → ((before : List Frame) (f : Frame) → may before f ≡ true → f.kind ≡ k) →
-    (m : ℕ) (before : List Frame) (ls : List (List ℕ)) (t : Taken) → several may m before (map frame ls) ≡ answered t → Left ls (m * (digits k + 1)) t.rest
-unfolding several head tail width
-several-width may k some kind zero before ls t e = let same : t.rest ≡ map frame ls = cc in record { left = ls; are = same; wide = omega arith }
-several-width may k some kind (suc m) before [] t e =
-    absurd (omega (arith, kind before no_frame (by-test (may before no_frame) (several may m (before ++ (no_frame ∷ [])) []) e).0))
-several-width may k some kind (suc m) before (l ∷ ls) t e =
-    let s = by-test (may before (frame l)) (several may m (before ++ (frame l ∷ [])) (map frame ls)) e in
-    let r = several-width may k some kind m (before ++ (frame l ∷ [])) ls t s.1 in
-    let n = frame-length k some l (kind before (frame l) s.0) in record { left = r.left; are = r.are; wide = omega (arith, r.wide, n) }
+-- a frame of d digits
+Digits : ℕ → Option Frame → Type 0
+Digits d f = (g : Frame) × (f ≡ Some g) × (digits g ≡ d)
 
-sample-kind : (before : List Frame) (f : Frame) → is_sample before f ≡ true → f.kind ≡ 0xa2
-unfolding is_sample
-sample-kind before f e = eqb-true f.kind 0xa2 (both (eqb f.kind 0xa2) (eqb f.first (length before)) e).0
+several-width : {A : Type 0} (may : List A → Option Frame → Option A) (d : ℕ) → ((before : List A) (f : Option Frame) (a : A) → may before f ≡ Some a → Digits d f) →
+    (m : ℕ) (before : List A) (ls : List (List ℕ)) (t : Taken A) → several may m before (map frame ls) ≡ answered t → Left ls (m * (d + 1)) t.rest
+unfolding several head tail width Digits
+several-width may d kind zero before ls t e = let same : t.rest ≡ map frame ls = cc in record { left = ls; are = same; wide = omega arith }
+several-width may d kind (suc m) before [] t e =
+    let n = by-turn may m before [] t e in never (kind before None n.value n.may-follow).1
+several-width may d kind (suc m) before (l ∷ ls) t e =
+    let n = by-turn may m before (map frame (l ∷ ls)) t e in
+    let r = several-width may d kind m (before ++ (n.value ∷ [])) ls t n.after in
+    let g = kind before (frame l) n.value n.may-follow in
+    record { left = r.left; are = r.are; wide = omega (arith, r.wide, frame-length l g.1, g.2) }
 
-pair-kind : (n : ℕ) (before : List Frame) (f : Frame) → is_pair n before f ≡ true → f.kind ≡ 0xa3
-unfolding is_pair
-pair-kind n before f e = eqb-true f.kind 0xa3 (first (eqb f.kind 0xa3) (ltb f.first f.second) (ltb f.second n) (not (any (joins f.first f.second) before)) e)
-  where
-    first : (a b c e : Bool) → (a && b && c && e) ≡ true → a ≡ true
-    first true b c e h = refl
-    first false b c e h = h
+sample-kind : (before : List Sample) (f : Option Frame) (s : Sample) → sample_in before f ≡ Some s → Digits 12 f
+unfolding sample_in Digits digits
+sample-kind before (Some (OfHeader h)) s e = never e
+sample-kind before (Some (OfSample t)) s e = (OfSample t, refl, refl)
+sample-kind before (Some (OfPair p)) s e = never e
+sample-kind before (Some End) s e = never e
+sample-kind before None s e = never e
+
+pair-kind : (n : ℕ) (before : List Pair) (f : Option Frame) (p : Pair) → pair_in n before f ≡ Some p → Digits 22 f
+unfolding pair_in Digits digits
+pair-kind n before (Some (OfHeader h)) p e = never e
+pair-kind n before (Some (OfSample s)) p e = never e
+pair-kind n before (Some (OfPair q)) p e = (OfPair q, refl, refl)
+pair-kind n before (Some End) p e = never e
+pair-kind n before None p e = never e
+
+header-kind : (f : Option Frame) {h : Opening} → header_in f ≡ Some h → Digits 6 f
+unfolding header_in Digits digits
+header-kind (Some (OfHeader h)) e = (OfHeader h, refl, refl)
+header-kind (Some (OfSample s)) e = never e
+header-kind (Some (OfPair p)) e = never e
+header-kind (Some End) e = never e
+header-kind None e = never e
+
+end-kind : (f : Option Frame) → closes f ≡ true → Digits 2 f
+unfolding Digits digits
+end-kind (Some (OfHeader h)) e = absurd (false≢true e)
+end-kind (Some (OfSample s)) e = absurd (false≢true e)
+end-kind (Some (OfPair p)) e = absurd (false≢true e)
+end-kind (Some End) e = (End, refl, refl)
+end-kind None e = absurd (false≢true e)
 
 end-width : (ls : List (List ℕ)) → is_end (map frame ls) ≡ true → width ls ≡ 3
-unfolding is_end width digits
+unfolding is_end width Digits
 end-width [] e = absurd (false≢true e)
-end-width (l ∷ []) e = omega (arith, frame-length 0xaf (omega arith) l (eqb-true (frame l).kind 0xaf (both (eqb (frame l).kind 0xaf) true e).0))
+end-width (l ∷ []) e = let g = end-kind (frame l) (both (closes (frame l)) true e).0 in omega (arith, frame-length l g.1, g.2)
 end-width (l ∷ k ∷ ls) e =
-    absurd (omega (arith, eqb-true (suc (length (map frame ls))) 0 (both (eqb (frame l).kind 0xaf) (eqb (suc (length (map frame ls))) 0) e).1))
+    absurd (omega (arith, eqb-true (suc (length (map frame ls))) 0 (both (closes (frame l)) (eqb (suc (length (map frame ls))) 0) e).1))
 
 few-pairs : (n : ℕ) → n ≤ 32 → pair_count n ≤ 496
 few-pairs zero h = omega arith
 few-pairs (suc n) h = let a : suc n * n ≤ 32 * 31 = mul-le-mul {n₂ = 32} {m₂ = 31} h (omega arith) in omega (arith, a)
 
 in-width : (ls : List (List ℕ)) (lot : Lot) → lot_in (map frame ls) ≡ answered lot → width ls ≤ most_text
-unfolding lot_in from-samples from-pairs final head tail is_header width digits
-in-width [] lot e = absurd (false≢true (by-test (is_header no_frame) (from-samples no_frame 0 []) e).0)
+unfolding lot_in from-samples from-pairs final head tail width Digits
+in-width [] lot e = never (header-kind None (by-header None (λ h. from-samples h h.n []) e).1).1
 in-width (l ∷ ls) lot e =
-    let n = (frame l).first in
-    let h = by-test (is_header (frame l)) (from-samples (frame l) n (map frame ls)) e in
-    let t = both (eqb (frame l).kind 0xa1 && leb n 32) (leb (frame l).second 1) h.0 in
-    let u = both (eqb (frame l).kind 0xa1) (leb n 32) t.0 in
-    let s = by-step (several is_sample n [] (map frame ls)) (λ t. from-pairs (frame l) n t.taken t.rest) h.1 in
-    let p = by-step (several (is_pair n) (pair_count n) [] s.value.rest) (λ t. final (frame l) s.value.taken t.taken t.rest) s.after in
-    let z = by-test (is_end p.value.rest) (answered (described (frame l) s.value.taken p.value.taken)) p.after in
-    let a = several-width is_sample 0xa2 (omega arith) sample-kind n [] ls s.value s.before in
-    let b = several-width (is_pair n) 0xa3 (omega arith) (pair-kind n) (pair_count n) [] a.left p.value
-    (ap (several (is_pair n) (pair_count n) []) (sym a.are) ∙ p.before) in let c = end-width b.left (ap is_end (sym b.are) ∙ z.0) in
-    let d = frame-length 0xa1 (omega arith) l (eqb-true (frame l).kind 0xa1 u.0) in
-    let few = leb-true n 32 u.1 in omega (arith, a.wide, b.wide, c, d, few, few-pairs n few)
+    let h = by-header (frame l) (λ h. from-samples h h.n (map frame ls)) e in
+    let n = h.0.n in
+    let s = by-step (several sample_in n [] (map frame ls)) (λ t. from-pairs h.0 n t.taken t.rest) h.2 in
+    let p = by-step (several (pair_in n) (pair_count n) [] s.value.rest) (λ t. final h.0 s.value.taken t.taken t.rest) s.after in
+    let z = by-test (is_end p.value.rest) (answered (described h.0 s.value.taken p.value.taken)) p.after in
+    let a = several-width sample_in 12 sample-kind n [] ls s.value s.before in
+    let b = several-width (pair_in n) 22 (pair-kind n) (pair_count n) [] a.left p.value
+    (ap (several (pair_in n) (pair_count n) []) (sym a.are) ∙ p.before) in
+    let c = end-width b.left (ap is_end (sym b.are) ∙ z.0) in
+    let g = header-kind (frame l) h.1 in
+    let few = (header-tests (frame l) h.1).0 in omega (arith, a.wide, b.wide, c, frame-length l g.1, g.2, few, few-pairs n few)
 
 pub longest : (text : List ℕ) (lot : Lot) → read_lot text ≡ answered lot → length text ≤ most_text
 unfolding read_lot
@@ -153,25 +196,33 @@ unfolding and_then
 only_then (answered a) f e first then = then a e
 only_then (refused s) f {r} e first then = let same : s ≡ r = cc in first (ap refused same)
 
-several-only : (may : List Frame → Frame → Bool) (m : ℕ) (before fs : List Frame) {r : ℕ} → several may m before fs ≡ refused r → r ≡ 12
+several-only : {A : Type 0} (may : List A → Option Frame → Option A) (m : ℕ) (before : List A) (fs : List (Option Frame)) {r : ℕ} →
+    several may m before fs ≡ refused r → r ≡ 12
 unfolding several
 several-only may zero before fs e = let z : ◌≡◌ {A = ℕ} 0 1 = cc in absurd (omega arith)
-several-only may (suc m) before fs e =
-    only-by (may before (head fs)) (several may m (before ++ (head fs ∷ [])) (tail fs)) e (several-only may m (before ++ (head fs ∷ [])) (tail fs))
+several-only {A} may (suc m) before fs {r} e = by (may before (head fs)) e (λ a. several-only may m (before ++ (a ∷ [])) (tail fs))
+  where
+    by : (o : Option A) → elim o as (λ t. Outcome (Taken A)) [ Some a ↦ several may m (before ++ (a ∷ [])) (tail fs) | None ↦ malformed ] ≡ refused r
+        → ((a : A) → several may m (before ++ (a ∷ [])) (tail fs) ≡ refused r → r ≡ 12) → r ≡ 12
+    by (Some a) g more = more a g
+    by None g more = cc
 
-final-only : (h : Frame) (samples pairs fs : List Frame) {r : ℕ} → final h samples pairs fs ≡ refused r → r ≡ 12
+final-only : (h : Opening) (samples : List Sample) (pairs : List Pair) (fs : List (Option Frame)) {r : ℕ} → final h samples pairs fs ≡ refused r → r ≡ 12
 unfolding final
 final-only h samples pairs fs {r} e =
     only-by (is_end fs) (answered (described h samples pairs)) e (λ g. let z : ◌≡◌ {A = ℕ} 0 1 = cc in absurd (omega arith))
 
-in-only : (fs : List Frame) {r : ℕ} → lot_in fs ≡ refused r → r ≡ 12
+header-only : (o : Option Opening) {r : ℕ} → or_malformed o ≡ refused r → r ≡ 12
+header-only (Some h) e = let z : ◌≡◌ {A = ℕ} 0 1 = cc in absurd (omega arith)
+header-only None e = cc
+
+in-only : (fs : List (Option Frame)) {r : ℕ} → lot_in fs ≡ refused r → r ≡ 12
 unfolding lot_in from-samples from-pairs final
 in-only fs e =
-    let n = (head fs).first in
-    only-by (is_header (head fs)) (from-samples (head fs) n (tail fs)) e (λ g.
-    only_then (several is_sample n [] (tail fs)) (λ t. from-pairs (head fs) n t.taken t.rest) g (several-only is_sample n [] (tail fs)) (λ s k.
-    only_then (several (is_pair n) (pair_count n) [] s.rest) (λ t. final (head fs) s.taken t.taken t.rest) k
-    (several-only (is_pair n) (pair_count n) [] s.rest) (λ p. final-only (head fs) s.taken p.taken p.rest)))
+    only_then (or_malformed (header_in (head fs))) (λ h. from-samples h h.n (tail fs)) e (header-only (header_in (head fs))) (λ h g.
+    only_then (several sample_in h.n [] (tail fs)) (λ t. from-pairs h h.n t.taken t.rest) g (several-only sample_in h.n [] (tail fs)) (λ s k.
+    only_then (several (pair_in h.n) (pair_count h.n) [] s.rest) (λ t. final h s.taken t.taken t.rest) k
+    (several-only (pair_in h.n) (pair_count h.n) [] s.rest) (λ p. final-only h s.taken p.taken p.rest)))
 
 pub too_long : (text : List ℕ) → most_text < length text → read_lot text ≡ malformed
 unfolding read_lot

@@ -7,10 +7,12 @@ use native.Mathlib.Nat.{mul-le-mul, mul-zero, div-add-mod', mod-lt, div-lt_iff_l
 use Rattle.float.specs.Floats.{f64, zero⁺}
 use Rattle.lists.specs.{Ranges.grid, Filters.any, Rows.entry, Writes.over}
 use Rattle.lists.proofs.{Ranges.length-grid, Rows.row-end, Rows.cell_below, Rows.entry-grid, Writes.length_over, Writes.get_d_over, Writes.get_or-behind}
-use Rattle.judge_frames.specs.{Frames.joins, Frames.is_pair, Frames.distance, Call.no_distances}
+use Rattle.judge_frames.specs.{Frames.joins, Frames.is_new, Frames.if_passed, Frames.pair_in, Frames.distance, Call.no_distances}
 use Rattle.judge_frames.specs.inner.{Pairs.unseen, Pairs.Put, Stages.Paired}
 use Rattle.judge_frames.proofs.PairCells.{cell-lt}
-use Rattle.judge_frames.specs.declared.reader.Frame.{Frame}
+use Rattle.std.specs.Prelude.{Option, Some, None}
+use Rattle.judge_frames.specs.declared.reader.{Frame.Frame, Pair.Pair}
+use Rattle.judge_frames.specs.declared.reader.Frame.TheVariants.{Header as OfHeader, Sample as OfSample, Pair as OfPair, End}
 
 -- ---- tests joined by "and" and "or"
 
@@ -32,10 +34,10 @@ or_comm true false = refl
 or_comm false true = refl
 or_comm false false = refl
 
-any_last : (p : Frame → Bool) (fs : List Frame) (f : Frame) → any p (fs ++ (f ∷ [])) ≡ (any p fs || p f)
+any_last : (test : Pair → Bool) (ps : List Pair) (p : Pair) → any test (ps ++ (p ∷ [])) ≡ (any test ps || test p)
 unfolding any
-any_last p [] f = or_comm (p f) false
-any_last p (g ∷ fs) f = ap (λ (b : Bool). p g || b) (any_last p fs f) ∙ assoc (p g) (any p fs) (p f)
+any_last test [] p = or_comm (test p) false
+any_last test (q ∷ ps) p = ap (λ (b : Bool). test q || b) (any_last test ps p) ∙ assoc (test q) (any test ps) (test p)
   where
     assoc : (a b c : Bool) → (a || (b || c)) ≡ ((a || b) || c)
     assoc true b c = refl
@@ -62,191 +64,207 @@ same-cell n i j a b h g e = elim (ℕ_discrete i a) [
 
 -- ---- which pair a frame is
 
-joins-self : (f : Frame) → joins f.first f.second f ≡ true
+joins-self : (p : Pair) → joins p.i p.j p ≡ true
 unfolding joins
-joins-self f = rw (eq-eqb f.first f.first refl, eq-eqb f.second f.second refl)
+joins-self p = rw (eq-eqb p.i p.i refl, eq-eqb p.j p.j refl)
 
-pub joins-turn : (i j : ℕ) (f : Frame) → joins i j f ≡ joins j i f
+pub joins-turn : (i j : ℕ) (p : Pair) → joins i j p ≡ joins j i p
 unfolding joins
-joins-turn i j f = or_comm (eqb f.first i && eqb f.second j) (eqb f.first j && eqb f.second i)
+joins-turn i j p = or_comm (eqb p.i i && eqb p.j j) (eqb p.i j && eqb p.j i)
 
-any-turn : (i j : ℕ) (fs : List Frame) → any (joins i j) fs ≡ any (joins j i) fs
+any-turn : (i j : ℕ) (ps : List Pair) → any (joins i j) ps ≡ any (joins j i) ps
 unfolding any
 any-turn i j [] = refl
-any-turn i j (f ∷ fs) = ap₂ (λ (a b : Bool). a || b) (joins-turn i j f) (any-turn i j fs)
+any-turn i j (p ∷ ps) = ap₂ (λ (a b : Bool). a || b) (joins-turn i j p) (any-turn i j ps)
 
-pub joined : (i j : ℕ) (f : Frame) → joins i j f ≡ true → ((f.first ≡ i) × (f.second ≡ j)) ⊎ ((f.first ≡ j) × (f.second ≡ i))
+pub joined : (i j : ℕ) (p : Pair) → joins i j p ≡ true → ((p.i ≡ i) × (p.j ≡ j)) ⊎ ((p.i ≡ j) × (p.j ≡ i))
 unfolding joins
-joined i j f e = ⊎_elim (λ t. inl (is i j t)) (λ t. inr (is j i t)) (either (eqb f.first i && eqb f.second j) (eqb f.first j && eqb f.second i) e)
+joined i j p e = ⊎_elim (λ t. inl (is i j t)) (λ t. inr (is j i t)) (either (eqb p.i i && eqb p.j j) (eqb p.i j && eqb p.j i) e)
   where
-    is : (a b : ℕ) → (eqb f.first a && eqb f.second b) ≡ true → (f.first ≡ a) × (f.second ≡ b)
-    is a b t = let u = both (eqb f.first a) (eqb f.second b) t in (eqb-true f.first a u.0, eqb-true f.second b u.1)
+    is : (a b : ℕ) → (eqb p.i a && eqb p.j b) ≡ true → (p.i ≡ a) × (p.j ≡ b)
+    is a b t = let u = both (eqb p.i a) (eqb p.j b) t in (eqb-true p.i a u.0, eqb-true p.j b u.1)
 
 -- what a pair's frame has passed
-pub pair-tests : (n : ℕ) (before : List Frame) (f : Frame) → is_pair n before f ≡ true →
-    (f.first < f.second) × (f.second < n) × (any (joins f.first f.second) before ≡ false)
-unfolding is_pair
-pair-tests n before f e =
-    let t = go (eqb f.kind 0xa3) (ltb f.first f.second) (ltb f.second n) (not (any (joins f.first f.second) before)) e in
-    (ltb-true f.first f.second t.0, ltb-true f.second n t.1, denied (any (joins f.first f.second) before) t.2)
+pub pair-tests : (n : ℕ) (before : List Pair) (p : Pair) → is_new n before p ≡ true →
+    (p.i < p.j) × (p.j < n) × (any (joins p.i p.j) before ≡ false)
+unfolding is_new
+pair-tests n before p e =
+    let t = go (ltb p.i p.j) (ltb p.j n) (not (any (joins p.i p.j) before)) e in
+    (ltb-true p.i p.j t.0, ltb-true p.j n t.1, denied (any (joins p.i p.j) before) t.2)
   where
-    go : (a b c e : Bool) → (a && b && c && e) ≡ true → (b ≡ true) × (c ≡ true) × (e ≡ true)
-    go true true true e h = (refl, refl, h)
-    go true true false e h = absurd (false≢true h)
-    go true false c e h = absurd (false≢true h)
-    go false b c e h = absurd (false≢true h)
+    go : (a b c : Bool) → (a && b && c) ≡ true → (a ≡ true) × (b ≡ true) × (c ≡ true)
+    go true true true h = (refl, refl, h)
+    go true true false h = absurd (false≢true h)
+    go true false c h = absurd (false≢true h)
+    go false b c h = absurd (false≢true h)
 
 -- ---- one distance more
 
-distance-other : (fs : List Frame) (f : Frame) (i j : ℕ) → joins i j f ≡ false → distance (fs ++ (f ∷ [])) i j ≡ distance fs i j
+distance-other : (ps : List Pair) (p : Pair) (i j : ℕ) → joins i j p ≡ false → distance (ps ++ (p ∷ [])) i j ≡ distance ps i j
 unfolding distance
-distance-other [] f i j e = ap (λ (b : Bool). cond b (f64 f.bits) zero⁺) e
-distance-other (g ∷ fs) f i j e = ap (λ (x : Float). cond (joins i j g) (f64 g.bits) x) (distance-other fs f i j e)
+distance-other [] p i j e = ap (λ (b : Bool). cond b (f64 p.bits) zero⁺) e
+distance-other (q ∷ ps) p i j e = ap (λ (x : Float). cond (joins i j q) (f64 q.bits) x) (distance-other ps p i j e)
 
-distance-new : (fs : List Frame) (f : Frame) (i j : ℕ) → any (joins i j) fs ≡ false → joins i j f ≡ true → distance (fs ++ (f ∷ [])) i j ≡ f64 f.bits
+distance-new : (ps : List Pair) (p : Pair) (i j : ℕ) → any (joins i j) ps ≡ false → joins i j p ≡ true → distance (ps ++ (p ∷ [])) i j ≡ f64 p.bits
 unfolding distance any
-distance-new [] f i j h e = ap (λ (b : Bool). cond b (f64 f.bits) zero⁺) e
-distance-new (g ∷ fs) f i j h e = go (joins i j g) h (λ k. distance-new fs f i j k e)
+distance-new [] p i j h e = ap (λ (b : Bool). cond b (f64 p.bits) zero⁺) e
+distance-new (q ∷ ps) p i j h e = go (joins i j q) h (λ k. distance-new ps p i j k e)
   where
-    go : (b : Bool) → (b || any (joins i j) fs) ≡ false → (any (joins i j) fs ≡ false → distance (fs ++ (f ∷ [])) i j ≡ f64 f.bits) →
-        cond b (f64 g.bits) (distance (fs ++ (f ∷ [])) i j) ≡ f64 f.bits
+    go : (b : Bool) → (b || any (joins i j) ps) ≡ false → (any (joins i j) ps ≡ false → distance (ps ++ (p ∷ [])) i j ≡ f64 p.bits) →
+        cond b (f64 q.bits) (distance (ps ++ (p ∷ [])) i j) ≡ f64 p.bits
     go true k more = absurd (true≢false k)
     go false k more = more k
 
 -- ---- what is held after the pairs `pairs`: d over d₀, and the marks
 
-pub record Marked (n : ℕ) (d₀ d : List Float) (seen : List ℕ) (pairs : List Frame) : Type 0 where
+pub record Marked (n : ℕ) (d₀ d : List Float) (seen : List Bool) (pairs : List Pair) : Type 0 where
   pub long : length d ≡ length d₀
   pub wide : length seen ≡ length d₀
   pub cells : (i j : ℕ) → i < n → j < n → get_or d (i * n + j) nan ≡ distance pairs i j
   pub behind : (c : ℕ) → n * n ≤ c → get_or d c nan ≡ get_or d₀ c nan
-  pub marks : (i j : ℕ) → i < j → j < n → get_or seen (i * n + j) 0 ≡ cond (any (joins i j) pairs) 1 0
+  pub marks : (i j : ℕ) → i < j → j < n → get_or seen (i * n + j) false ≡ any (joins i j) pairs
 
-pub marked-none : (n : ℕ) {d : List Float} {seen : List ℕ} → n ≤ 32 → d ≡ no_distances → seen ≡ replicate 1024 0 → Marked n no_distances d seen []
+pub marked-none : (n : ℕ) {d : List Float} {seen : List Bool} → n ≤ 32 → d ≡ no_distances → seen ≡ replicate 1024 false → Marked n no_distances d seen []
 unfolding distance any
 marked-none n {d} {seen} h e s = record {
   long = ap length e;
-  wide = ap length s ∙ length-replicate {A = ℕ} 1024 0 ∙ sym (length-replicate 1024 zero⁺);
+  wide = ap length s ∙ length-replicate {A = Bool} 1024 false ∙ sym (length-replicate 1024 zero⁺);
   cells = λ i j g k. ap (λ (l : List Float). get_or l (i * n + j) nan) e ∙ get_or-replicate 1024 (i * n + j) zero⁺ nan (cell-lt n i j h g k);
   behind = λ c g. ap (λ (l : List Float). get_or l c nan) e;
-  marks = λ i j g k. ap (λ (l : List ℕ). get_or l (i * n + j) 0) s ∙ get_or-replicate 1024 (i * n + j) 0 0 (cell-lt n i j h (omega arith) k);
+  marks = λ i j g k. ap (λ (l : List Bool). get_or l (i * n + j) false) s ∙ get_or-replicate 1024 (i * n + j) false false (cell-lt n i j h (omega arith) k);
 }
 
-pub marked-room : {n : ℕ} {d : List Float} {seen : List ℕ} {pairs : List Frame} → Marked n no_distances d seen pairs → (length d ≡ 1024) × (length seen ≡ 1024)
+pub marked-room : {n : ℕ} {d : List Float} {seen : List Bool} {pairs : List Pair} → Marked n no_distances d seen pairs → (length d ≡ 1024) × (length seen ≡ 1024)
 marked-room m = (m.long ∙ length-replicate 1024 zero⁺, m.wide ∙ length-replicate 1024 zero⁺)
 
-module _ (n : ℕ) {d₀ d : List Float} {seen : List ℕ} {pairs : List Frame} (m : Marked n d₀ d seen pairs) (f : Frame) where
+module _ (n : ℕ) {d₀ d : List Float} {seen : List Bool} {pairs : List Pair} (m : Marked n d₀ d seen pairs) (p : Pair) where
   -- the mark tells whether the pair was there
-  pub same_test : unseen n seen f ≡ is_pair n pairs f
-  unfolding unseen is_pair
-  same_test = go (eqb f.kind 0xa3) (ltb f.first f.second) (ltb f.second n) (λ u v.
-      ap (λ (k : ℕ). eqb k 0) (m.marks f.first f.second (ltb-true f.first f.second u) (ltb-true f.second n v))
-      ∙ zero-mark (any (joins f.first f.second) pairs))
+  pub same_test : unseen n seen p ≡ is_new n pairs p
+  unfolding unseen is_new
+  same_test = go (ltb p.i p.j) (ltb p.j n) (λ u v. ap not (m.marks p.i p.j (ltb-true p.i p.j u) (ltb-true p.j n v)))
     where
-      zero-mark : (b : Bool) → eqb (cond b 1 0) 0 ≡ not b
-      zero-mark true = refl
-      zero-mark false = refl
+      go : (a b : Bool) {x y : Bool} → (a ≡ true → b ≡ true → x ≡ y) → (a && b && x) ≡ (a && b && y)
+      go true true h = h refl refl
+      go true false h = refl
+      go false b h = refl
 
-      go : (a b c : Bool) {x y : Bool} → (b ≡ true → c ≡ true → x ≡ y) → (a && b && c && x) ≡ (a && b && c && y)
-      go true true true h = h refl refl
-      go true true false h = refl
-      go true false c h = refl
-      go false b c h = refl
+  module _ (new : is_new n pairs p ≡ true) where
+    upper : p.i < p.j
+    upper = (pair-tests n pairs p new).0
 
-  module _ (new : is_pair n pairs f ≡ true) where
-    upper : f.first < f.second
-    upper = (pair-tests n pairs f new).0
+    inside : p.j < n
+    inside = (pair-tests n pairs p new).1
 
-    inside : f.second < n
-    inside = (pair-tests n pairs f new).1
-
-    absent : any (joins f.first f.second) pairs ≡ false
-    absent = (pair-tests n pairs f new).2
+    absent : any (joins p.i p.j) pairs ≡ false
+    absent = (pair-tests n pairs p new).2
 
     -- in either order
-    absent-at : (i j : ℕ) → joins i j f ≡ true → any (joins i j) pairs ≡ false
+    absent-at : (i j : ℕ) → joins i j p ≡ true → any (joins i j) pairs ≡ false
     absent-at i j e = ⊎_elim (λ s. ap₂ (λ (a b : ℕ). any (joins a b) pairs) (sym s.0) (sym s.1) ∙ absent)
-        (λ s. any-turn i j pairs ∙ ap₂ (λ (a b : ℕ). any (joins a b) pairs) (sym s.0) (sym s.1) ∙ absent) (joined i j f e)
+        (λ s. any-turn i j pairs ∙ ap₂ (λ (a b : ℕ). any (joins a b) pairs) (sym s.0) (sym s.1) ∙ absent) (joined i j p e)
 
     -- another pair's cell is neither of the two
-    apart : (i j : ℕ) → j < n → joins i j f ≡ false → i * n + j ≡ f.first * n + f.second → ⊥
+    apart : (i j : ℕ) → j < n → joins i j p ≡ false → i * n + j ≡ p.i * n + p.j → ⊥
     apart i j h e s =
-        let c = same-cell n i j f.first f.second h inside s in
-        true≢false (sym (ap₂ (λ (a b : ℕ). joins a b f) c.0 c.1 ∙ joins-self f) ∙ e)
+        let c = same-cell n i j p.i p.j h inside s in
+        true≢false (sym (ap₂ (λ (a b : ℕ). joins a b p) c.0 c.1 ∙ joins-self p) ∙ e)
 
-    apart-turned : (i j : ℕ) → j < n → joins i j f ≡ false → i * n + j ≡ f.second * n + f.first → ⊥
+    apart-turned : (i j : ℕ) → j < n → joins i j p ≡ false → i * n + j ≡ p.j * n + p.i → ⊥
     apart-turned i j h e s =
-        let c = same-cell n i j f.second f.first h (let u = upper in let v = inside in omega arith) s in
-        true≢false (sym (ap₂ (λ (a b : ℕ). joins a b f) c.0 c.1 ∙ joins-turn f.second f.first f ∙ joins-self f) ∙ e)
+        let c = same-cell n i j p.j p.i h (let u = upper in let v = inside in omega arith) s in
+        true≢false (sym (ap₂ (λ (a b : ℕ). joins a b p) c.0 c.1 ∙ joins-turn p.j p.i p ∙ joins-self p) ∙ e)
 
-    module _ (fits : n * n ≤ length d₀) {d' : List Float} {seen' : List ℕ}
-        (put : d' ≡ set (set d (f.first * n + f.second) (f64 f.bits)) (f.second * n + f.first) (f64 f.bits))
-        (mark : seen' ≡ set seen (f.first * n + f.second) 1) where
+    module _ (fits : n * n ≤ length d₀) {d' : List Float} {seen' : List Bool}
+        (put : d' ≡ set (set d (p.i * n + p.j) (f64 p.bits)) (p.j * n + p.i) (f64 p.bits))
+        (mark : seen' ≡ set seen (p.i * n + p.j) true) where
       in-d : (i j : ℕ) → i < n → j < n → i * n + j < length d
       in-d i j h g = omega (arith, cell_below n n i j h g, m.long, fits)
 
       -- the cells of the pair, and any other cell
-      at_p : get_or d' (f.first * n + f.second) nan ≡ f64 f.bits
-      at_p = ap (λ (l : List Float). get_or l (f.first * n + f.second) nan) put
-          ∙ get_or-set_other (set d (f.first * n + f.second) (f64 f.bits)) (f.second * n + f.first) (f.first * n + f.second) (f64 f.bits) nan
-          (λ e. let u = upper in let c = same-cell n f.first f.second f.second f.first inside (let v = inside in omega arith) e in omega (arith, c.0))
-          ∙ get_or-set_same d (f.first * n + f.second) (f64 f.bits) nan (let u = upper in let v = inside in in-d f.first f.second (omega arith) v)
+      at_p : get_or d' (p.i * n + p.j) nan ≡ f64 p.bits
+      at_p = ap (λ (l : List Float). get_or l (p.i * n + p.j) nan) put
+          ∙ get_or-set_other (set d (p.i * n + p.j) (f64 p.bits)) (p.j * n + p.i) (p.i * n + p.j) (f64 p.bits) nan
+          (λ e. let u = upper in let c = same-cell n p.i p.j p.j p.i inside (let v = inside in omega arith) e in omega (arith, c.0))
+          ∙ get_or-set_same d (p.i * n + p.j) (f64 p.bits) nan (let u = upper in let v = inside in in-d p.i p.j (omega arith) v)
 
-      at-q : get_or d' (f.second * n + f.first) nan ≡ f64 f.bits
-      at-q = ap (λ (l : List Float). get_or l (f.second * n + f.first) nan) put
-          ∙ get_or-set_same (set d (f.first * n + f.second) (f64 f.bits)) (f.second * n + f.first) (f64 f.bits) nan
-          (let u = upper in let v = inside in omega (arith, length-set d (f.first * n + f.second) (f64 f.bits), in-d f.second f.first v (omega arith)))
+      at-q : get_or d' (p.j * n + p.i) nan ≡ f64 p.bits
+      at-q = ap (λ (l : List Float). get_or l (p.j * n + p.i) nan) put
+          ∙ get_or-set_same (set d (p.i * n + p.j) (f64 p.bits)) (p.j * n + p.i) (f64 p.bits) nan
+          (let u = upper in let v = inside in omega (arith, length-set d (p.i * n + p.j) (f64 p.bits), in-d p.j p.i v (omega arith)))
 
-      elsewhere : (c : ℕ) → (c ≡ f.first * n + f.second → ⊥) → (c ≡ f.second * n + f.first → ⊥) → get_or d' c nan ≡ get_or d c nan
+      elsewhere : (c : ℕ) → (c ≡ p.i * n + p.j → ⊥) → (c ≡ p.j * n + p.i → ⊥) → get_or d' c nan ≡ get_or d c nan
       elsewhere c h g = ap (λ (l : List Float). get_or l c nan) put
-          ∙ get_or-set_other (set d (f.first * n + f.second) (f64 f.bits)) (f.second * n + f.first) c (f64 f.bits) nan g
-          ∙ get_or-set_other d (f.first * n + f.second) c (f64 f.bits) nan h
+          ∙ get_or-set_other (set d (p.i * n + p.j) (f64 p.bits)) (p.j * n + p.i) c (f64 p.bits) nan g
+          ∙ get_or-set_other d (p.i * n + p.j) c (f64 p.bits) nan h
 
-      cells-next : (i j : ℕ) → i < n → j < n → (b : Bool) → joins i j f ≡ b → get_or d' (i * n + j) nan ≡ distance (pairs ++ (f ∷ [])) i j
+      cells-next : (i j : ℕ) → i < n → j < n → (b : Bool) → joins i j p ≡ b → get_or d' (i * n + j) nan ≡ distance (pairs ++ (p ∷ [])) i j
       cells-next i j h g true e = ⊎_elim (λ s. ap₂ (λ (a b : ℕ). get_or d' (a * n + b) nan) (sym s.0) (sym s.1) ∙ at_p)
-          (λ s. ap₂ (λ (a b : ℕ). get_or d' (a * n + b) nan) (sym s.1) (sym s.0) ∙ at-q) (joined i j f e)
-          ∙ sym (distance-new pairs f i j (absent-at i j e) e)
-      cells-next i j h g false e = elsewhere (i * n + j) (apart i j g e) (apart-turned i j g e) ∙ m.cells i j h g ∙ sym (distance-other pairs f i j e)
+          (λ s. ap₂ (λ (a b : ℕ). get_or d' (a * n + b) nan) (sym s.1) (sym s.0) ∙ at-q) (joined i j p e)
+          ∙ sym (distance-new pairs p i j (absent-at i j e) e)
+      cells-next i j h g false e = elsewhere (i * n + j) (apart i j g e) (apart-turned i j g e) ∙ m.cells i j h g ∙ sym (distance-other pairs p i j e)
 
-      marks-next : (i j : ℕ) → i < j → j < n → (b : Bool) → joins i j f ≡ b → get_or seen' (i * n + j) 0 ≡ cond (any (joins i j) (pairs ++ (f ∷ []))) 1 0
+      marks-next : (i j : ℕ) → i < j → j < n → (b : Bool) → joins i j p ≡ b → get_or seen' (i * n + j) false ≡ any (joins i j) (pairs ++ (p ∷ []))
       marks-next i j h g true e =
-          let s : (f.first ≡ i) × (f.second ≡ j) = ⊎_elim (λ s. s) (λ s. absurd (let u = upper in omega (arith, s.0, s.1))) (joined i j f e) in
-          ap₂ (λ (a b : ℕ). get_or seen' (a * n + b) 0) (sym s.0) (sym s.1) ∙ ap (λ (l : List ℕ). get_or l (f.first * n + f.second) 0) mark
-          ∙ get_or-set_same seen (f.first * n + f.second) 1 0 (let u = upper in let v = inside in omega (arith, cell_below n n f.first f.second (omega arith) v, m.wide, fits))
-          ∙ sym (ap (λ (b : Bool). cond b 1 0) (any_last (joins i j) pairs f ∙ ap (λ (b : Bool). any (joins i j) pairs || b) e ∙ or_comm (any (joins i j) pairs) true))
-      marks-next i j h g false e = ap (λ (l : List ℕ). get_or l (i * n + j) 0) mark
-          ∙ get_or-set_other seen (f.first * n + f.second) (i * n + j) 1 0 (apart i j g e) ∙ m.marks i j h g
-          ∙ sym (ap (λ (b : Bool). cond b 1 0) (any_last (joins i j) pairs f ∙ ap (λ (b : Bool). any (joins i j) pairs || b) e ∙ or_comm (any (joins i j) pairs) false))
+          let s : (p.i ≡ i) × (p.j ≡ j) = ⊎_elim (λ s. s) (λ s. absurd (let u = upper in omega (arith, s.0, s.1))) (joined i j p e) in
+          ap₂ (λ (a b : ℕ). get_or seen' (a * n + b) false) (sym s.0) (sym s.1) ∙ ap (λ (l : List Bool). get_or l (p.i * n + p.j) false) mark
+          ∙ get_or-set_same seen (p.i * n + p.j) true false (let u = upper in let v = inside in omega (arith, cell_below n n p.i p.j (omega arith) v, m.wide, fits))
+          ∙ sym (any_last (joins i j) pairs p ∙ ap (λ (b : Bool). any (joins i j) pairs || b) e ∙ or_comm (any (joins i j) pairs) true)
+      marks-next i j h g false e = ap (λ (l : List Bool). get_or l (i * n + j) false) mark
+          ∙ get_or-set_other seen (p.i * n + p.j) (i * n + j) true false (apart i j g e) ∙ m.marks i j h g
+          ∙ sym (any_last (joins i j) pairs p ∙ ap (λ (b : Bool). any (joins i j) pairs || b) e ∙ or_comm (any (joins i j) pairs) false)
 
-      pub marked_next : Marked n d₀ d' seen' (pairs ++ (f ∷ []))
+      pub marked_next : Marked n d₀ d' seen' (pairs ++ (p ∷ []))
       marked_next = record {
-        long = ap length put ∙ length-set (set d (f.first * n + f.second) (f64 f.bits)) (f.second * n + f.first) (f64 f.bits)
-            ∙ length-set d (f.first * n + f.second) (f64 f.bits) ∙ m.long;
-        wide = ap length mark ∙ length-set seen (f.first * n + f.second) 1 ∙ m.wide;
-        cells = λ i j h g. cells-next i j h g (joins i j f) refl;
+        long = ap length put ∙ length-set (set d (p.i * n + p.j) (f64 p.bits)) (p.j * n + p.i) (f64 p.bits)
+            ∙ length-set d (p.i * n + p.j) (f64 p.bits) ∙ m.long;
+        wide = ap length mark ∙ length-set seen (p.i * n + p.j) true ∙ m.wide;
+        cells = λ i j h g. cells-next i j h g (joins i j p) refl;
         behind = λ c h. let u = upper in let v = inside in
-            let a = cell_below n n f.first f.second (omega arith) v in
-            let b = cell_below n n f.second f.first v (omega arith) in
+            let a = cell_below n n p.i p.j (omega arith) v in
+            let b = cell_below n n p.j p.i v (omega arith) in
             elsewhere c (λ e. omega arith) (λ e. omega arith) ∙ m.behind c h;
-        marks = λ i j h g. marks-next i j h g (joins i j f) refl;
+        marks = λ i j h g. marks-next i j h g (joins i j p) refl;
       }
 
--- ---- a pair is put, or not
+-- ---- a frame is a pair that is put, or not
 
-module _ (n : ℕ) {d d' : List Float} {seen seen' : List ℕ} {pairs : List Frame} {f : Frame} {r : Bool} (m : Marked n no_distances d seen pairs) (p : Put n f d seen d' seen' r) where
-  pub put_other : r ≡ false → is_pair n pairs f ≡ false
-  put_other e = sym (same_test n m f) ∙ sym p.told ∙ e
+pub no-frame : (n : ℕ) (before : List Pair) {o : Option Frame} → o ≡ None → pair_in n before o ≡ None
+unfolding pair_in
+no-frame n before e = ap (pair_in n before) e
 
-  pub put-pair : r ≡ true → is_pair n pairs f ≡ true
-  put-pair e = sym (same_test n m f) ∙ sym p.told ∙ e
+pub not-a3 : (n : ℕ) (before : List Pair) {o : Option Frame} {f : Frame} → o ≡ Some f → ((p : Pair) → f ≡ OfPair p → ⊥) → pair_in n before o ≡ None
+unfolding pair_in
+not-a3 n before {o} {f} e h = ap (pair_in n before) e ∙ other f h
+  where
+    other : (f : Frame) → ((p : Pair) → f ≡ OfPair p → ⊥) → pair_in n before (Some f) ≡ None
+    other (OfHeader h) _ = refl
+    other (OfSample s) _ = refl
+    other (OfPair p) h = absurd (h p refl)
+    other End _ = refl
 
-  pub put_next : n ≤ 32 → r ≡ true → Marked n no_distances d' seen' (pairs ++ (f ∷ []))
-  put_next h e = marked_next n m f (put-pair e) (omega (arith, (all-cells n h).0, length-replicate 1024 zero⁺))
-      (p.mirrored ∙ ap (λ (b : Bool). cond b (set (set d (f.first * n + f.second) (f64 f.bits)) (f.second * n + f.first) (f64 f.bits)) d) e)
-      (p.marked ∙ ap (λ (b : Bool). cond b (set seen (f.first * n + f.second) 1) seen) e)
+module _ (n : ℕ) {d d' : List Float} {seen seen' : List Bool} {pairs : List Pair} {p : Pair} {r : Bool} (m : Marked n no_distances d seen pairs)
+    (w : Put n p d seen d' seen' r) where
+  put-pair : r ≡ true → is_new n pairs p ≡ true
+  put-pair e = sym (same_test n m p) ∙ sym w.told ∙ e
+
+  module _ {o : Option Frame} {f : Frame} (e : o ≡ Some f) (g : f ≡ OfPair p) where
+    as-pair : (b : Bool) → is_new n pairs p ≡ b → pair_in n pairs o ≡ if_passed b p
+    unfolding pair_in
+    as-pair b h = ap (pair_in n pairs) (e ∙ ap Some g) ∙ ap (λ (b : Bool). if_passed b p) h
+
+    pub put_other : r ≡ false → pair_in n pairs o ≡ None
+    put_other h = as-pair false (sym (same_test n m p) ∙ sym w.told ∙ h)
+
+    pub is-put : r ≡ true → pair_in n pairs o ≡ Some p
+    is-put h = as-pair true (put-pair h)
+
+  pub put_next : n ≤ 32 → r ≡ true → Marked n no_distances d' seen' (pairs ++ (p ∷ []))
+  put_next h e = marked_next n m p (put-pair e) (omega (arith, (all-cells n h).0, length-replicate 1024 zero⁺))
+      (w.mirrored ∙ ap (λ (b : Bool). cond b (set (set d (p.i * n + p.j) (f64 p.bits)) (p.j * n + p.i) (f64 p.bits)) d) e)
+      (w.marked ∙ ap (λ (b : Bool). cond b (set seen (p.i * n + p.j) true) seen) e)
 
 -- all of it
-marked-over : (n : ℕ) {d₀ d : List Float} {seen : List ℕ} {pairs : List Frame} → n * n ≤ length d₀ → Marked n d₀ d seen pairs → d ≡ over (grid n n (distance pairs)) d₀
+marked-over : (n : ℕ) {d₀ d : List Float} {seen : List Bool} {pairs : List Pair} → n * n ≤ length d₀ → Marked n d₀ d seen pairs → d ≡ over (grid n n (distance pairs)) d₀
 unfolding entry
 marked-over n {d₀} {d} {seen} {pairs} fits m =
     let wide : length (grid n n (distance pairs)) ≡ n * n = length-grid n n (distance pairs) in
@@ -261,5 +279,5 @@ marked-over n {d₀} {d} {seen} {pairs} fits m =
       | no ge ↦ m.behind c (omega arith) ∙ sym (get_or-behind (grid n n (distance pairs)) d₀ c nan (omega arith))
     ])
 
-pub marked_all : (n : ℕ) (d : List Float) (seen : List ℕ) → n ≤ 32 → (pairs : List Frame) → Marked n no_distances d seen pairs → Paired n d pairs
+pub marked_all : (n : ℕ) (d : List Float) (seen : List Bool) → n ≤ 32 → (pairs : List Pair) → Marked n no_distances d seen pairs → Paired n d pairs
 marked_all n d seen h pairs m = marked-over n (omega (arith, (all-cells n h).0, length-replicate 1024 zero⁺)) m

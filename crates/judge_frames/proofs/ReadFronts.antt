@@ -9,14 +9,14 @@ use Rattle.judge_frames.specs.Frames.{read_lot}
 use Rattle.judge_frames.specs.Call.{no_numbers, no_distances, Called, held, header_of, leaves, read_call, called, fronts}
 use Rattle.judge_frames.specs.Fits.{Fits}
 use Rattle.judge_frames.specs.declared.Header.{Header}
-use Rattle.judge_frames.specs.declared.Answer.TheVariants.{Read, Refused}
+use Rattle.std.specs.Prelude.{Ok, Err}
 use Rattle.judge_frames.proofs.Fits.{read_fits}
 
 front : {A : Type 0} (part old : List A) {l : List A} {k n : ℕ} → l ≡ over part old → length part ≡ k → n ≡ k → part ≡ take n l
 front part old {l} {k} {n} e len same = sym (ap (take n) e ∙ take-over part old n (len ∙ sym same))
 
 module _ {h : Header} {l s : List ℕ} {d : List Float} where
-  fronts-of : (lot : Lot) → Fits lot → called (Read h) l s d ≡ leaves (answered lot) → lot ≡ fronts h l s d
+  fronts-of : (lot : Lot) → Fits lot → called (Ok h) l s d ≡ leaves (answered lot) → lot ≡ fronts h l s d
   unfolding leaves held and_then
   fronts-of lot f e =
       let a = ap (λ (c : Called). c.answer) e in
@@ -28,20 +28,20 @@ module _ {h : Header} {l s : List ℕ} {d : List Float} where
       let strata : lot.strata ≡ take h.n s = front lot.strata no_numbers (ap (λ (c : Called). c.strata) e) f.strata n in
       λ i. lot_of (sym n i) (distances i) (labels i) (sym stratified i) (strata i) (f.unweighted i) (f.weights i)
 
-  read_by : (o : Outcome Lot) → ((lot : Lot) → o ≡ answered lot → Fits lot) → called (Read h) l s d ≡ leaves o → o ≡ answered (fronts h l s d)
+  read_by : (o : Outcome Lot) → ((lot : Lot) → o ≡ answered lot → Fits lot) → called (Ok h) l s d ≡ leaves o → o ≡ answered (fronts h l s d)
   unfolding leaves and_then
   read_by (answered lot) fits e = ap answered (fronts-of lot (fits lot refl) e)
   read_by (refused r) fits e = let a = ap (λ (c : Called). c.answer) e in let z : ◌≡◌ {A = ℕ} 0 1 = cc in absurd (omega arith)
 
-  pub read-fronts : (text : List ℕ) → called (Read h) l s d ≡ read_call text → read_lot text ≡ answered (fronts h l s d)
+  pub read-fronts : (text : List ℕ) → called (Ok h) l s d ≡ read_call text → read_lot text ≡ answered (fronts h l s d)
   unfolding read_call
   read-fronts text e = read_by (read_lot text) (read_fits text) e
 
-refused-by : (o : Outcome Lot) (x : Refusal) {l s : List ℕ} {d : List Float} → called (Refused x) l s d ≡ leaves o → o ≡ refused (number x)
+refused-by : (o : Outcome Lot) (x : Refusal) {l s : List ℕ} {d : List Float} → called (Err x) l s d ≡ leaves o → o ≡ refused (number x)
 unfolding leaves and_then
 refused-by (answered lot) x e = let a = ap (λ (c : Called). c.answer) e in let z : ◌≡◌ {A = ℕ} 0 1 = cc in absurd (omega arith)
 refused-by (refused r) x e = let a = ap (λ (c : Called). c.answer) e in cc
 
-pub read-refused : (text : List ℕ) (x : Refusal) {l s : List ℕ} {d : List Float} → called (Refused x) l s d ≡ read_call text → read_lot text ≡ refused (number x)
+pub read-refused : (text : List ℕ) (x : Refusal) {l s : List ℕ} {d : List Float} → called (Err x) l s d ≡ read_call text → read_lot text ≡ refused (number x)
 unfolding read_call
 read-refused text x e = refused-by (read_lot text) x e

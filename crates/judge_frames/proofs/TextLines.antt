@@ -1,9 +1,13 @@
 -- Laws of lines: the first line and the rest, and the frame at a place.
 use Rattle.lists.proofs.Base.{ℕ, suc, ◌+◌, ◌-◌, ◌<◌, ◌≤◌, ◌≡◌, refl, sym, ap, ap₂, ◌∙◌, Bool, true, false, cond, List, [], ◌∷◌}
-use Rattle.lists.proofs.Base.{map, arith, not-suc-le-zero, length, take, drop, length-drop, drop_of_length-le, drop-drop}
+use Rattle.std.specs.Prelude.{Option, Some, None, unwrap_or}
+use Rattle.std.specs.List.{position_or_len}
+use Rattle.std.proofs.lemmas.List.Recursion.{is_position_or_len}
+use borrow.Author.Tests.{ltb-false}
+use Rattle.lists.proofs.Base.{map, min, ltb, dec_lt, arith, not-suc-le-zero, length, take, drop, length-drop, drop_of_length-le, drop-drop}
 use Rattle.lists.specs.Filters.{first_at}
 use Rattle.judge_frames.specs.declared.reader.Frame.{Frame}
-use Rattle.judge_frames.specs.{Frame.no_frame, Frame.frame, TextLines.feed, TextLines.text_lines, Places.head, Places.tail}
+use Rattle.judge_frames.specs.{Frame.frame, TextLines.feed, TextLines.text_lines, Places.head, Places.tail}
 use Rattle.judge_frames.specs.inner.Places.{frames_from, IsLine}
 use Rattle.lists.proofs.Searches.{first-within}
 
@@ -52,20 +56,36 @@ lines-past text at h = rw (drop_of_length-le text {i = at} h)
 
 -- ---- the frame at a place
 
-pub line-past : (text : List ℕ) (at : ℕ) {f : Frame} → length text ≤ at → f ≡ no_frame → IsLine text at f at
+pub line-past : (text : List ℕ) (at : ℕ) → length text ≤ at → IsLine text at None at
 unfolding frames_from head tail
-line-past text at h e =
+line-past text at h =
     let n : frames_from text at ≡ [] = ap (map frame) (lines-past text at h) in
-    record { its-frame = e ∙ sym (ap head n); the_rest = n ∙ sym (ap tail n) }
+    record { its-frame = sym (ap head n); the_rest = n ∙ sym (ap tail n) }
 
 -- after the line feed or at the text's end
-pub line-there : (text : List ℕ) (at e next : ℕ) {f : Frame} → at < length text → e ≡ at + first_at feed (drop at text) →
+pub line-there : (text : List ℕ) (at e next : ℕ) {f : Option Frame} → at < length text → e ≡ at + first_at feed (drop at text) →
     f ≡ frame (take (e - at) (drop at text)) → frames_from text next ≡ frames_from text (e + 1) → IsLine text at f next
 unfolding frames_from head tail
 line-there text at e next h g k r =
     let n : frames_from text at ≡ frame (take (e - at) (drop at text)) ∷ frames_from text (e + 1) = ap (map frame) (lines_from text at e h g) in
     record { its-frame = k ∙ sym (ap head n); the_rest = r ∙ sym (ap tail n) }
 
-pub both-past : (text : List ℕ) (i j : ℕ) → length text ≤ i → length text ≤ j → frames_from text i ≡ frames_from text j
+-- past the line feed at e, or at the text's end
+pub next-line : (text : List ℕ) (e next : ℕ) → e ≤ length text → next ≡ min (length text) (e + 1) → frames_from text next ≡ frames_from text (e + 1)
 unfolding frames_from
-both-past text i j h g = ap (map frame) (lines-past text i h ∙ sym (lines-past text j g))
+next-line text e next h g = elim (dec_lt e (length text)) [
+  | yes l ↦ ap (λ (k : ℕ). map frame (text_lines (drop k text))) (omega arith)
+  | no m ↦ ap (map frame) (lines-past text next (omega arith) ∙ sym (lines-past text (e + 1) (omega arith)))
+]
+
+-- the place of the first line feed, or the length
+pub first_feed : (s : List ℕ) {o : Option ℕ} → o ≡ cond (ltb (position_or_len feed s) (length s)) (Some (position_or_len feed s)) None → unwrap_or o (length s) ≡ first_at feed s
+unfolding first_at
+first_feed s e = ap (λ (o : Option ℕ). unwrap_or o (length s)) e ∙ by (ltb (position_or_len feed s) (length s)) refl
+  where
+    same : first_at feed s ≡ position_or_len feed s
+    same = is_position_or_len (first_at feed) feed refl (λ x xs. ap (λ (k : ℕ). cond (feed x) 0 k) (omega arith)) s
+
+    by : (b : Bool) → ltb (position_or_len feed s) (length s) ≡ b → unwrap_or (cond b (Some (position_or_len feed s)) None) (length s) ≡ first_at feed s
+    by true t = sym same
+    by false t = omega (arith, same, first-within feed s, ltb-false (position_or_len feed s) (length s) t)

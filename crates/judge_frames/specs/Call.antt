@@ -1,14 +1,13 @@
 -- Section 7: a whole call of `read_lot`, its answer and what the slices hold afterwards. Definitions only.
-use Rattle.std.specs.Prelude.{ℕ, ◌*◌, false, List, [], take, replicate, Float}
+use Rattle.std.specs.Prelude.{ℕ, ◌*◌, false, List, [], take, replicate, Float, Result}
 use Rattle.float.specs.Floats.{zero⁺}
 use Rattle.lists.specs.Writes.{over}
 use Rattle.outcome.specs.Outcome.{Outcome, answered, refused, and_then}
-use Rattle.outcome.specs.Numbers.{number}
+use Rattle.outcome.specs.Numbers.{outcome_of}
 use Rattle.lot.specs.Lot.{Lot, lot_of}
 use Rattle.judge_frames.specs.Frames.{read_lot}
 use Rattle.judge_frames.specs.declared.Header.{Header}
-use Rattle.judge_frames.specs.declared.Answer.{Answer}
-use Rattle.judge_frames.specs.declared.Answer.TheVariants.{Read, Refused}
+use Rattle.outcome.specs.declared.Refusal.{Refusal}
 
 -- the answer, and the slices afterwards
 pub record Called : Type 0 where
@@ -45,13 +44,9 @@ leaves o = record {
 unfoldable pub read_call : List ℕ → Called
 read_call text = leaves (read_lot text)
 
--- ---- how a contract says it: the enum that is returned, and what the slices hold
+-- ---- how a contract says it: what is returned, and what the slices hold
 
-abbrev pub outcome_of : Answer → Outcome Header
-outcome_of (Read h) = answered h
-outcome_of (Refused r) = refused (number r)
-
-abbrev pub called : Answer → List ℕ → List ℕ → List Float → Called
+abbrev pub called : Result Header Refusal → List ℕ → List ℕ → List Float → Called
 called r labels strata distances = record { answer = outcome_of r; labels = labels; strata = strata; distances = distances }
 
 -- the lot that the fronts of three slices hold, after a call that read it

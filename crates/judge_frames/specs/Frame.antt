@@ -1,38 +1,52 @@
 -- Section 7: the frame of a line. Definitions only.
-use Rattle.std.specs.Prelude.{ℕ, ◌+◌, cond, List, eqb, length}
+use Rattle.std.specs.Prelude.{ℕ, cond, List, eqb, length, Option, Some, None, option_and_then}
 use Rattle.judge_frames.specs.Hex.{field_at}
-use Rattle.judge_frames.specs.declared.reader.Field.{Field}
-use Rattle.judge_frames.specs.declared.reader.Field.TheVariants.{Number, Malformed}
 use Rattle.judge_frames.specs.declared.reader.Frame.{Frame}
+use Rattle.judge_frames.specs.declared.reader.Frame.TheVariants.{Header as OfHeader, Sample as OfSample, Pair as OfPair, End}
 
--- no frame: what a malformed line is, and what follows the last
-abbrev pub no_frame : Frame
-no_frame = record { kind = 0; first = 0; second = 0; third = 0; bits = 0 }
+infixl 10 ◌>>=◌
+abbrev pub ◌>>=◌ : {A B : Type 0} → Option A → (A → Option B) → Option B
+o >>= f = option_and_then f o
 
-abbrev pub with : Field → (ℕ → Frame) → Frame
-with (Number v) f = f v
-with Malformed f = no_frame
+-- ---- the numbers that follow a line's kind, if none is malformed
 
--- a frame of the kind with these numbers, if none is malformed
-unfoldable pub with_fields : ℕ → Field → Field → Field → Field → Frame
-with_fields kind first second third bits =
-    with first (λ x. with second (λ y. with third (λ z. with bits (λ w.
-    record { kind = kind; first = x; second = y; third = z; bits = w }))))
+-- n, strata given
+unfoldable pub opening : List ℕ → Option Frame
+opening line = do
+  n ← field_at line 2 2
+  flag ← field_at line 4 2
+  Some (OfHeader (record { n = n; flag = flag }))
 
--- a line of the kind: two digits, then numbers of a, b, c and d digits, and nothing more
-unfoldable pub frame_of : ℕ → ℕ → ℕ → ℕ → ℕ → List ℕ → Frame
-frame_of kind a b c d line =
-    cond (eqb (length line) (2 + a + b + c + d))
-    (with_fields kind (field_at line 2 a) (field_at line (2 + a) b) (field_at line (2 + a + b) c) (field_at line (2 + a + b + c) d))
-    no_frame
+-- index, label, stratum
+unfoldable pub sample : List ℕ → Option Frame
+sample line = do
+  index ← field_at line 2 2
+  label ← field_at line 4 4
+  stratum ← field_at line 8 4
+  Some (OfSample (record { index = index; label = label; stratum = stratum }))
 
--- `a1` n, strata given; `a2` index, label, stratum; `a3` i, j, f64 bits; `af`
-unfoldable pub of_kind : List ℕ → ℕ → Frame
+-- i, j, f64 bits
+unfoldable pub pair : List ℕ → Option Frame
+pair line = do
+  i ← field_at line 2 2
+  j ← field_at line 4 2
+  bits ← field_at line 6 16
+  Some (OfPair (record { i = i; j = j; bits = bits }))
+
+-- ---- a line
+
+-- so many digits, and nothing more
+abbrev pub of_length : ℕ → List ℕ → Option Frame → Option Frame
+of_length k line f = cond (eqb (length line) k) f None
+
+-- `a1`, `a2` and `a3` with their numbers; `af`
+unfoldable pub of_kind : List ℕ → ℕ → Option Frame
 of_kind line kind =
-    cond (eqb kind 0xa1) (frame_of 0xa1 2 2 0 0 line)
-    (cond (eqb kind 0xa2) (frame_of 0xa2 2 4 4 0 line)
-    (cond (eqb kind 0xa3) (frame_of 0xa3 2 2 0 16 line)
-    (cond (eqb kind 0xaf) (frame_of 0xaf 0 0 0 0 line) no_frame)))
+    cond (eqb kind 0xa1) (of_length 6 line (opening line))
+    (cond (eqb kind 0xa2) (of_length 12 line (sample line))
+    (cond (eqb kind 0xa3) (of_length 22 line (pair line))
+    (cond (eqb kind 0xaf) (of_length 2 line (Some End)) None)))
 
-unfoldable pub frame : List ℕ → Frame
-frame line = with (field_at line 0 2) (of_kind line)
+-- none of a malformed line
+unfoldable pub frame : List ℕ → Option Frame
+frame line = field_at line 0 2 >>= of_kind line

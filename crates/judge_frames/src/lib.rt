@@ -5,109 +5,93 @@ pub mod lines;
 pub mod pairs;
 pub mod reader;
 
-ghost use Rattle.std.specs.Prelude.{◌≡◌, [], ◌≤◌, replicate};
+ghost use Rattle.std.specs.Prelude.{◌≡◌, [], ◌≤◌, false, replicate};
 ghost use Rattle.judge_frames.specs.inner.Places.{frames_from};
-ghost use Rattle.judge_frames.specs.Frames.{is_sample, is_pair, pair_count, several};
+ghost use Rattle.judge_frames.specs.Frames.{sample_in, pair_in, pair_count, several};
 ghost use Rattle.judge_frames.specs.Call.{no_numbers, no_distances, read_call, called};
 ghost use Rattle.judge_frames.specs.inner.Stages.{OpenedBy, ReachedBy, Sampled, Paired, Room, Cleared, ReadBy};
 
 use outcome::Refusal;
-
-#[derive(Drop)]
-pub enum Opening {
-    Opened {
-        n: usize,
-        stratified: bool,
-        next: usize,
-    },
-    Unopened,
-}
-
-// The header, and where the next line starts.
-#[tactic(auto, using(crate::proofs::TakenFrames::header_tests), unfolding(crate::specs::inner::Stages::OpenedBy))]
-fn read_header(text: &[u8]) -> Opening
-    ensures { OpenedBy text.now result }
-{
-    let l = lines::line_at(text, 0);
-    let f = l.frame;
-    if f.kind != 0xa1 {
-        return Opening::Unopened;
-    }
-    if 32 < f.first {
-        return Opening::Unopened;
-    }
-    if 1 < f.second {
-        return Opening::Unopened;
-    }
-    Opening::Opened {
-        n: f.first as usize,
-        stratified: f.second == 1,
-        next: l.next,
-    }
-}
-
-// Where the frames go on, or nowhere: one of them is malformed, missing or repeated.
-#[derive(Drop)]
-pub enum Place {
-    At(usize),
-    Nowhere,
-}
-
-// The n samples whose frames start at place from.
-fn read_samples(text: &[u8], from: usize, n: usize, labels: &mut [u16], strata: &mut [u16]) -> Place
-    requires { (n ≤ 32) × (labels.old ≡ no_numbers) × (strata.old ≡ no_numbers) }
-    ensures { ReachedBy text.now (several is_sample n [] (frames_from text.now from)) (Sampled labels.new strata.new) result }
-{
-    let mut at = from;
-    let mut k: usize = 0;
-    while k < n {
-        let l = lines::line_at(text, at);
-        let f = l.frame;
-        if f.kind != 0xa2 {
-            return Place::Nowhere;
-        }
-        if f.first as usize != k {
-            return Place::Nowhere;
-        }
-        labels[k] = f.second;
-        strata[k] = f.third;
-        at = l.next;
-        k += 1;
-    }
-    Place::At(at)
-}
-
-// The pairs whose frames start at place from, over zeros.
-fn read_pairs(text: &[u8], from: usize, n: usize, distances: &mut [f64], seen: &mut [u8]) -> Place
-    requires { (n ≤ 32) × (distances.old ≡ no_distances) × (seen.old ≡ replicate 1024 0) }
-    ensures { ReachedBy text.now (several (is_pair n) (pair_count n) [] (frames_from text.now from)) (Paired n distances.new) result }
-{
-    let total = (n * n - n) / 2;
-    let mut at = from;
-    let mut k: usize = 0;
-    while k < total {
-        let l = lines::line_at(text, at);
-        let f = l.frame;
-        if !pairs::put_pair(f, n, distances, seen) {
-            return Place::Nowhere;
-        }
-        at = l.next;
-        k += 1;
-    }
-    Place::At(at)
-}
+use reader::Frame;
 
 // n, and whether strata are given.
-#[derive(Drop)]
+#[derive(Clone, Copy, Debug, PartialEq, Eq)]
 pub struct Header {
     pub n: usize,
     pub stratified: bool,
 }
 
-#[derive(Drop)]
-pub enum Answer {
-    Read(Header),
-    Refused(Refusal),
+// The header, and where the next line starts.
+fn read_header(text: &[u8]) -> Option<(Header, usize)>
+    ensures { OpenedBy text.now result }
+{
+    let l = lines::line_at(text, 0);
+    let Frame::Header(f) = l.frame? else {
+        return None;
+    };
+    if 32 < f.n {
+        return None;
+    }
+    if 1 < f.flag {
+        return None;
+    }
+    let header = Header {
+        n: usize::from(f.n),
+        stratified: f.flag == 1,
+    };
+    Some((header, l.next))
+}
+
+// The n samples whose frames start at place from, and where the frames go on; none if one of them is malformed, missing or out of order.
+fn read_samples(
+    text: &[u8],
+    from: usize,
+    n: usize,
+    labels: &mut [u16],
+    strata: &mut [u16],
+) -> Option<usize>
+    requires { (n ≤ 32) × (labels.old ≡ no_numbers) × (strata.old ≡ no_numbers) }
+    ensures { ReachedBy text.now (several sample_in n [] (frames_from text.now from)) (Sampled labels.new strata.new) result }
+{
+    let mut at = from;
+    for k in 0..n {
+        let l = lines::line_at(text, at);
+        let Frame::Sample(f) = l.frame? else {
+            return None;
+        };
+        if usize::from(f.index) != k {
+            return None;
+        }
+        labels[k] = f.label;
+        strata[k] = f.stratum;
+        at = l.next;
+    }
+    Some(at)
+}
+
+// The pairs whose frames start at place from, over zeros, and where the frames go on; none if one of them is malformed, missing or repeated.
+fn read_pairs(
+    text: &[u8],
+    from: usize,
+    n: usize,
+    distances: &mut [f64],
+    seen: &mut [bool],
+) -> Option<usize>
+    requires { (n ≤ 32) × (distances.old ≡ no_distances) × (seen.old ≡ replicate 1024 false) }
+    ensures { ReachedBy text.now (several (pair_in n) (pair_count n) [] (frames_from text.now from)) (Paired n distances.new) result }
+{
+    let mut at = from;
+    for k in 0..(n * n - n) / 2 {
+        let l = lines::line_at(text, at);
+        let Frame::Pair(f) = l.frame? else {
+            return None;
+        };
+        if !pairs::put_pair(f, n, distances, seen) {
+            return None;
+        }
+        at = l.next;
+    }
+    Some(at)
 }
 
 // The lot that the text describes, over zeros.
@@ -116,30 +100,15 @@ fn read_over(
     labels: &mut [u16],
     strata: &mut [u16],
     distances: &mut [f64],
-    seen: &mut [u8],
-) -> Answer
-    requires { Cleared labels.old strata.old distances.old × (seen.old ≡ replicate 1024 0) }
+    seen: &mut [bool],
+) -> Option<Header>
+    requires { Cleared labels.old strata.old distances.old × (seen.old ≡ replicate 1024 false) }
     ensures { ReadBy text.now labels.new strata.new distances.new result }
 {
-    let Opening::Opened {
-        n,
-        stratified,
-        next,
-    } = read_header(text)
-    else {
-        return Answer::Refused(Refusal::Frame);
-    };
-    let Place::At(at) = read_samples(text, next, n, labels, strata) else {
-        return Answer::Refused(Refusal::Frame);
-    };
-    let Place::At(last) = read_pairs(text, at, n, distances, seen) else {
-        return Answer::Refused(Refusal::Frame);
-    };
-    if lines::ends_at(text, last) {
-        Answer::Read(Header { n, stratified })
-    } else {
-        Answer::Refused(Refusal::Frame)
-    }
+    let (header, next) = read_header(text)?;
+    let at = read_samples(text, next, header.n, labels, strata)?;
+    let last = read_pairs(text, at, header.n, distances, seen)?;
+    lines::ends_at(text, last).then_some(header)
 }
 
 // All three become zeros.
@@ -147,9 +116,9 @@ fn clear_all(labels: &mut [u16], strata: &mut [u16], distances: &mut [f64])
     requires { Room labels.old strata.old distances.old }
     ensures { Cleared labels.new strata.new distances.new }
 {
-    lists::clear_u16(labels);
-    lists::clear_u16(strata);
-    lists::clear(distances);
+    labels.fill(0);
+    strata.fill(0);
+    distances.fill(0.0);
 }
 
 // The same over any contents; a refusal leaves zeros.
@@ -158,17 +127,17 @@ fn read_with(
     labels: &mut [u16],
     strata: &mut [u16],
     distances: &mut [f64],
-    seen: &mut [u8],
-) -> Answer
-    requires { Room labels.old strata.old distances.old × (seen.old ≡ replicate 1024 0) }
+    seen: &mut [bool],
+) -> Result<Header, Refusal>
+    requires { Room labels.old strata.old distances.old × (seen.old ≡ replicate 1024 false) }
     ensures { called result labels.new strata.new distances.new ≡ read_call text.now }
 {
     clear_all(labels, strata, distances);
-    let r = read_over(text, labels, strata, distances, seen);
-    if let Answer::Refused(_) = r {
+    let Some(header) = read_over(text, labels, strata, distances, seen) else {
         clear_all(labels, strata, distances);
-    }
-    r
+        return Err(Refusal::Frame);
+    };
+    Ok(header)
 }
 
 // `read_lot` on slices.
@@ -177,11 +146,11 @@ pub fn read_into(
     labels: &mut [u16],
     strata: &mut [u16],
     distances: &mut [f64],
-) -> Answer
+) -> Result<Header, Refusal>
     requires { Room labels.old strata.old distances.old }
     ensures { called result labels.new strata.new distances.new ≡ read_call text.now }
 {
-    let mut seen = [0u8; 1024];
+    let mut seen = [false; 1024];
     read_with(text, labels, strata, distances, &mut seen)
 }
 
@@ -191,7 +160,7 @@ pub fn read_lot(
     labels: &mut [u16; 32],
     strata: &mut [u16; 32],
     distances: &mut [f64; 1024],
-) -> Answer
+) -> Result<Header, Refusal>
     ensures { called result labels.new strata.new distances.new ≡ read_call text.now }
 {
     read_into(text, labels, strata, distances)

@@ -13,42 +13,32 @@ fn line_end(text: &[u8], at: usize) -> usize
     requires { at ≤ length text.now }
     ensures { result ≡ at + first_at feed (drop at text.now) }
 {
-    let mut i = at;
-    while i < text.len() {
-        if text[i] == limits::LINE_FEED {
-            return i;
-        }
-        i += 1;
-    }
-    i
+    let rest = &text[at..];
+    let feed = rest.iter().position(|c| *c == limits::LINE_FEED);
+    at + feed.unwrap_or(rest.len())
 }
 
-// A frame, and where the next line starts.
-#[derive(Drop)]
+// A line's frame, and where the next line starts.
+#[derive(Clone, Copy, Debug, PartialEq, Eq)]
 pub struct Line {
-    pub frame: Frame,
+    pub frame: Option<Frame>,
     pub next: usize,
 }
 
-// The frame of the line at place at; none past the end.
+// The line at place at; past the end there is no frame.
 pub fn line_at(text: &[u8], at: usize) -> Line
     ensures { IsLine text.now at result.frame result.next }
 {
     if text.len() <= at {
         return Line {
-            frame: reader::no_frame(),
+            frame: None,
             next: at,
         };
     }
     let e = line_end(text, at);
-    let f = reader::parse(&text[at..e]);
-    if e < text.len() {
-        Line {
-            frame: f,
-            next: e + 1,
-        }
-    } else {
-        Line { frame: f, next: e }
+    Line {
+        frame: reader::parse(&text[at..e]),
+        next: text.len().min(e + 1),
     }
 }
 
@@ -57,10 +47,8 @@ pub fn ends_at(text: &[u8], at: usize) -> bool
     ensures { result ≡ is_end (frames_from text.now at) }
 {
     let l = line_at(text, at);
-    let f = l.frame;
-    let next = l.next;
-    if f.kind != 0xaf {
+    let Some(frame) = l.frame else {
         return false;
-    }
-    text.len() <= next
+    };
+    matches!(frame, Frame::End) && text.len() <= l.next
 }

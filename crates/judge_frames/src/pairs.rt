@@ -3,7 +3,7 @@ ghost use Rattle.std.specs.Prelude.{◌≡◌, ◌≤◌, length};
 ghost use Rattle.float.specs.Floats.{f64};
 ghost use Rattle.judge_frames.specs.inner.Pairs.{Put};
 
-use crate::reader::Frame;
+use crate::reader::Pair;
 
 // The f64 of a pattern; each pattern of a NaN is NaN.
 fn float_of(b: u64) -> f64
@@ -12,33 +12,27 @@ fn float_of(b: u64) -> f64
     if b % 0x8000_0000_0000_0000 <= 0x7ff0_0000_0000_0000 {
         return f64::from_bits(b);
     }
-    0.0 / 0.0
+    f64::NAN
 }
 
 // Puts a pair's distance at both its places, if it is a pair of the lot that was not seen.
-pub fn put_pair(f: Frame, n: usize, distances: &mut [f64], seen: &mut [u8]) -> bool
+pub fn put_pair(p: Pair, n: usize, distances: &mut [f64], seen: &mut [bool]) -> bool
     requires { (n ≤ 32) × (length distances.old ≡ 1024) × (length seen.old ≡ 1024) }
-    ensures { Put n f distances.old seen.old distances.new seen.new result }
+    ensures { Put n p distances.old seen.old distances.new seen.new result }
 {
-    if f.kind != 0xa3 {
+    let i = usize::from(p.i);
+    let j = usize::from(p.j);
+    if j <= i || n <= j {
         return false;
     }
-    let i = f.first as usize;
-    let j = f.second as usize;
-    if j <= i {
+    let upper = i * n + j;
+    if seen[upper] {
         return false;
     }
-    if n <= j {
-        return false;
-    }
-    let p = i * n + j;
-    if seen[p] != 0 {
-        return false;
-    }
-    let q = j * n + i;
-    let d = float_of(f.bits);
-    seen[p] = 1;
-    distances[p] = d;
-    distances[q] = d;
+    let lower = j * n + i;
+    let d = float_of(p.bits);
+    seen[upper] = true;
+    distances[upper] = d;
+    distances[lower] = d;
     true
 }

@@ -1,222 +1,165 @@
 // A line of the input of `lotjudge` (document 01, section 7): hexadecimal digits, the frame reader, and the line's frame.
-ghost use Rattle.std.specs.Prelude.{◌≡◌, ◌≤◌};
-ghost use Rattle.judge_frames.specs.Hex.{nibble, field_at};
-ghost use Rattle.judge_frames.specs.inner.Hex.{past as Hex·past};
-ghost use Rattle.judge_frames.specs.inner.Reader.{read_from, read_next, fields_at};
-ghost use Rattle.judge_frames.specs.Frame.{no_frame, frame_of, frame};
-
-// The number in a field of digits.
-#[derive(Clone, Copy)]
-pub enum Field {
-    Number(u64),
-    Malformed,
-}
+ghost use Rattle.std.specs.Prelude.{◌≡◌, ◌<◌, ◌≤◌, ◌^◌, length, IfSome};
+ghost use Rattle.judge_frames.specs.Hex.{nibble, spelled, field_at};
+ghost use Rattle.judge_frames.specs.inner.Reader.{moved};
+ghost use Rattle.judge_frames.specs.Frame.{opening, sample, pair, frame};
 
 // ---- the covered core: hexadecimal digits on a plain slice
 
-// The value of a digit of either case, 16 for any other byte.
-fn nibble_of(c: u8) -> u64
-    ensures { result ≡ nibble c }
+// The value of a digit of either case.
+fn nibble_of(c: u8) -> Option<u64>
+    ensures value { result ≡ nibble c }
+    ensures fits { IfSome result (λ d. d < 16) }
 {
-    let x = c as u64;
-    if x < 48 {
-        16
-    } else if x < 58 {
-        x - 48
-    } else if x < 65 {
-        16
-    } else if x < 71 {
-        x - 55
-    } else if x < 97 {
-        16
-    } else if x < 103 {
-        x - 87
-    } else {
-        16
+    match c {
+        b'0'..=b'9' => Some(u64::from(c - b'0')),
+        b'A'..=b'F' => Some(u64::from(c - b'A' + 10)),
+        b'a'..=b'f' => Some(u64::from(c - b'a' + 10)),
+        _ => None,
     }
+}
+
+// The number that digits spell, at most 16 of them.
+fn spelled(digits: &[u8]) -> Option<u64>
+    requires { length digits.now ≤ 16 }
+    ensures value { result ≡ spelled 0 digits.now }
+    ensures fits { IfSome result (λ v. v < 16 ^ length digits.now) }
+{
+    let mut v = 0;
+    for c in digits {
+        v = v * 16 + nibble_of(*c)?;
+    }
+    Some(v)
 }
 
 // The number in the count digits from place at on.
-pub fn digits_at(line: &[u8], at: usize, count: usize) -> Field
-    ensures { result ≡ field_at line.now at count }
+pub fn digits_at(line: &[u8], at: usize, count: usize) -> Option<u64>
+    ensures value { result ≡ field_at line.now at count }
+    ensures fits { IfSome result (λ v. v < 16 ^ count) }
 {
-    if 16 < count {
-        return Field::Malformed;
+    if 16 < count || line.len() < count || line.len() - count < at {
+        return None;
     }
-    if line.len() < count {
-        return Field::Malformed;
-    }
-    if line.len() - count < at {
-        return Field::Malformed;
-    }
-    let mut v: u64 = 0;
-    let mut i = 0;
-    while i < count {
-        let d = nibble_of(line[at + i]);
-        if 16 <= d {
-            return Field::Malformed;
-        }
-        v = v * 16 + d;
-        i += 1;
-    }
-    Field::Number(v)
+    spelled(&line[at..at + count])
 }
 
-// The place count further on, or the line's end where that comes first.
-fn past(line: &[u8], at: usize, count: usize) -> usize
-    ensures { result ≡ Hex·past line.now at count }
-{
-    if line.len() < count {
-        return line.len();
-    }
-    if line.len() - count < at {
-        return line.len();
-    }
-    at + count
-}
-
-// ---- the frame reader: it holds the line, its position and the field before it, and leaves the work to `digits_at` and `past`
+// ---- the frame reader: it holds the line and its position, and leaves the work to `digits_at`
 
 #[derive(Clone, Copy)]
 pub struct FrameReader<'a> {
     pub line: &'a [u8],
     pub at: usize,
-    pub field: Field,
 }
 
-// At a place, with no field before it.
-pub fn new<'a>(line: &'a [u8], at: usize) -> FrameReader<'a>
-    ensures { result ≡ read_from line.entry at }
-{
-    FrameReader {
-        line,
-        at,
-        field: Field::Malformed,
+impl<'a> FrameReader<'a> {
+    // At the line's start.
+    pub fn new(line: &'a [u8]) -> FrameReader<'a>
+        ensures { result ≡ record { line = line.entry; at = 0 } }
+    {
+        FrameReader { line, at: 0 }
     }
-}
 
-// The next count digits: the reader past them, and their field.
-pub fn next<'a>(r: FrameReader<'a>, count: usize) -> FrameReader<'a>
-    ensures { result ≡ read_next r.entry count }
-{
-    let field = digits_at(r.line, r.at, count);
-    let at = past(r.line, r.at, count);
-    FrameReader {
-        line: r.line,
-        at,
-        field,
-    }
-}
-
-// One field from a plain slice: who calls this or `fields_at` needs no walk by hand.
-pub fn field_at(line: &[u8], at: usize, count: usize) -> Field
-    ensures { result ≡ field_at line.now at count }
-{
-    next(new(line, at), count).field
-}
-
-// Four fields.
-#[derive(Drop)]
-pub struct Fields {
-    pub first: Field,
-    pub second: Field,
-    pub third: Field,
-    pub fourth: Field,
-}
-
-// Fields of a, b, c and d digits, one behind the other, from place at on.
-pub fn fields_at(line: &[u8], at: usize, a: usize, b: usize, c: usize, d: usize) -> Fields
-    ensures { result ≡ fields_at line.now at a b c d }
-{
-    let x = next(new(line, at), a);
-    let y = next(x, b);
-    let z = next(y, c);
-    let w = next(z, d);
-    Fields {
-        first: x.field,
-        second: y.field,
-        third: z.field,
-        fourth: w.field,
+    // The number in the next count digits; the reader moves past them, or to the line's end where that comes first.
+    pub fn next(&mut self, count: usize) -> Option<u64>
+        ensures value { result ≡ field_at self.old.line.now self.old.at count }
+        ensures moved { self.new ≡ moved self.old count }
+        ensures fits { IfSome result (λ v. v < 16 ^ count) }
+    {
+        let field = digits_at(self.line, self.at, count);
+        self.at = self.at.saturating_add(count).min(self.line.len());
+        field
     }
 }
 
 // ---- one line
 
-// A line's frame: its kind, 0 where it is malformed, and its numbers.
-#[derive(Drop)]
-pub struct Frame {
-    pub kind: u8,
-    pub first: u8,
-    pub second: u16,
-    pub third: u16,
+// `a1`: n, and whether strata are given.
+#[derive(Clone, Copy, Debug, PartialEq, Eq)]
+pub struct Opening {
+    pub n: u8,
+    pub flag: u8,
+}
+
+// `a2`: a sample's label and stratum.
+#[derive(Clone, Copy, Debug, PartialEq, Eq)]
+pub struct Sample {
+    pub index: u8,
+    pub label: u16,
+    pub stratum: u16,
+}
+
+// `a3`: two samples, and the bits of their distance.
+#[derive(Clone, Copy, Debug, PartialEq, Eq)]
+pub struct Pair {
+    pub i: u8,
+    pub j: u8,
     pub bits: u64,
 }
 
-// No frame.
-pub fn no_frame() -> Frame
-    ensures { result ≡ no_frame }
-{
-    Frame {
-        kind: 0,
-        first: 0,
-        second: 0,
-        third: 0,
-        bits: 0,
-    }
+// A line's frame, by its kind.
+#[derive(Clone, Copy, Debug, PartialEq, Eq)]
+pub enum Frame {
+    Header(Opening),
+    Sample(Sample),
+    Pair(Pair),
+    End,
 }
 
-// The line as a frame of the kind, with numbers of a, b, c and d digits.
-fn frame_of(line: &[u8], kind: u8, a: usize, b: usize, c: usize, d: usize) -> Frame
-    requires { (a ≤ 2) × (b ≤ 4) × (c ≤ 4) × (d ≤ 16) }
-    ensures { result ≡ frame_of kind a b c d line.now }
+// The frame of a line whose kind the reader has passed, by its numbers.
+#[tactic(auto, unfolding(crate::specs::Frame::opening))]
+fn opening_on(mut r: FrameReader) -> Option<Frame>
+    requires { (r.at ≡ 2) × (length r.line.now ≡ 6) }
+    ensures { result ≡ opening r.entry.line.now }
 {
-    if line.len() != 2 + a + b + c + d {
-        return no_frame();
-    }
-    let f = fields_at(line, 2, a, b, c, d);
-    let first = f.first;
-    let second = f.second;
-    let third = f.third;
-    let fourth = f.fourth;
-    let Field::Number(x) = first else {
-        return no_frame();
-    };
-    let Field::Number(y) = second else {
-        return no_frame();
-    };
-    let Field::Number(z) = third else {
-        return no_frame();
-    };
-    let Field::Number(w) = fourth else {
-        return no_frame();
-    };
-    Frame {
-        kind,
-        first: x as u8,
-        second: y as u16,
-        third: z as u16,
-        bits: w,
-    }
+    let n = r.next(2)?;
+    let flag = r.next(2)?;
+    Some(Frame::Header(Opening {
+        n: n as u8,
+        flag: flag as u8,
+    }))
+}
+
+#[tactic(auto, unfolding(crate::specs::Frame::sample))]
+fn sample_on(mut r: FrameReader) -> Option<Frame>
+    requires { (r.at ≡ 2) × (length r.line.now ≡ 12) }
+    ensures { result ≡ sample r.entry.line.now }
+{
+    let index = r.next(2)?;
+    let label = r.next(4)?;
+    let stratum = r.next(4)?;
+    Some(Frame::Sample(Sample {
+        index: index as u8,
+        label: label as u16,
+        stratum: stratum as u16,
+    }))
+}
+
+#[tactic(auto, unfolding(crate::specs::Frame::pair))]
+fn pair_on(mut r: FrameReader) -> Option<Frame>
+    requires { (r.at ≡ 2) × (length r.line.now ≡ 22) }
+    ensures { result ≡ pair r.entry.line.now }
+{
+    let i = r.next(2)?;
+    let j = r.next(2)?;
+    let bits = r.next(16)?;
+    Some(Frame::Pair(Pair {
+        i: i as u8,
+        j: j as u8,
+        bits,
+    }))
 }
 
 // The line's frame.
-pub fn parse(line: &[u8]) -> Frame
+#[tactic(auto, unfolding(crate::specs::Frame::frame, crate::specs::Frame::of_kind))]
+pub fn parse(line: &[u8]) -> Option<Frame>
     ensures { result ≡ frame line.now }
 {
-    let Field::Number(kind) = field_at(line, 0, 2) else {
-        return no_frame();
-    };
-    if kind == 0xa1 {
-        return frame_of(line, 0xa1, 2, 2, 0, 0);
+    let mut r = FrameReader::new(line);
+    match r.next(2)? {
+        0xa1 if line.len() == 6 => opening_on(r),
+        0xa2 if line.len() == 12 => sample_on(r),
+        0xa3 if line.len() == 22 => pair_on(r),
+        0xaf if line.len() == 2 => Some(Frame::End),
+        _ => None,
     }
-    if kind == 0xa2 {
-        return frame_of(line, 0xa2, 2, 4, 4, 0);
-    }
-    if kind == 0xa3 {
-        return frame_of(line, 0xa3, 2, 2, 0, 16);
-    }
-    if kind == 0xaf {
-        return frame_of(line, 0xaf, 0, 0, 0, 0);
-    }
-    no_frame()
 }

@@ -3,15 +3,15 @@ ghost use Rattle.std.specs.Prelude.{◌+◌, ◌<◌, ◌≤◌, ◌≡◌, leng
 ghost use Rattle.judge_printing.specs.Hex.{digit, hex, feed};
 ghost use Rattle.judge_printing.specs.inner.Written.{Wrote};
 
-// A digit in lower case.
+// A digit in lower case: `char::from_digit` would answer a `char` in an Option, to be taken out and narrowed.
 fn digit_of(v: u64) -> u8
     requires { v < 16 }
     ensures { result ≡ digit v }
 {
     if v < 10 {
-        (48 + v) as u8
+        b'0' + v as u8
     } else {
-        (87 + v) as u8
+        b'a' - 10 + v as u8
     }
 }
 
@@ -20,11 +20,9 @@ pub fn put_hex(out: &mut [u8], at: usize, count: usize, v: u64) -> usize
     requires { (at + count ≤ length out.old) × (count ≤ 16) }
     ensures { Wrote out.old at count (hex count v) out.new result }
 {
-    let mut i = 0;
-    while i < count {
+    for i in 0..count {
         let shift = 4 * (count - i - 1);
         out[at + i] = digit_of((v >> shift) % 16);
-        i += 1;
     }
     at + count
 }

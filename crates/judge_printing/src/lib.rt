@@ -11,14 +11,15 @@ ghost use Rattle.judge_printing.specs.Hex.{hex, feed};
 ghost use Rattle.judge_printing.specs.inner.Written.{Wrote};
 ghost use Rattle.judge_printing.specs.Page.{page, onto};
 ghost use Rattle.outcome.specs.Numbers.{number};
-ghost use Rattle.judge_printing.specs.Printed.{given_of, tested_line, assigned_line, verdict_lines, refusal_line, printed};
+ghost use Rattle.judge_printing.specs.Printed.{tested_line, assigned_line, verdict_lines, refusal_line, printed};
 
-use exhaustive_hits::Assignment;
-use exhaustive_hits::every_way::Answer;
-use exhaustive_hits::judgement::{Assigned, Judgement, Tested};
+use exhaustive_hits::judgement::{Judgement, Tested};
 use outcome::Refusal;
+use permanova_p_values::Statistic;
 
 // ---- lines
+
+// Each kind of line is a number: the output's lines begin with it, each of them in one place below.
 
 // A line of a kind with one number of two digits.
 fn put_short(out: &mut [u8], at: usize, kind: u64, x: u64) -> usize
@@ -42,31 +43,19 @@ fn put_line(out: &mut [u8], at: usize, kind: u64, x: u64, count: usize, y: u64, 
     hexadecimal::put_feed(out, s)
 }
 
-// ---- the values of each case
-
 // The bits of an f64.
 fn pattern_of(f: f64) -> u64
     ensures { result ≡ bits f }
 {
-    if f != f {
+    if f.is_nan() {
         return 0x7ff8_0000_0000_0000;
     }
-    f64::to_bits(f)
-}
-
-// 01 where there is an assignment, 02 where there is none.
-fn given_of(a: Assignment) -> u64
-    ensures { result ≡ given_of a }
-{
-    if exhaustive_hits::is_given(a) {
-        return 1;
-    }
-    2
+    f.to_bits()
 }
 
 // ---- the lines of a verdict
 
-fn put_tested(out: &mut [u8], at: usize, kind: u64, t: Tested) -> usize
+fn put_tested(out: &mut [u8], at: usize, kind: u64, t: Tested<Statistic>) -> usize
     requires { at + 29 ≤ length out.old }
     ensures { Wrote out.old at 29 (tested_line kind t.statistic t.hits) out.new result }
 {
@@ -76,23 +65,28 @@ fn put_tested(out: &mut [u8], at: usize, kind: u64, t: Tested) -> usize
     put_line(out, at, kind, state, 16, pattern_of(f), t.hits as u64)
 }
 
-fn put_assigned(out: &mut [u8], at: usize, t: Assigned) -> usize
+// 01 and how many are right, or 02 and 0 where there is no assignment.
+fn put_assigned(out: &mut [u8], at: usize, t: Tested<Option<usize>>) -> usize
     requires { at + 15 ≤ length out.old }
-    ensures { Wrote out.old at 15 (assigned_line t.assignment t.hits) out.new result }
+    ensures { Wrote out.old at 15 (assigned_line t.statistic t.hits) out.new result }
 {
-    let a = t.assignment;
-    let right = exhaustive_hits::right_of(a);
-    put_line(out, at, 0xb5, given_of(a), 2, right, t.hits as u64)
+    match t.statistic {
+        Some(right) => put_line(out, at, 0xb5, 1, 2, right as u64, t.hits as u64),
+        None => put_line(out, at, 0xb5, 2, 2, 0, t.hits as u64),
+    }
 }
 
 fn print_verdict(v: Judgement, out: &mut [u8]) -> usize
     requires { most_printed ≤ length out.old }
     ensures { Wrote out.old 0 most_printed (verdict_lines v) out.new result }
 {
-    let summary = v.summary;
-    let location = v.location;
-    let dispersion = v.dispersion;
-    let assigned = v.assigned;
+    let Judgement {
+        summary,
+        ways,
+        location,
+        dispersion,
+        assigned,
+    } = v;
     let p = put_line(
         out,
         0,
@@ -100,7 +94,7 @@ fn print_verdict(v: Judgement, out: &mut [u8]) -> usize
         summary.n as u64,
         2,
         summary.n_groups as u64,
-        v.ways as u64,
+        ways as u64,
     );
     let q = put_tested(out, p, 0xb2, location);
     let r = put_tested(out, q, 0xb3, dispersion);
@@ -112,22 +106,22 @@ fn print_refusal(r: Refusal, out: &mut [u8]) -> usize
     requires { 5 ≤ length out.old }
     ensures { Wrote out.old 0 5 (refusal_line (number r)) out.new result }
 {
-    put_short(out, 0, 0xbf, outcome::number_of(r) as u64)
+    put_short(out, 0, 0xbf, u64::from(u8::from(r)))
 }
 
 // `print` on a slice.
-pub fn print_into(a: Answer, out: &mut [u8]) -> usize
+pub fn print_into(a: Result<Judgement, Refusal>, out: &mut [u8]) -> usize
     requires { most_printed ≤ length out.old }
     ensures { page result out.new ≡ onto (printed (answer_of a)) out.old }
 {
     match a {
-        Answer::Judged(v) => print_verdict(v, out),
-        Answer::Refused(r) => print_refusal(r, out),
+        Ok(v) => print_verdict(v, out),
+        Err(r) => print_refusal(r, out),
     }
 }
 
 // Prints a verdict or a refusal at the front of `out`; the answer is the number of bytes.
-pub fn print(a: Answer, out: &mut [u8; limits::MOST_PRINTED]) -> usize
+pub fn print(a: Result<Judgement, Refusal>, out: &mut [u8; limits::MOST_PRINTED]) -> usize
     ensures { page result out.new ≡ onto (printed (answer_of a)) out.old }
 {
     print_into(a, out)

@@ -9,6 +9,7 @@ pub mod Rows
 pub mod Numbers
 pub mod Truths
 pub mod Searches
+pub mod Chains
 pub mod Parts
 pub mod Fronts
 pub mod Zips

@@ -9,13 +9,17 @@ pub fn how_many(labels: &[u16], l: u16) -> u16
     requires { length labels.now < 65536 }
     ensures { result ≡ how_many l labels.now }
 {
-    let mut count: u16 = 0;
-    for i in 0..labels.len() {
-        if l == labels[i] {
-            count += 1;
-        }
-    }
-    count
+    labels.iter().filter(|x| **x == l).count() as u16
+}
+
+// What the tests are given of n samples: n by n distances row by row, a label for each, and for each a stratum and a weight where they are given.
+#[derive(Clone, Copy)]
+pub struct Lot<'a> {
+    pub n: usize,
+    pub distances: &'a [f64],
+    pub labels: &'a [u16],
+    pub strata: Option<&'a [u16]>,
+    pub weights: Option<&'a [f64]>,
 }
 
 // How many samples are kept, and how many groups they are in.

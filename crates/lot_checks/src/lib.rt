@@ -1,20 +1,21 @@
 // Lines 1 to 5 of the table, and 14, in three groups: sizes, which the ordination shares, the matrix, which it shares too, and labels with their weights.
 #![tactic(auto)]
 
-ghost use Rattle.std.specs.Prelude.{◌≡◌, ◌*◌, ◌<◌, ◌&&◌, ◌||◌, not, eqb, ltb, length, get_or};
+ghost use Rattle.std.specs.Prelude.{◌≡◌, ◌*◌, ◌<◌, ◌&&◌, ◌||◌, not, is_some, eqb, ltb, length, get_or};
 ghost use Rattle.std.specs.Float.Ieee.{le};
 ghost use Rattle.lists.specs.Filters.{any, first_at};
 ghost use Rattle.outcome.specs.Numbers.{told};
 ghost use Rattle.outcome.specs.Refusals.{first};
 ghost use Rattle.limits.specs.Limits.{none};
-ghost use Rattle.lot.specs.Lot.{lot_of};
+ghost use Rattle.lot.specs.Given.{held_by, lot_given};
 ghost use Rattle.lot.specs.Kept as spec;
 ghost use Rattle.lot.specs.Mirror as mirror;
 ghost use Rattle.lot.specs.inner.Mirror.{row_unmirrored};
-ghost use Rattle.lot.specs.Lines.{bad_weight, size_lines, matrix_lines, label_lines, test_lines};
+ghost use Rattle.lot.specs.Lines.{bad_weight, misfits, size_lines, matrix_lines, label_lines, test_lines};
 
+use lot::Lot;
 use lot_design::kept;
-use outcome::{Check, Refusal};
+use outcome::Refusal;
 
 // The least weight, 2 ^ -20, and the most that a weight or a distance may be, 2 ^ 20.
 const LEAST: f64 = 0.00000095367431640625;
@@ -32,35 +33,27 @@ pub fn is_square(len: usize, n: usize) -> bool
 }
 
 // Whether an argument that is given does not have n entries.
-fn unfit(given: bool, len: usize, n: usize) -> bool
-    ensures { result ≡ (given && not (eqb len n)) }
+fn unfit<T>(given: Option<&[T]>, n: usize) -> bool
+    ensures { result ≡ (is_some given.entry && not (eqb (length (held_by given.entry)) n)) }
 {
-    if given { len != n } else { false }
+    given.is_some_and(|l| l.len() != n)
 }
 
-// Whether a lot whose parts have these lengths does not fit n, or a lent slice is short.
-fn misfits(
-    n: usize,
-    distances: usize,
-    labels: usize,
-    stratified: bool,
-    strata: usize,
-    weighted: bool,
-    weights: usize,
-    short: bool,
-) -> bool
-    ensures { result ≡ (not (eqb distances (n * n)) || not (eqb labels n) || (stratified && not (eqb strata n)) || (weighted && not (eqb weights n)) || short) }
+// Whether the parts of a lot do not fit n, or a lent slice is short.
+fn misfits(lot: Lot<'_>, short: bool) -> bool
+    ensures { result ≡ (misfits (lot_given lot.entry) || short) }
 {
-    if !is_square(distances, n) {
+    let n = lot.n;
+    if !is_square(lot.distances.len(), n) {
         return true;
     }
-    if labels != n {
+    if lot.labels.len() != n {
         return true;
     }
-    if unfit(stratified, strata, n) {
+    if unfit(lot.strata, n) {
         return true;
     }
-    if unfit(weighted, weights, n) {
+    if unfit(lot.weights, n) {
         return true;
     }
     short
@@ -80,12 +73,7 @@ fn outside(lo: f64, hi: f64, x: f64) -> bool
 pub fn any_outside(lo: f64, hi: f64, xs: &[f64]) -> bool
     ensures { result ≡ any (λ x. not (le lo x && le x hi)) xs.now }
 {
-    for i in 0..xs.len() {
-        if outside(lo, hi, xs[i]) {
-            return true;
-        }
-    }
-    false
+    xs.iter().any(|x| outside(lo, hi, *x))
 }
 
 // ---- the matrix and its mirror
@@ -118,20 +106,18 @@ fn unmirrored(distances: &[f64], n: usize) -> bool
 
 // ---- labels and weights
 
-// The first label that two samples have, other than l; none where there is no such label.
+// The first label that two samples have, other than l; where there is no such label, the number that the samples without a label hold.
 fn other_label(labels: &[u16], l: u16) -> u16
     requires { length labels.now < 65536 }
     ensures { result ≡ get_or labels.now (first_at (λ x. not (eqb x l) && spec.twice labels.now x) labels.now) none }
 {
-    for i in 0..labels.len() {
-        let x = labels[i];
-        if x != l {
-            if kept::twice(labels, x) {
-                return x;
-            }
-        }
+    let first = labels
+        .iter()
+        .position(|x| *x != l && kept::twice(labels, *x));
+    match first {
+        Some(i) => labels[i],
+        None => limits::NONE,
     }
-    limits::NONE
 }
 
 // Whether fewer than two labels are held by two samples.
@@ -144,92 +130,63 @@ pub fn few_labels(labels: &[u16]) -> bool
 }
 
 // Whether a weight that is given is not within 2 ^ -20 to 2 ^ 20.
-fn bad_weights(weighted: bool, weights: &[f64]) -> bool
-    ensures { result ≡ (weighted && any bad_weight weights.now) }
+fn bad_weights(weights: Option<&[f64]>) -> bool
+    ensures { result ≡ (is_some weights.entry && any bad_weight (held_by weights.entry)) }
 {
-    if weighted {
-        return any_outside(LEAST, MOST, weights);
-    }
-    false
+    weights.is_some_and(|w| any_outside(LEAST, MOST, w))
 }
 
 // ---- the groups
 
 // Lines 1 and 2, for n samples. `misfit` says that a length does not fit n or a lent slice is short, `beyond` that another argument is beyond its limit.
-pub fn check_sizes(misfit: bool, n: usize, beyond: bool) -> Check
+pub fn check_sizes(misfit: bool, n: usize, beyond: bool) -> Result<(), Refusal>
     ensures { told result ≡ first (size_lines misfit n beyond) }
 {
     if misfit {
-        return Check::Refused(Refusal::Length);
+        return Err(Refusal::Length);
     }
     if n > limits::MOST_SAMPLES {
-        return Check::Refused(Refusal::Limit);
+        return Err(Refusal::Limit);
     }
     if beyond {
-        return Check::Refused(Refusal::Limit);
+        return Err(Refusal::Limit);
     }
-    Check::Passed
+    Ok(())
 }
 
 // Lines 3 and 14, by n by n distances alone.
-pub fn check_matrix(distances: &[f64], n: usize) -> Check
+pub fn check_matrix(distances: &[f64], n: usize) -> Result<(), Refusal>
     requires { length distances.now ≡ n * n }
     ensures { told result ≡ first (matrix_lines n distances.now) }
 {
     if any_outside(0.0, MOST, distances) {
-        return Check::Refused(Refusal::Value);
+        return Err(Refusal::Value);
     }
     if unmirrored(distances, n) {
-        return Check::Refused(Refusal::Mirror);
+        return Err(Refusal::Mirror);
     }
-    Check::Passed
+    Ok(())
 }
 
 // Lines 4 and 5.
-fn check_labels(labels: &[u16], weighted: bool, weights: &[f64]) -> Check
+fn check_labels(labels: &[u16], weights: Option<&[f64]>) -> Result<(), Refusal>
     requires { length labels.now < 65536 }
-    ensures { told result ≡ first (label_lines labels.now weighted weights.now) }
+    ensures { told result ≡ first (label_lines labels.now (is_some weights.entry) (held_by weights.entry)) }
 {
-    if bad_weights(weighted, weights) {
-        return Check::Refused(Refusal::Weight);
+    if bad_weights(weights) {
+        return Err(Refusal::Weight);
     }
     if few_labels(labels) {
-        return Check::Refused(Refusal::Labels);
+        return Err(Refusal::Labels);
     }
-    Check::Passed
+    Ok(())
 }
 
 // The line by which the tests turn a lot away. `short` says that an output or work slice is short, `beyond` that another argument is beyond its limit.
-pub fn check_lot(
-    n: usize,
-    distances: &[f64],
-    labels: &[u16],
-    stratified: bool,
-    strata: &[u16],
-    weighted: bool,
-    weights: &[f64],
-    short: bool,
-    beyond: bool,
-) -> Check
-    ensures { told result ≡ first (test_lines (lot_of n distances.now labels.now stratified strata.now weighted weights.now) short beyond) }
+pub fn check_lot(lot: Lot<'_>, short: bool, beyond: bool) -> Result<(), Refusal>
+    ensures { told result ≡ first (test_lines (lot_given lot.entry) short beyond) }
 {
-    let misfit = misfits(
-        n,
-        distances.len(),
-        labels.len(),
-        stratified,
-        strata.len(),
-        weighted,
-        weights.len(),
-        short,
-    );
-    let sizes = check_sizes(misfit, n, beyond);
-    let Check::Passed = sizes else {
-        return sizes;
-    };
-    let matrix = check_matrix(distances, n);
-    let Check::Passed = matrix else {
-        return matrix;
-    };
-    check_labels(labels, weighted, weights)
+    check_sizes(misfits(lot, short), lot.n, beyond)?;
+    check_matrix(lot.distances, lot.n)?;
+    check_labels(lot.labels, lot.weights)
 }

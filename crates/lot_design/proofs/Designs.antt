@@ -1,5 +1,5 @@
 -- A description is a design, and a design of an accepted lot is sound.
-use Rattle.lists.proofs.Base.{◌≡◌, refl, sym, ap, ◌∙◌, subst, Bool, List, ◌++◌, ℕ, ◌≤◌, arith, length, take, drop, length-take-le}
+use Rattle.lists.proofs.Base.{◌≡◌, sym, ap, ◌∙◌, subst, Bool, List, ◌++◌, ℕ, ◌≤◌, arith, length, take, drop, length-take-le}
 use Rattle.lists.specs.Writes.{over}
 use Rattle.lists.specs.inner.Numbers.{Below}
 use Rattle.lists.proofs.Writes.{take-over}
@@ -27,10 +27,10 @@ module _ (lot : Lot) {shape : Shape} {ks ns gs ss ks' ns' gs' ss' : List ℕ} (d
   front-strata : take shape.kept ss' ≡ strata lot
   front-strata = ap (take shape.kept) d.stratified ∙ take-over (strata lot) ss shape.kept (length-strata lot ∙ sym kept-many)
 
-  pub designed : {informing n : ℕ} {left : Bool} → length (take shape.kept ss') ≡ shape.kept
+  pub designed : {given : Bool} {informing n : ℕ} {left : Bool} → given ≡ lot.stratified → length (take shape.kept ss') ≡ shape.kept
       → informing ≡ informative (take shape.kept ss') (take shape.kept gs') (length (take shape.kept ss')) → left ≡ left_out lot.labels → n ≡ length lot.labels
       → Describes lot (record {
-        stratified = lot.stratified;
+        stratified = given;
         left_out = left;
         n = n;
         kept = shape.kept;
@@ -43,8 +43,8 @@ module _ (lot : Lot) {shape : Shape} {ks ns gs ss ks' ns' gs' ss' : List ℕ} (d
         stratum = ss';
       })
   unfolding informative_count
-  designed long counted told all = record {
-    stratified = refl;
+  designed same long counted told all = record {
+    stratified = same;
     left_out = told;
     many = all;
     kept_many = kept-many;

@@ -5,9 +5,10 @@ pub mod description;
 pub mod kept;
 pub mod strata;
 
-ghost use Rattle.std.specs.Prelude.{◌≡◌, ◌<◌, ◌≤◌, length};
+ghost use Rattle.std.specs.Prelude.{◌≡◌, ◌<◌, ◌≤◌, length, is_some};
 ghost use Rattle.limits.specs.Limits.{most_samples};
 ghost use Rattle.lists.specs.Writes.{over};
+ghost use Rattle.lot.specs.Given.{held_by};
 ghost use Rattle.lot.specs.Kept.{left_out, kept_count};
 ghost use Rattle.lot.specs.inner.Description.{samples_of};
 ghost use Rattle.lot_design.specs.inner.Designs.{group_labels_of, Designable, Describes};
@@ -23,7 +24,8 @@ pub struct Design {
     pub groups: usize,
     pub strata: usize,
     pub informing: usize,
-    // the kept samples, the groups' labels, and the group and the stratum of each kept sample, from the front
+    // the kept samples, the groups' labels, and the group and the stratum of each kept sample, from the front: arrays with their lengths beside them, since nothing is
+    // allocated
     pub samples: [u16; limits::MOST_SAMPLES],
     pub labels: [u16; limits::MOST_SAMPLES],
     pub group: [u16; limits::MOST_SAMPLES],
@@ -40,22 +42,20 @@ fn left_out(labels: &[u16], m: usize) -> bool
 }
 
 // The design of these labels, within these strata.
-pub fn design_of(labels: &[u16], stratified: bool, given: &[u16]) -> Design
-    requires { Designable (samples_of labels.now stratified given.now) }
-    ensures { Describes (samples_of labels.now stratified given.now) result }
+pub fn design_of(labels: &[u16], strata: Option<&[u16]>) -> Design
+    requires { Designable (samples_of labels.now (is_some strata) (held_by strata)) }
+    ensures { Describes (samples_of labels.now (is_some strata.entry) (held_by strata.entry)) result }
 {
     let mut ks = [0u16; limits::MOST_SAMPLES];
     let mut ns = [0u16; limits::MOST_SAMPLES];
     let mut gs = [0u16; limits::MOST_SAMPLES];
     let mut ss = [0u16; limits::MOST_SAMPLES];
-    let shape = description::describe(
-        labels, stratified, given, &mut ks, &mut ns, &mut gs, &mut ss,
-    );
+    let shape = description::describe(labels, strata, &mut ks, &mut ns, &mut gs, &mut ss);
     let m = shape.kept;
     let informing = strata::informative(&ss[..m], &gs[..m]);
     let left = left_out(labels, m);
     Design {
-        stratified,
+        stratified: strata.is_some(),
         left_out: left,
         n: labels.len(),
         kept: m,
@@ -75,6 +75,5 @@ pub fn fill_group_labels(d: Design, out: &mut [u16])
     ensures { out.new ≡ over (group_labels_of d) out.old }
 {
     let g = d.groups;
-    let ns = d.labels;
-    lists::copy_u16(&mut out[..g], &ns[..g]);
+    out[..g].copy_from_slice(&d.labels[..g]);
 }

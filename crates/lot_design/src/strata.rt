@@ -1,33 +1,24 @@
 // Strata of the kept samples, and which of them inform (section 2).
-ghost use Rattle.std.specs.Prelude.{◌≡◌, ◌+◌, ◌<◌, ◌≤◌, true, length, get_or, take};
+ghost use Rattle.std.specs.Prelude.{◌≡◌, ◌+◌, ◌<◌, ◌≤◌, true, length, get_or, take, is_some};
 ghost use Rattle.limits.specs.Limits.{most_samples, none};
 ghost use Rattle.float.specs.Floats.{◌⊘◌, num};
 ghost use Rattle.lists.specs.inner.Numbers.{Below};
 ghost use Rattle.lists.specs.Numbers as numbers;
 ghost use Rattle.lot.specs.inner.Filled.{Filled};
 ghost use Rattle.lot.specs.inner.Description.{Stratified};
+ghost use Rattle.lot.specs.Given.{held_by};
 ghost use Rattle.lot.specs.Strata as spec;
 ghost use Rattle.lot.specs.inner.Strata.{noted};
 ghost use Rattle.lot_design.specs.inner.Told.{Told};
 
 use crate::kept;
 
-// Whether x stands in the list.
-fn contains(xs: &[u16], x: u16) -> bool
-    ensures { result ≡ numbers.contains x xs.now }
-{
-    kept::place_of(xs, x) < xs.len()
-}
-
 // The stratum s joins the first k entries, unless it is none or stands there. Returns how many there are then.
 fn note(ns: &mut [u16], k: usize, s: u16) -> usize
     requires { k < length ns.old }
     ensures { Filled (noted (take k ns.old) s) ns.old ns.new result }
 {
-    if s == limits::NONE {
-        return k;
-    }
-    if contains(&ns[..k], s) {
+    if s == limits::NONE || ns[..k].contains(&s) {
         return k;
     }
     ns[k] = s;
@@ -40,8 +31,8 @@ fn fill_named(held: &[u16], ns: &mut [u16]) -> usize
     ensures { Filled (spec.named held.now) ns.old ns.new result }
 {
     let mut k: usize = 0;
-    for i in 0..held.len() {
-        k = note(ns, k, held[i]);
+    for s in held {
+        k = note(ns, k, *s);
     }
     k
 }
@@ -86,17 +77,21 @@ fn number(held: &mut [u16]) -> usize
 }
 
 // The stratum of each of the samples `ks` goes to the front of `out`. Returns how many strata there are.
-pub fn stratify(stratified: bool, given: &[u16], ks: &[u16], out: &mut [u16]) -> usize
-    requires { (stratified ≡ true → Below (length given.now) ks.now) × (length ks.now ≤ most_samples) × (length ks.now ≤ length out.old) }
-    ensures { Stratified stratified given.now ks.now out.old out.new result }
+pub fn stratify(given: Option<&[u16]>, ks: &[u16], out: &mut [u16]) -> usize
+    requires { (is_some given ≡ true → Below (length (held_by given)) ks.now) × (length ks.now ≤ most_samples) × (length ks.now ≤ length out.old) }
+    ensures { Stratified (is_some given.entry) (held_by given.entry) ks.now out.old out.new result }
 {
     let m = ks.len();
-    if stratified {
-        kept::gather(given, ks, out);
-        return number(&mut out[..m]);
+    match given {
+        Some(strata) => {
+            kept::gather(strata, ks, out);
+            number(&mut out[..m])
+        }
+        None => {
+            out[..m].fill(0);
+            1
+        }
     }
-    lists::clear_u16(&mut out[..m]);
-    1
 }
 
 // Whether the stratum of the sample k informs: one of its samples is in another group.
@@ -106,14 +101,7 @@ fn informs(ss: &[u16], gs: &[u16], k: usize) -> bool
 {
     let s = ss[k];
     let g = gs[k];
-    for b in 0..ss.len() {
-        if ss[b] == s {
-            if gs[b] != g {
-                return true;
-            }
-        }
-    }
-    false
+    ss.iter().zip(gs).any(|(t, h)| *t == s && *h != g)
 }
 
 // The same, where `told` says it of the sample before k: samples of one stratum in a row are looked at once.
@@ -121,10 +109,8 @@ fn informs_too(ss: &[u16], gs: &[u16], k: usize, told: bool) -> bool
     requires { (length gs.now ≡ length ss.now) × (k < length ss.now) × Told ss.now gs.now k told }
     ensures { result ≡ spec.informs ss.now gs.now (length ss.now) (get_or ss.now k 0) }
 {
-    if 0 < k {
-        if ss[k] == ss[k - 1] {
-            return told;
-        }
+    if 0 < k && ss[k] == ss[k - 1] {
+        return told;
     }
     informs(ss, gs, k)
 }

@@ -1,2 +1,2 @@
--- What one read of standard input did.
+-- What is printed of standard input.
 pub mod Reading

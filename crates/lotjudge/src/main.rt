@@ -4,94 +4,50 @@
 // interrupted one would count as failed.
 #![tactic(auto)]
 
-ghost use Rattle.std.specs.Prelude.{◌≡◌, ◌≤◌, length};
+ghost use Rattle.std.specs.Prelude.{◌≤◌, ◌<◌, ◌≡◌, length, IfOk};
 ghost use Rattle.std.specs.Counts.{IsPrefixLen};
+ghost use Rattle.std.specs.Io.KnownBytes.{IsAtEnd};
 ghost use Rattle.judge_printing.specs.Page.{page, onto};
-ghost use Rattle.judge.specs.Judge.{judge_input};
-ghost use Rattle.lotjudge.specs.Reading.{read_of, told_of, Fits};
+ghost use Rattle.lotjudge.specs.Reading.{printed_of};
 
-use exhaustive_hits::every_way::Answer;
 use outcome::Refusal;
 use std::io;
 
-// ---- reading
-
-// What one read did.
-#[derive(Drop)]
-pub enum Read {
-    Bytes(usize),
-    End,
-    Failed,
-}
-
-// What the answer of a read says. A read that failed is not the end, and is not tried again.
-fn read_of(got: io::Result<usize>) -> Read
-    ensures { result ≡ read_of (told_of got) }
+// Reads until the buffer is full, the input ends or a read fails; the answer is the number of bytes. A read that failed is not the end, and is not tried again.
+fn read_input<R: io::Read>(from: &mut R, buffer: &mut [u8]) -> io::Result<usize>
+    ensures within { IfOk result (λ n. IsPrefixLen n buffer.new) }
+    ensures whole { IfOk result (λ n. n < length buffer.new → IsAtEnd (R.remaining from.new)) }
 {
-    let Ok(n) = got else {
-        return Read::Failed;
-    };
-    if n == 0 {
-        return Read::End;
-    }
-    Read::Bytes(n)
-}
-
-// One read, behind the first n bytes.
-fn read_on<R: io::Read>(from: &mut R, buffer: &mut [u8], n: usize) -> Read
-    requires { n ≤ length buffer.old }
-    ensures { Fits (length buffer.old) n result }
-{
-    read_of(from.read(&mut buffer[n..]))
-}
-
-// What was read: the first n bytes of a buffer, and whether the last read failed.
-#[derive(Drop)]
-pub struct Input {
-    pub n: usize,
-    pub failed: bool,
-}
-
-// Reads until the buffer is full, the input ends or a read fails.
-fn read_input<R: io::Read>(from: &mut R, buffer: &mut [u8]) -> Input
-    ensures { IsPrefixLen result.n buffer.new }
-{
-    let mut n: usize = 0;
+    let mut n = 0;
     while n < buffer.len() {
-        let one = read_on(from, buffer, n);
-        match one {
-            Read::Bytes(k) => {
-                n += k;
-            }
-            Read::End => {
-                return Input { n, failed: false };
-            }
-            Read::Failed => {
-                return Input { n, failed: true };
-            }
+        let k = from.read(&mut buffer[n..])?;
+        if k == 0 {
+            return Ok(n);
         }
+        n += k;
     }
-    Input { n, failed: false }
+    Ok(n)
 }
 
-// ---- judging and writing
-
-// Prints at the front of `out` what is found of an input; the answer is the number of bytes.
+// Prints at the front of `out` what is found of an input, the bytes that were read to the front of `buffer`; the answer is the number of bytes.
 fn print_input(
     rt: &HostRuntime,
-    failed: bool,
-    text: &[u8],
+    read: io::Result<usize>,
+    buffer: &[u8],
     out: &mut [u8; limits::MOST_PRINTED],
 ) -> usize
-    ensures { page result out.new ≡ onto (judge_input failed text.now) out.old }
+    requires { IfOk read (λ n. n ≤ length buffer.now) }
+    ensures { page result out.new ≡ onto (printed_of read buffer.now) out.old }
 {
-    if failed {
-        let _ = rt
-            .stderr()
-            .write_all(b"lotjudge: reading standard input failed\n");
-        return judge_printing::print(Answer::Refused(Refusal::Frame), out);
+    match read {
+        Ok(n) => judge::judge(&buffer[..n], out),
+        Err(_) => {
+            let _ = rt
+                .stderr()
+                .write_all(b"lotjudge: reading standard input failed\n");
+            judge_printing::print(Err(Refusal::Frame), out)
+        }
     }
-    judge::judge(text, out)
 }
 
 // The first n bytes of `out`.
@@ -107,18 +63,19 @@ fn write_front(rt: &HostRuntime, out: &[u8], n: usize)
 
 fn judge_and_write(
     rt: &HostRuntime,
-    failed: bool,
-    text: &[u8],
+    read: io::Result<usize>,
+    buffer: &[u8],
     out: &mut [u8; limits::MOST_PRINTED],
-) {
-    let n = print_input(rt, failed, text, out);
+)
+    requires { IfOk read (λ n. n ≤ length buffer.now) }
+{
+    let n = print_input(rt, read, buffer, out);
     write_front(rt, out, n);
 }
 
 fn main(rt: HostRuntime) {
     let mut buffer = [0u8; limits::MOST_TEXT + 1];
     let mut out = [0u8; limits::MOST_PRINTED];
-    let input = read_input(&mut rt.stdin(), &mut buffer);
-    let n = input.n;
-    judge_and_write(&rt, input.failed, &buffer[..n], &mut out);
+    let read = read_input(&mut rt.stdin(), &mut buffer);
+    judge_and_write(&rt, read, &buffer, &mut out);
 }

@@ -1,9 +1,10 @@
 // The library for other languages (include/lotjudge.h): each operation on numbers and slices, with a number for its outcome: 0, or the refusal's.
 #![tactic(auto)]
 
-ghost use Rattle.std.specs.Prelude.{◌≡◌, ◌||◌, min, ltb};
+ghost use Rattle.std.specs.Prelude.{◌≡◌, ◌||◌, [], cond, min, ltb};
 ghost use Rattle.limits.specs.Limits.{most_columns, most_printed, most_samples};
 ghost use Rattle.square_root.specs.Root.{root};
+ghost use Rattle.lot.specs.Given.{lot_given};
 ghost use Rattle.lot.specs.Lot.{lot_of};
 ghost use Rattle.permanova.specs.Call.{slices_of, test_call};
 ghost use Rattle.exhaustive_hits.specs.Call as ways;
@@ -29,6 +30,28 @@ ghost use Rattle.lotjudge_c.specs.Exported.{export_test, test_export, export_way
 ghost use Rattle.lotjudge_c.specs.Exported.{export_dapc, dapc_export, export_jacobi, jacobi_export, export_top, top_export, export_gram, gram_export};
 
 use c_layouts::{layouts, lengths};
+use lot::Lot;
+
+// A lot by its parts, of which strata and weights are given or not. C has no options.
+fn lot_from<'a>(
+    n: usize,
+    distances: &'a [f64],
+    labels: &'a [u16],
+    strata_given: bool,
+    strata: &'a [u16],
+    weights_given: bool,
+    weights: &'a [f64],
+) -> Lot<'a>
+    ensures { lot_given result ≡ lot_of n distances.now labels.now strata_given (cond strata_given strata.now []) weights_given (cond weights_given weights.now []) }
+{
+    Lot {
+        n,
+        distances,
+        labels,
+        strata: strata_given.then_some(strata),
+        weights: weights_given.then_some(weights),
+    }
+}
 
 #[unsafe(no_mangle)]
 pub extern "C" fn lotjudge_test(
@@ -52,7 +75,7 @@ pub extern "C" fn lotjudge_test(
     ensures { test_export result (arrays values.new numbers.new) (slices_of group_labels.new counts.new means.new pair_terms.new weighted_squares.new)
         ≡ export_test (test_call (lot_of n distances.now labels.now strata_given strata.now weights_given weights.now) seed n_perm (slices_of group_labels.old counts.old means.old pair_terms.old weighted_squares.old)) (arrays values.old numbers.old) }
 {
-    let r = permanova::test(
+    let lot = lot_from(
         n,
         distances,
         labels,
@@ -60,6 +83,9 @@ pub extern "C" fn lotjudge_test(
         strata,
         weights_given,
         weights,
+    );
+    let r = permanova::test(
+        lot,
         seed,
         n_perm,
         group_labels,
@@ -96,7 +122,7 @@ pub extern "C" fn lotjudge_exhaustive(
         ≡ export_ways (ways.exhaustive_call (lot_of n distances.now labels.now strata_given strata.now weights_given weights.now)
         (ways.slices_of group_labels.old counts.old means.old pair_terms.old weighted_squares.old coords.old eigenpairs.old vectors.old label_counts.old)) (arrays values.old numbers.old) }
 {
-    let r = exhaustive::exhaustive(
+    let lot = lot_from(
         n,
         distances,
         labels,
@@ -104,6 +130,9 @@ pub extern "C" fn lotjudge_exhaustive(
         strata,
         weights_given,
         weights,
+    );
+    let r = exhaustive::exhaustive(
+        lot,
         group_labels,
         counts,
         means,
@@ -157,7 +186,7 @@ pub extern "C" fn lotjudge_hash_pca(
     let r = ordination_hash_pca::hash_pca(
         hashes, offsets, n, components, out, gram, eigenpairs, rotated, vectors, words,
     );
-    layouts::lay_selected(r, selected)
+    layouts::lay(r, selected)
 }
 
 #[unsafe(no_mangle)]
@@ -190,7 +219,7 @@ pub extern "C" fn lotjudge_jacobi_eigen(
         ≡ export_jacobi (jacobi_call n a.now out.old rotated.old vectors.old) sweeps.old }
 {
     let r = eigen_jacobi::jacobi_eigen(a, n, out, rotated, vectors);
-    layouts::lay_sweeps(r, sweeps)
+    layouts::lay(r, sweeps)
 }
 
 #[unsafe(no_mangle)]
@@ -223,7 +252,7 @@ pub extern "C" fn lotjudge_gram_matrix(
         ≡ export_gram (gram_call n hashes.now offsets.now out.old words.old) selected.old }
 {
     let r = ordination_gram::gram_matrix(hashes, offsets, n, out, words);
-    layouts::lay_selected(r, selected)
+    layouts::lay(r, selected)
 }
 
 #[unsafe(no_mangle)]
@@ -247,21 +276,21 @@ pub extern "C" fn lotjudge_sqrt(x: f64) -> f64
 pub extern "C" fn lotjudge_test_lengths(n: usize, lengths: &mut [usize; 5]) -> u8
     ensures { told result lengths.new ≡ tell (ltb most_samples n) (test_asks n) lengths.old }
 {
-    lengths::test_lengths(n, lengths)
+    layouts::lay(lengths::test_lengths(n), lengths)
 }
 
 #[unsafe(no_mangle)]
 pub extern "C" fn lotjudge_exhaustive_lengths(n: usize, lengths: &mut [usize; 9]) -> u8
     ensures { told result lengths.new ≡ tell (ltb most_samples n) (exhaustive_asks n) lengths.old }
 {
-    lengths::exhaustive_lengths(n, lengths)
+    layouts::lay(lengths::exhaustive_lengths(n), lengths)
 }
 
 #[unsafe(no_mangle)]
 pub extern "C" fn lotjudge_pcoa_lengths(n: usize, components: usize, lengths: &mut [usize; 5]) -> u8
     ensures { told result lengths.new ≡ tell (ltb most_samples n || bad_components components) (pcoa_asks n (min components n)) lengths.old }
 {
-    lengths::pcoa_lengths(n, components, lengths)
+    layouts::lay(lengths::pcoa_lengths(n, components), lengths)
 }
 
 #[unsafe(no_mangle)]
@@ -272,21 +301,21 @@ pub extern "C" fn lotjudge_hash_pca_lengths(
 ) -> u8
     ensures { told result lengths.new ≡ tell (ltb most_samples n || bad_components components) (hash_pca_asks n (min components n)) lengths.old }
 {
-    lengths::hash_pca_lengths(n, components, lengths)
+    layouts::lay(lengths::hash_pca_lengths(n, components), lengths)
 }
 
 #[unsafe(no_mangle)]
 pub extern "C" fn lotjudge_dapc_lengths(n: usize, columns: usize, lengths: &mut [usize; 2]) -> u8
     ensures { told result lengths.new ≡ tell (ltb most_samples n || ltb most_columns columns) (dapc_asks n columns) lengths.old }
 {
-    lengths::dapc_lengths(n, columns, lengths)
+    layouts::lay(lengths::dapc_lengths(n, columns), lengths)
 }
 
 #[unsafe(no_mangle)]
 pub extern "C" fn lotjudge_jacobi_eigen_lengths(n: usize, lengths: &mut [usize; 3]) -> u8
     ensures { told result lengths.new ≡ tell (ltb most_samples n) (jacobi_asks n) lengths.old }
 {
-    lengths::jacobi_lengths(n, lengths)
+    layouts::lay(lengths::jacobi_lengths(n), lengths)
 }
 
 #[unsafe(no_mangle)]
@@ -297,14 +326,14 @@ pub extern "C" fn lotjudge_top_eigs_lengths(
 ) -> u8
     ensures { told result lengths.new ≡ tell (ltb most_samples n || bad_components components) (top_asks n (min components n)) lengths.old }
 {
-    lengths::top_eigs_lengths(n, components, lengths)
+    layouts::lay(lengths::top_eigs_lengths(n, components), lengths)
 }
 
 #[unsafe(no_mangle)]
 pub extern "C" fn lotjudge_gram_matrix_lengths(n: usize, lengths: &mut [usize; 2]) -> u8
     ensures { told result lengths.new ≡ tell (ltb most_samples n) (gram_asks n) lengths.old }
 {
-    lengths::gram_lengths(n, lengths)
+    layouts::lay(lengths::gram_lengths(n), lengths)
 }
 
 #[unsafe(no_mangle)]

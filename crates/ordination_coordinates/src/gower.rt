@@ -5,15 +5,14 @@ ghost use Rattle.limits.specs.Limits.{most_samples};
 ghost use Rattle.lists.specs.Ranges.{table, grid};
 ghost use Rattle.ordination_coordinates.specs.Centred.{squares, mean, row_means, centring, centred_at, centred};
 
+use eigen_matrix::entrywise;
+
 // The squares of the distances.
 fn fill_squares(out: &mut [f64], d: &[f64])
     requires { length out.old ≡ length d.now }
     ensures { out.new ≡ squares d.now }
 {
-    for i in 0..d.len() {
-        let x = d[i];
-        out[i] = x * x;
-    }
+    entrywise::rewrite(out, |i, _| d[i] * d[i]);
 }
 
 // The mean of n numbers.
@@ -22,8 +21,8 @@ fn mean(l: &[f64], n: usize) -> f64
     ensures { result ≡ mean n l.now }
 {
     let mut s = -0.0;
-    for i in 0..l.len() {
-        s = s + l[i];
+    for x in l {
+        s += *x;
     }
     s / n as f64
 }
@@ -43,9 +42,7 @@ fn centre_row(row: &mut [f64], m: &[f64], a: f64, all: f64)
     requires { length m.now ≡ length row.old }
     ensures { row.new ≡ table (length row.old) (λ j. centring (get_or row.old j nan) a (get_or m.now j nan) all) }
 {
-    for j in 0..row.len() {
-        row[j] = -0.5 * (row[j] - a - m[j] + all);
-    }
+    entrywise::rewrite(row, |j, x| -0.5 * (x - a - m[j] + all));
 }
 
 // All rows.

@@ -4,7 +4,6 @@
 pub mod checks;
 pub mod gower;
 pub mod signs;
-pub mod slices;
 
 ghost use Rattle.std.specs.Prelude.{◌≡◌, ◌++◌, ◌+◌, ◌*◌, ◌<◌, ◌≤◌, length, take, drop};
 ghost use Rattle.limits.specs.Limits.{most_components};
@@ -13,9 +12,11 @@ ghost use Rattle.ordination_coordinates.specs.Signs.{signs};
 ghost use Rattle.ordination_coordinates.specs.Finish.{scale_of, scales, share_of, shares, coord_at, coords, laid};
 ghost use Rattle.ordination_coordinates.specs.Finish as spec;
 
+use eigen_matrix::entrywise;
+
 // ---- scales and shares
 
-// The root of a value, of 0 where it is below 0.
+// The root of a value, of 0 where it is below 0. A dispersion's distance is the same line; it is of another section, and neither crate stands on the other.
 fn scale_of(v: f64) -> f64
     ensures { result ≡ scale_of v }
 {
@@ -27,9 +28,7 @@ fn fill_scales(out: &mut [f64], values: &[f64])
     requires { length out.old ≡ length values.now }
     ensures { out.new ≡ scales values.now }
 {
-    for c in 0..values.len() {
-        out[c] = scale_of(values[c]);
-    }
+    entrywise::rewrite(out, |c, _| scale_of(values[c]));
 }
 
 // A value's share of the total variance.
@@ -37,9 +36,10 @@ fn share_of(total: f64, v: f64) -> f64
     ensures { result ≡ share_of total v }
 {
     if 0.0 < total {
-        return float::max(v, 0.0) / total;
+        float::max(v, 0.0) / total
+    } else {
+        0.0
     }
-    0.0
 }
 
 // The share of each value.
@@ -47,9 +47,7 @@ fn fill_shares(out: &mut [f64], values: &[f64], total: f64)
     requires { length out.old ≡ length values.now }
     ensures { out.new ≡ shares total values.now }
 {
-    for c in 0..values.len() {
-        out[c] = share_of(total, values[c]);
-    }
+    entrywise::rewrite(out, |c, _| share_of(total, values[c]));
 }
 
 // ---- coordinates
@@ -80,7 +78,7 @@ fn describe(out: &mut [f64], values: &[f64], total: f64)
     ensures { out.new ≡ values.now ++ shares total values.now }
 {
     let k = values.len();
-    lists::copy(&mut out[..k], values);
+    out[..k].copy_from_slice(values);
     fill_shares(&mut out[k..], values, total);
 }
 

@@ -6,10 +6,7 @@ ghost use Rattle.ordination_coordinates.specs.Signs.{stronger, largest, orient, 
 fn stronger(m: f64, x: f64) -> f64
     ensures { result ≡ stronger m x }
 {
-    if float::abs(m) < float::abs(x) {
-        return x;
-    }
-    m
+    if float::abs(m) < float::abs(x) { x } else { m }
 }
 
 // The entry of largest magnitude, the first of equals.
@@ -17,8 +14,8 @@ fn largest(v: &[f64]) -> f64
     ensures { result ≡ largest v.now }
 {
     let mut m = 0.0;
-    for i in 0..v.len() {
-        m = stronger(m, v[i]);
+    for x in v {
+        m = stronger(m, *x);
     }
     m
 }

@@ -1,10 +1,13 @@
--- The columns that a set has, one more, and the bits that two rows share, a word more.
-use Rattle.lists.proofs.Base.{◌≡◌, refl, sym, ap, ap₂, ◌∙◌, Bool, true, false, ◌||◌, ◌⊎◌, inl, inr, List, ℕ, ◌+◌, ◌<◌, ◌≤◌, arith, eq-eqb, ne_eqb}
-use Rattle.lists.proofs.Base.{length, get_or, take, drop, set, length-set, drop_of_length-le, get_or-set_same, get_or-set_other, ext_get_or, take_all}
-use lib.Bits.{bit_and}
-use lib.Count.{ones}
+-- The columns that a set has, one more, and the bits that two rows share, word by word.
+use Rattle.lists.proofs.Base.{◌≡◌, refl, sym, ap, ◌∙◌, Bool, true, false, ◌||◌, ◌⊎◌, inl, inr, List, ℕ, suc, ◌+◌, ◌*◌, ◌^◌, ◌<◌, ◌≤◌, arith, eq-eqb, ne_eqb}
+use Rattle.lists.proofs.Base.{length, get_or, take, set, length-set, get_or-set_same, get_or-set_other, ext_get_or, take_all}
+use Rattle.std.proofs.Common.{[], ◌∷◌, zip}
+use Rattle.std.specs.List.{sum_by}
+use Rattle.std.proofs.lemmas.List.Sums.{sum_by-cons}
+use lib.Bits.{bit_and, and_lt}
+use lib.Count.{ones, ones-le}
 use Rattle.lists.specs.{Ranges.table, Numbers.contains}
-use Rattle.lists.proofs.{Ranges.length-table, Ranges.get_or-table, Ranges.table-ext, Filters.drop_more}
+use Rattle.lists.proofs.{Ranges.length-table, Ranges.get_or-table, Ranges.table-ext}
 use Rattle.lists.proofs.{Truths.or-false, Truths.or-true, Truths.same_or_not, Tallies.contains-next}
 use Rattle.ordination_gram.specs.inner.Bits.{common, present}
 
@@ -43,12 +46,21 @@ module _ (m : ℕ) (s : List ℕ) (i : ℕ) (h : i < length s) where
 pub present-all : (m : ℕ) (s : List ℕ) (i : ℕ) → length s ≤ i → present m (take i s) ≡ present m s
 present-all m s i h = ap (λ (l : List ℕ). present m l) (take_all i s h)
 
--- ---- the bits that two rows share, a word more
+-- ---- the bits that two rows share, word by word
 
-pub common-next : (x y : List ℕ) (i : ℕ) → i < length x → i < length y → common (drop i x) (drop i y) ≡ ones (bit_and (get_or x i 0) (get_or y i 0)) + common (drop (i + 1) x) (drop (i + 1) y)
-unfolding common
-common-next x y i h k = ap₂ common (drop_more x i 0 h) (drop_more y i 0 k)
+abbrev pub shared_bits : ℕ × ℕ → ℕ
+shared_bits p = ones (bit_and p.0 p.1)
 
-pub common-end : (x y : List ℕ) (i : ℕ) → length x ≤ i → common (drop i x) (drop i y) ≡ 0
+pub common-sum : (x y : List ℕ) → common x y ≡ sum_by shared_bits (zip x y)
 unfolding common
-common-end x y i h = ap (λ (l : List ℕ). common l (drop i y)) (drop_of_length-le x h)
+common-sum [] y = refl
+common-sum (a ∷ x) [] = refl
+common-sum (a ∷ x) (b ∷ y) = ap (λ (n : ℕ). ones (bit_and a b) + n) (common-sum x y) ∙ sym (sum_by-cons shared_bits (a, b) (zip x y))
+
+-- at most 64 a word
+pub common-most : (x y : List ℕ) → ((i : ℕ) → get_or x i 0 < 2 ^ 64) → ((i : ℕ) → get_or y i 0 < 2 ^ 64) → common x y ≤ length x * 64
+unfolding common
+common-most [] y f g = omega arith
+common-most (a ∷ x) [] f g = omega arith
+common-most (a ∷ x) (b ∷ y) f g =
+    omega (arith, ones-le 64 (bit_and a b) (and_lt 64 a b (f 0) (g 0)), common-most x y (λ i. f (suc i)) (λ i. g (suc i)))

@@ -1,12 +1,11 @@
 -- A whole call of `gram_matrix`: its answer, and what all that is lent holds afterwards. Definitions only.
-use Rattle.std.specs.Prelude.{ℕ, ◌*◌, Bool, false, List, length, Float}
+use Rattle.std.specs.Prelude.{ℕ, ◌*◌, Bool, false, List, length, Float, Result}
 use Rattle.float.specs.Floats.{zero⁺}
 use Rattle.outcome.specs.Refusals.{first}
-use Rattle.outcome.specs.Numbers.{number}
-use Rattle.outcome.specs.Outcome.{Outcome, answered, refused, judged}
+use Rattle.outcome.specs.declared.Refusal.{Refusal}
+use Rattle.outcome.specs.Numbers as outcomes
+use Rattle.outcome.specs.Outcome.{Outcome, answered, judged}
 use Rattle.outcome.specs.Slices.{output, work}
-use Rattle.ordination_gram.specs.declared.Answer.{Answer}
-use Rattle.ordination_gram.specs.declared.Answer.TheVariants.{Features, Refused}
 use Rattle.ordination_hashes.specs.Selected.{selected}
 use Rattle.ordination_gram.specs.Gram.{gram}
 use Rattle.ordination_sets.specs.Lines.{too_short, gram_lines}
@@ -16,9 +15,8 @@ unfoldable pub features : ℕ → List ℕ → List ℕ → Bool → Bool → Ou
 features n hashes offsets short beyond = judged (first (gram_lines n hashes offsets short beyond)) (answered (length (selected n hashes)))
 
 -- the answer as it is returned
-abbrev pub outcome_of : Answer → Outcome ℕ
-outcome_of (Features m) = answered m
-outcome_of (Refused r) = refused (number r)
+abbrev pub outcome_of : Result ℕ Refusal → Outcome ℕ
+outcome_of r = outcomes.outcome_of r
 
 -- ---- the whole call: the answer, the output and the work slice afterwards
 pub data Called : Type 0 where
@@ -31,5 +29,5 @@ gram_call n hashes offsets out words =
     leaves o (output zero⁺ (λ m. gram n hashes offsets) (n * n) o out) (work 0 o words)
 
 -- how a contract says it: what is returned, and what the slices hold
-abbrev pub called : Answer → List Float → List ℕ → Called
+abbrev pub called : Result ℕ Refusal → List Float → List ℕ → Called
 called r out words = leaves (outcome_of r) out words

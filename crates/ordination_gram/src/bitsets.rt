@@ -2,17 +2,7 @@
 ghost use Rattle.std.specs.Prelude.{◌≡◌, ◌+◌, ◌*◌, ◌/◌, ◌%◌, ◌^◌, ◌<◌, ◌≤◌, length, get_or, set};
 ghost use Rattle.std.specs.Int.Bits.{bit_or};
 ghost use Rattle.limits.specs.Limits.{most_selected, selected_words};
-ghost use Rattle.lists.specs.Writes.{cleared};
 ghost use Rattle.ordination_gram.specs.inner.Bits.{common};
-
-// Every word becomes 0.
-pub fn clear(words: &mut [u64])
-    ensures { words.new ≡ cleared 0 words.old }
-{
-    for i in 0..words.len() {
-        words[i] = 0;
-    }
-}
 
 // Bit c of a row.
 pub fn mark_bit(row: &mut [u64], c: usize)
@@ -20,7 +10,7 @@ pub fn mark_bit(row: &mut [u64], c: usize)
     ensures { row.new ≡ set row.old (c / 64) (bit_or (get_or row.old (c / 64) 0) (2 ^ (c % 64))) }
 {
     let w = c / 64;
-    row[w] = row[w] | (1u64 << (c % 64));
+    row[w] |= 1u64 << (c % 64);
 }
 
 // How many bits two rows share.
@@ -28,9 +18,8 @@ pub fn common_bits(x: &[u64], y: &[u64]) -> usize
     requires { (length y.now ≡ length x.now) × (length x.now ≤ selected_words) }
     ensures { (result ≡ common x.now y.now) × (result ≤ most_selected) }
 {
-    let mut s: usize = 0;
-    for k in 0..x.len() {
-        s += u64::count_ones(x[k] & y[k]) as usize;
-    }
-    s
+    x.iter()
+        .zip(y)
+        .map(|(a, b)| (a & b).count_ones() as usize)
+        .sum()
 }

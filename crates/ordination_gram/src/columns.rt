@@ -1,100 +1,58 @@
 // The centred matrix of sets of hashes by their columns: from the sets' bits, their sums of means and the sum of squared means.
 ghost use Rattle.std.specs.Prelude.{◌≡◌, map, ◌++◌, ◌+◌, ◌*◌, ◌<◌, ◌≤◌, min, max, length, get_or, take, set, replicate};
 ghost use Rattle.std.specs.Float.{nan};
-ghost use Rattle.limits.specs.Limits.{most_selected, selected_words};
+ghost use Rattle.limits.specs.Limits.{selected_words};
 ghost use Rattle.lists.specs.Ranges.{range, table, rows, grid};
 ghost use Rattle.lists.specs.Loops.{in_turn};
 ghost use Rattle.lists.specs.Sums.{sum⁻};
 ghost use Rattle.lists.specs.Writes.{over, cleared};
 ghost use Rattle.ordination_hashes.specs.inner.Columns.{column_of};
-ghost use Rattle.ordination_hashes.specs.inner.Stretches.{Climbs};
 ghost use Rattle.ordination_sets.specs.Sets.{set_at};
 ghost use Rattle.ordination_sets.specs.inner.Offsets.{Offsets};
 ghost use Rattle.ordination_gram.specs.inner.Bits.{packed, present};
 ghost use Rattle.ordination_gram.specs.inner.Columns.{square, column_sum, entry_at, column_gram};
 
 use crate::bitsets;
+use ordination_hashes::columns::Columns;
 
 // The sum of squared means.
 fn square_sum(means: &[f64]) -> f64
     ensures { result ≡ sum⁻ (map square means.now) }
 {
     let mut s = -0.0;
-    for i in 0..means.len() {
-        s = s + means[i] * means[i];
+    for x in means {
+        s += *x * *x;
     }
     s
 }
 
 // The bits of a set's columns, in a row of zeros, and the sum of their means.
-fn mark_hashes(
-    row: &mut [u64],
-    set: &[u64],
-    chosen: &[u64],
-    hints: &[u16; 1026],
-    means: &[f64],
-) -> f64
-    requires { Climbs chosen.now × (length means.now ≤ length row.old * 64) × (row.old ≡ replicate (length row.old) 0) }
-    ensures { (result ≡ column_sum means.now (map (column_of chosen.now) set.now))
-        × (row.new ≡ packed (length row.old) (present (length means.now) (map (column_of chosen.now) set.now))) }
+fn mark_hashes(row: &mut [u64], set: &[u64], columns: &Columns) -> f64
+    requires { (length columns.now.means.now ≤ length row.old * 64) × (row.old ≡ replicate (length row.old) 0) }
+    ensures { (result ≡ column_sum columns.now.means.now (map (column_of columns.now.hashes.now) set.now))
+        × (row.new ≡ packed (length row.old) (present (length columns.now.means.now) (map (column_of columns.now.hashes.now) set.now))) }
 {
     let mut s = -0.0;
-    let mut i: usize = 0;
-    while i < set.len() {
-        let c = ordination_hashes::column_of(chosen, hints, set[i]);
-        if c < means.len() {
+    for &h in set {
+        if let Some(c) = columns.find(h) {
             bitsets::mark_bit(row, c);
-            s = s + means[c];
-            i += 1;
-        } else {
-            i += 1;
+            s += columns.means[c];
         }
     }
     s
 }
 
 // The same, in any row.
-fn mark_set(row: &mut [u64], set: &[u64], chosen: &[u64], hints: &[u16; 1026], means: &[f64]) -> f64
-    requires { Climbs chosen.now × (length means.now ≤ length row.old * 64) }
-    ensures { (result ≡ column_sum means.now (map (column_of chosen.now) set.now))
-        × (row.new ≡ packed (length row.old) (present (length means.now) (map (column_of chosen.now) set.now))) }
+fn mark_set(row: &mut [u64], set: &[u64], columns: &Columns) -> f64
+    requires { length columns.now.means.now ≤ length row.old * 64 }
+    ensures { (result ≡ column_sum columns.now.means.now (map (column_of columns.now.hashes.now) set.now))
+        × (row.new ≡ packed (length row.old) (present (length columns.now.means.now) (map (column_of columns.now.hashes.now) set.now))) }
 {
-    bitsets::clear(row);
-    mark_hashes(row, set, chosen, hints, means)
+    row.fill(0);
+    mark_hashes(row, set, columns)
 }
 
 // The bits of the n sets, a row of w words for each, and their sums.
-fn mark_sets_by(
-    words: &mut [u64],
-    sums: &mut [f64],
-    hashes: &[u64],
-    offsets: &[usize],
-    n: usize,
-    w: usize,
-    chosen: &[u64],
-    hints: &[u16; 1026],
-    means: &[f64],
-)
-    requires { Offsets n offsets.now (length hashes.now) × (n * w ≤ length words.old) × (n ≤ length sums.old) × (length means.now ≤ w * 64) × Climbs chosen.now }
-    ensures { (words.new
-        ≡ over (rows n (λ i. packed w (present (length means.now) (set_at (map (column_of chosen.now) hashes.now) offsets.now i)))) words.old)
-        × (sums.new
-        ≡ over (table n (λ i. column_sum means.now (set_at (map (column_of chosen.now) hashes.now) offsets.now i))) sums.old) }
-{
-    for i in 0..n {
-        let a = offsets[i];
-        let e = offsets[i + 1];
-        sums[i] = mark_set(
-            &mut words[i * w..i * w + w],
-            &hashes[a..e],
-            chosen,
-            hints,
-            means,
-        );
-    }
-}
-
-// The same, with 2 KiB of stack for the hints.
 fn mark_sets(
     words: &mut [u64],
     sums: &mut [f64],
@@ -102,18 +60,19 @@ fn mark_sets(
     offsets: &[usize],
     n: usize,
     w: usize,
-    chosen: &[u64],
-    means: &[f64],
+    columns: &Columns,
 )
-    requires { Offsets n offsets.now (length hashes.now) × (n * w ≤ length words.old) × (n ≤ length sums.old) × (length means.now ≤ w * 64) × Climbs chosen.now }
+    requires { Offsets n offsets.now (length hashes.now) × (n * w ≤ length words.old) × (n ≤ length sums.old) × (length columns.now.means.now ≤ w * 64) }
     ensures { (words.new
-        ≡ over (rows n (λ i. packed w (present (length means.now) (set_at (map (column_of chosen.now) hashes.now) offsets.now i)))) words.old)
+        ≡ over (rows n (λ i. packed w (present (length columns.now.means.now) (set_at (map (column_of columns.now.hashes.now) hashes.now) offsets.now i)))) words.old)
         × (sums.new
-        ≡ over (table n (λ i. column_sum means.now (set_at (map (column_of chosen.now) hashes.now) offsets.now i))) sums.old) }
+        ≡ over (table n (λ i. column_sum columns.now.means.now (set_at (map (column_of columns.now.hashes.now) hashes.now) offsets.now i))) sums.old) }
 {
-    let mut hints = [0u16; 1026];
-    ordination_hashes::fill_hints(&mut hints, chosen);
-    mark_sets_by(words, sums, hashes, offsets, n, w, chosen, &hints, means);
+    for i in 0..n {
+        let a = offsets[i];
+        let e = offsets[i + 1];
+        sums[i] = mark_set(&mut words[i * w..i * w + w], &hashes[a..e], columns);
+    }
 }
 
 // The entry of the sets i and j.
@@ -158,27 +117,25 @@ fn fill(out: &mut [f64], n: usize, words: &[u64], w: usize, sums: &[f64], t: f64
     }
 }
 
-// The matrix of sets of hashes, in front of `out`, by their columns among the chosen ones, which go upward. `words` lends a row of bits for each set, and is
-// cleared; `sums` lends a number for each.
+// The matrix of sets of hashes, in front of `out`, by their columns. `words` lends a row of bits for each set, and is cleared; `sums` lends a number for each.
 pub fn fill_gram(
     out: &mut [f64],
     words: &mut [u64],
     sums: &mut [f64],
     hashes: &[u64],
-    chosen: &[u64],
-    means: &[f64],
+    columns: &Columns,
     offsets: &[usize],
     n: usize,
 )
-    requires offsets { Offsets n offsets.now (length hashes.now) × (length means.now ≤ most_selected) × Climbs chosen.now }
+    requires offsets { Offsets n offsets.now (length hashes.now) }
     requires n_in_bounds { (n * n ≤ length out.old) × (n * selected_words ≤ length words.old) × (n ≤ length sums.old) }
     ensures { (out.new
-        ≡ over (column_gram n (map (column_of chosen.now) hashes.now) offsets.now means.now) out.old)
+        ≡ over (column_gram n (map (column_of columns.now.hashes.now) hashes.now) offsets.now columns.now.means.now) out.old)
         × (words.new ≡ cleared 0 words.old) }
 {
-    let w = (means.len() + 63) / 64;
-    mark_sets(words, sums, hashes, offsets, n, w, chosen, means);
-    let t = square_sum(means);
+    let w = columns.means.len().div_ceil(64);
+    mark_sets(words, sums, hashes, offsets, n, w, columns);
+    let t = square_sum(columns.means);
     fill(out, n, words, w, sums, t);
-    bitsets::clear(words);
+    words.fill(0);
 }

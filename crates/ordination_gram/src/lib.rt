@@ -8,34 +8,14 @@ pub mod columns;
 
 ghost use Rattle.std.specs.Prelude.{◌≡◌, false, ◌*◌, ◌≤◌, length};
 ghost use Rattle.limits.specs.Limits.{most_samples, most_selected, selected_words};
-ghost use Rattle.outcome.specs.Refusals.{first};
-ghost use Rattle.outcome.specs.Outcome.{answered, judged};
-ghost use Rattle.ordination_sets.specs.Lines.{late_lines};
-ghost use Rattle.ordination_gram.specs.Call.{outcome_of, gram_call, called};
+ghost use Rattle.ordination_gram.specs.Call.{gram_call, called};
 ghost use Rattle.ordination_gram.specs.inner.Call.{Checked, matrix_call};
 
-use outcome::{Check, Refusal};
-
-// The number of selected hashes, or why the sets are turned away.
-#[derive(Drop)]
-pub enum Answer {
-    Features(usize),
-    Refused(Refusal),
-}
-
-// The number of selected hashes, where no line turns it away.
-fn counted(m: usize) -> Answer
-    ensures { outcome_of result ≡ judged (first (late_lines m)) (answered m) }
-{
-    let c = ordination_sets::late(m);
-    match c {
-        Check::Refused(r) => Answer::Refused(r),
-        Check::Passed => Answer::Features(m),
-    }
-}
+use ordination_hashes::columns::Columns;
+use outcome::Refusal;
 
 // Lines 1, 2, 6, 13 and 7. `short` says that a slice of the operation is short, `beyond` that another of its arguments is beyond its limit. `chosen` and
-// `means` lend room; where the answer is a number of hashes, the selected hashes and their means are left there for `fill_gram`.
+// `means` lend room; where the answer is a number of hashes, the selected hashes and their means are left there.
 fn check_gram(
     chosen: &mut [u64],
     means: &mut [f64],
@@ -44,21 +24,18 @@ fn check_gram(
     n: usize,
     short: bool,
     beyond: bool,
-) -> Answer
+) -> Result<usize, Refusal>
     requires { (most_selected ≤ length chosen.old) × (most_selected ≤ length means.old) }
     ensures { Checked n hashes.now offsets.now short beyond result chosen.new means.new }
 {
-    let e = ordination_sets::early(offsets, n, hashes.len(), short, beyond);
-    match e {
-        Check::Refused(r) => Answer::Refused(r),
-        Check::Passed => {
-            let m = ordination_hashes::select(chosen, means, hashes, n);
-            counted(m)
-        }
-    }
+    ordination_sets::early(offsets, n, hashes.len(), short, beyond)?;
+    let m = ordination_hashes::select(chosen, means, hashes, n);
+    ordination_sets::late(m)?;
+    Ok(m)
 }
 
 // The lines of the table, and where none holds the Gram matrix, in front of `b`; the words are cleared then. `chosen`, `means` and `sums` lend room.
+// The answer is the number of selected hashes.
 fn matrix_in(
     b: &mut [f64],
     words: &mut [u64],
@@ -70,27 +47,16 @@ fn matrix_in(
     n: usize,
     short: bool,
     beyond: bool,
-) -> Answer
+) -> Result<usize, Refusal>
     requires most_selected_in_bounds { (most_selected ≤ length chosen.old) × (most_selected ≤ length means.old) × (most_samples ≤ length sums.old) }
     requires n_in_bounds { short ≡ false → (n * n ≤ length b.old) × (n * selected_words ≤ length words.old) }
     ensures { called result b.new words.new
         ≡ matrix_call n hashes.now offsets.now short beyond b.old words.old }
 {
-    let a = check_gram(chosen, means, hashes, offsets, n, short, beyond);
-    let Answer::Features(m) = a else {
-        return a;
-    };
-    columns::fill_gram(
-        b,
-        words,
-        sums,
-        hashes,
-        &chosen[..m],
-        &means[..m],
-        offsets,
-        n,
-    );
-    a
+    let m = check_gram(chosen, means, hashes, offsets, n, short, beyond)?;
+    let columns = Columns::new(&chosen[..m], &means[..m]);
+    columns::fill_gram(b, words, sums, hashes, &columns, offsets, n);
+    Ok(m)
 }
 
 // The same, with 18 KiB of stack. Nothing lent may be written before the selection is known.
@@ -102,7 +68,7 @@ pub fn matrix(
     n: usize,
     short: bool,
     beyond: bool,
-) -> Answer
+) -> Result<usize, Refusal>
     requires { short ≡ false → (n * n ≤ length b.old) × (n * selected_words ≤ length words.old) }
     ensures { called result b.new words.new
         ≡ matrix_call n hashes.now offsets.now short beyond b.old words.old }
@@ -131,7 +97,7 @@ pub fn gram_matrix(
     n: usize,
     out: &mut [f64],
     words: &mut [u64],
-) -> Answer
+) -> Result<usize, Refusal>
     ensures { called result out.new words.new
         ≡ gram_call n hashes.now offsets.now out.old words.old }
 {

@@ -3,13 +3,11 @@ use Rattle.lists.proofs.Base.{◌≡◌, refl, sym, ap, ap₂, ◌∙◌, Bool, 
 use Rattle.float.specs.Floats.{zero⁺}
 use Rattle.lists.specs.{Filters.all, Writes.over, Writes.cleared}
 use Rattle.lists.proofs.{Ranges.length-grid, Writes.take-over}
-use Rattle.outcome.specs.declared.{Refusal.Refusal, Check.Check}
-use Rattle.outcome.specs.declared.Check.TheVariants.{Passed, Refused}
+use Rattle.std.specs.Prelude.{Result, Ok, Err}
+use Rattle.outcome.specs.declared.Refusal.{Refusal}
 use Rattle.outcome.specs.Refusals.{first}
 use Rattle.outcome.specs.Outcome.{Outcome, Told, answered, refused, passed, judged, and_then, told_of}
 use Rattle.outcome.specs.{Numbers.number, Numbers.told, Slices.untouched, Slices.output, Slices.work}
-use Rattle.ordination_gram.specs.declared.Answer.{Answer}
-use Rattle.ordination_gram.specs.declared.Answer.TheVariants as answer
 use Rattle.ordination_hashes.specs.Selected.{selected}
 use Rattle.ordination_sets.specs.Lines.{gram_lines, early_lines, late_lines}
 use Rattle.ordination_gram.specs.{Gram.gram, Call.features, Call.outcome_of}
@@ -57,7 +55,7 @@ matrix_in (of-gram.leaves o x y) = x
 abbrev words_in : of-gram.Called → List ℕ
 words_in (of-gram.leaves o x y) = y
 
-module _ (k n : ℕ) (hashes offsets : List ℕ) (short beyond : Bool) (out b w m v : List Float) (words : List ℕ) (a : Answer) {b' : List Float} {words' : List ℕ}
+module _ (k n : ℕ) (hashes offsets : List ℕ) (short beyond : Bool) (out b w m v : List Float) (words : List ℕ) (a : Result ℕ Refusal) {b' : List Float} {words' : List ℕ}
     (e : of-gram.called a b' words' ≡ matrix_call n hashes offsets short beyond b words) where
   answer-is : outcome_of a ≡ features n hashes offsets short beyond
   unfolding matrix_call
@@ -72,19 +70,19 @@ module _ (k n : ℕ) (hashes offsets : List ℕ) (short beyond : Bool) (out b w 
   words_are f = ap words_in e ∙ ap (λ (o : Outcome ℕ). work 0 o words) (sym answer-is ∙ f)
 
   -- a refusal leaves everything as it was
-  pub sets-refused : (r : Refusal) → a ≡ answer.Refused r → called a out b' w m v words' ≡ judged_call k n hashes offsets short beyond out b w m v words
+  pub sets-refused : (r : Refusal) → a ≡ Err r → called a out b' w m v words' ≡ judged_call k n hashes offsets short beyond out b w m v words
   unfolding judged_call leaves written output work and_then
   sets-refused r q =
       let same : refused (number r) ≡ features n hashes offsets short beyond = sym (ap outcome_of q) ∙ answer-is in
       let stays = line-untouched n hashes offsets short beyond (number r) same in
       let b-is : b' ≡ b = matrix-is (ap outcome_of q) ∙ ap (λ (c : Bool). cond c b (over (replicate (n * n) zero⁺) b)) stays in
       let w-is : words' ≡ words = words_are (ap outcome_of q) ∙ ap (λ (c : Bool). cond c words (cleared 0 words)) stays in
-      let kept : called (answer.Refused r) out b w m v words ≡ leaves k n (count n hashes offsets short beyond) (refused (number r)) out b w m v words = rw stays in
-      ap (λ (x : Answer). called x out b' w m v words') q ∙ ap₂ (λ (x : List Float) (y : List ℕ). called (answer.Refused r) out x w m v y) b-is w-is
+      let kept : called (Err r) out b w m v words ≡ leaves k n (count n hashes offsets short beyond) (refused (number r)) out b w m v words = rw stays in
+      ap (λ (x : Result ℕ Refusal). called x out b' w m v words') q ∙ ap₂ (λ (x : List Float) (y : List ℕ). called (Err r) out x w m v y) b-is w-is
       ∙ kept ∙ ap (λ (t : Told). leaves k n (count n hashes offsets short beyond) (judged t (hash_pca k n hashes offsets)) out b w m v words)
       (refused-line n hashes offsets short beyond (number r) same)
 
-  module _ (f : ℕ) (q : a ≡ answer.Features f) where
+  module _ (f : ℕ) (q : a ≡ Ok f) where
     lines-pass : (says n hashes offsets short beyond ≡ passed) × (f ≡ count n hashes offsets short beyond)
     lines-pass = answered-lines n hashes offsets short beyond f (sym (ap outcome_of q) ∙ answer-is)
 
@@ -96,7 +94,7 @@ module _ (k n : ℕ) (hashes offsets : List ℕ) (short beyond : Bool) (out b w 
     front = ap (take (n * n)) (matrix-is (ap outcome_of q)) ∙ take-over (gram n hashes offsets) b (n * n) (length-grid n n _)
 
     -- the coordinates of that matrix
-    pub sets-settled : {t : Told} (r : Answer) {out' b'' w' m' v' : List Float} → length b' ≡ length b
+    pub sets-settled : {t : Told} (r : Result ℕ Refusal) {out' b'' w' m' v' : List Float} → length b' ≡ length b
         → record { answer = t; out = out'; b = b''; w = w'; m = m'; v = v' } ≡ of-pcoa.leaves k n (ordinate k n (take (n * n) b')) out b' w m v
         → ((o : Outcome Coordinates) → t ≡ told_of o → outcome_of r ≡ and_then o (λ x. answered f))
         → called r out' b'' w' m' v' words' ≡ judged_call k n hashes offsets short beyond out b w m v words
@@ -113,12 +111,12 @@ module _ (k n : ℕ) (hashes offsets : List ℕ) (short beyond : Bool) (out b w 
         ∙ ap (λ (t : Told). leaves k n (count n hashes offsets short beyond) (judged t o) out b w m v words) (sym lines-pass.0)
 
 -- the answer, of what is found
-pub said-refused : (f : ℕ) {c : Check} (r : Refusal) → c ≡ Refused r → (o : Outcome Coordinates) → told c ≡ told_of o → refused (number r) ≡ and_then o (λ x. answered f)
+pub said-refused : (f : ℕ) {c : Result Unit Refusal} (r : Refusal) → c ≡ Err r → (o : Outcome Coordinates) → told c ≡ told_of o → refused (number r) ≡ and_then o (λ x. answered f)
 unfolding and_then
 said-refused f r e (answered x) h = let same : refused (number r) ≡ passed = told-refused h e in cc
 said-refused f r e (refused s) h = let same : number r ≡ s = (let told-so : refused (number r) ≡ refused s = told-refused h e in cc) in cc
 
-pub said-passed : (f : ℕ) {c : Check} → c ≡ Passed → (o : Outcome Coordinates) → told c ≡ told_of o → answered f ≡ and_then o (λ x. answered f)
+pub said-passed : (f : ℕ) {c : Result Unit Refusal} → c ≡ Ok tt → (o : Outcome Coordinates) → told c ≡ told_of o → answered f ≡ and_then o (λ x. answered f)
 unfolding and_then
 said-passed f e (answered x) h = refl
 said-passed f e (refused s) h = let same : passed ≡ refused s = told-passed h e in cc

@@ -1,10 +1,10 @@
 -- Section 4: a whole call of `hash_pca`, its answer and what all that is lent holds afterwards (document 01, the table and below it). Definitions only.
-use Rattle.std.specs.Prelude.{ℕ, min, Bool, List, length, Float}
+use Rattle.std.specs.Prelude.{ℕ, min, Bool, Result, List, length, Float}
 use Rattle.float.specs.Floats.{zero⁺}
 use Rattle.outcome.specs.Refusals.{first}
 use Rattle.outcome.specs.Outcome.{Outcome, answered, judged, and_then}
 use Rattle.outcome.specs.Slices.{work}
-use Rattle.ordination_gram.specs.declared.Answer.{Answer}
+use Rattle.outcome.specs.declared.Refusal.{Refusal}
 use Rattle.ordination_hashes.specs.Selected.{selected}
 use Rattle.ordination_sets.specs.Lines.{gram_lines}
 use Rattle.ordination_gram.specs.Call.{outcome_of}
@@ -24,7 +24,7 @@ pub record Called : Type 0 where
   pub v : List Float
   pub words : List ℕ
 
-abbrev pub called : Answer → List Float → List Float → List Float → List Float → List Float → List ℕ → Called
+abbrev pub called : Result ℕ Refusal → List Float → List Float → List Float → List Float → List Float → List ℕ → Called
 called r out b w m v words = record { answer = outcome_of r; out = out; b = b; w = w; m = m; v = v; words = words }
 
 -- what a call leaves, by what is found from so many selected hashes

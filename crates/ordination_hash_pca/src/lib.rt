@@ -5,9 +5,9 @@ ghost use Rattle.std.specs.Prelude.{◌≡◌, false, ◌≤◌, length};
 ghost use Rattle.ordination_coordinates.specs.inner.Lengths.{Lent};
 ghost use Rattle.ordination_hash_pca.specs.Call.{called, judged_call, hash_pca_call};
 
-use ordination_coordinates::checks;
-use ordination_gram::Answer;
-use outcome::Check;
+use ordination_coordinates::checks::{self, Lengths};
+use ordination_pcoa::Work;
+use outcome::Refusal;
 
 // The coordinates on k components, where no line of the table holds.
 fn ordinate_sets(
@@ -23,21 +23,15 @@ fn ordinate_sets(
     m: &mut [f64],
     v: &mut [f64],
     words: &mut [u64],
-) -> Answer
+) -> Result<usize, Refusal>
     requires k_le_n { (k ≤ n) × (beyond ≡ false → k ≤ 16) }
     requires lent { short ≡ false → Lent k n (length out.old) (length b.old) (length w.old) (length m.old) (length v.old) (length words.old) }
     ensures { called result out.new b.new w.new m.new v.new words.new
         ≡ judged_call k n hashes.now offsets.now short beyond out.old b.old w.old m.old v.old words.old }
 {
-    let a = ordination_gram::matrix(b, words, hashes, offsets, n, short, beyond);
-    let Answer::Features(f) = a else {
-        return a;
-    };
-    let c = ordination_pcoa::ordinate_front(n, k, out, b, w, m, v);
-    match c {
-        Check::Refused(r) => Answer::Refused(r),
-        Check::Passed => Answer::Features(f),
-    }
+    let features = ordination_gram::matrix(b, words, hashes, offsets, n, short, beyond)?;
+    ordination_pcoa::ordinate_front(n, k, out, b, Work { w, m, v })?;
+    Ok(features)
 }
 
 // The coordinates of n samples on the leading components, by their sets of hashes: the set i has the hashes from offsets[i] to offsets[i + 1]. `out` gets k
@@ -54,21 +48,19 @@ pub fn hash_pca(
     rotated: &mut [f64],
     vectors: &mut [f64],
     words: &mut [u64],
-) -> Answer
+) -> Result<usize, Refusal>
     ensures { called result out.new gram.new eigenpairs.new rotated.new vectors.new words.new
         ≡ hash_pca_call components n hashes.now offsets.now out.old gram.old eigenpairs.old rotated.old vectors.old words.old }
 {
     let k = eigen_top::checks::components_used(components, n);
-    let short = checks::is_lacking(
-        n,
-        k,
-        out.len(),
-        gram.len(),
-        eigenpairs.len(),
-        rotated.len(),
-        vectors.len(),
-        words.len(),
-    );
+    let lengths = Lengths {
+        out: out.len(),
+        b: gram.len(),
+        w: eigenpairs.len(),
+        m: rotated.len(),
+        v: vectors.len(),
+    };
+    let short = checks::is_lacking(n, k, lengths, words.len());
     let beyond = checks::bad_components(components);
     ordinate_sets(
         hashes, offsets, n, k, short, beyond, out, gram, eigenpairs, rotated, vectors, words,

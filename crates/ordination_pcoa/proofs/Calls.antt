@@ -2,8 +2,8 @@
 use Rattle.lists.proofs.Base.{◌≡◌, refl, sym, ap, ◌∙◌, true, List, ◌++◌, ℕ, ◌+◌, ◌*◌, ◌≤◌, min, arith, length, take, drop, replicate, length-append, length-drop, take_at, Float}
 use Rattle.float.specs.Floats.{zero⁺}
 use Rattle.lists.specs.{Filters.all, Writes.cleared}
-use Rattle.outcome.specs.declared.Check.{Check}
-use Rattle.outcome.specs.declared.Check.TheVariants.{Passed, Refused}
+use Rattle.std.specs.Prelude.{Result, Ok, Err}
+use Rattle.outcome.specs.declared.Refusal.{Refusal}
 use Rattle.outcome.specs.Refusals.{first}
 use Rattle.outcome.specs.Outcome.{Outcome, Told, answered, refused, passed, judged, and_then, told_of}
 use Rattle.outcome.specs.{Numbers.told, Slices.untouched, Slices.output, Slices.work}
@@ -17,14 +17,14 @@ use Rattle.ordination_pcoa.specs.{Given.written, Call.Called, Call.called, Call.
 use Rattle.ordination_pcoa.specs.inner.Given.{coordinates_of, Given, given, gives}
 use Rattle.ordination_pcoa.proofs.LateRefusals.{Late, late-then, late-top, late-work}
 
-check-read : (k : ℕ) (r : Check) (out : List Float) → told r ≡ told_of (coordinates_of k r out)
-check-read k Passed out = refl
-check-read k (Refused r) out = refl
+check-read : (k : ℕ) (r : Result Unit Refusal) (out : List Float) → told r ≡ told_of (coordinates_of k r out)
+check-read k (Ok _) out = refl
+check-read k (Err r) out = refl
 
 -- ---- slices that may be longer, with the work cleared
 
 module _ (k n : ℕ) (o : Outcome Coordinates) (late : Late o) (out b w m v : List Float) where
-  pub given-leaves : (r : Check) {new b' w' m' v' : List Float} → given k r new ≡ gives k n o (take (k + k + n * k) out) → length new ≡ k + k + n * k
+  pub given-leaves : (r : Result Unit Refusal) {new b' w' m' v' : List Float} → given k r new ≡ gives k n o (take (k + k + n * k) out) → length new ≡ k + k + n * k
       → b' ≡ cleared zero⁺ b → w' ≡ cleared zero⁺ w → m' ≡ cleared zero⁺ m → v' ≡ cleared zero⁺ v
       → called r (new ++ drop (k + k + n * k) out) b' w' m' v' ≡ leaves k n o out b w m v
   unfolding gives leaves written

@@ -4,8 +4,8 @@ use Rattle.lists.proofs.Base.{length-map, length-take-le, take_at, drop_at, drop
 use Rattle.float.specs.Floats.{zero⁺}
 use Rattle.lists.specs.Writes.{over, cleared}
 use Rattle.lists.proofs.{Ranges.length-grid, Writes.over-all}
-use Rattle.outcome.specs.declared.{Refusal.Refusal, Check.Check}
-use Rattle.outcome.specs.declared.Check.TheVariants.{Passed, Refused}
+use Rattle.std.specs.Prelude.{Result, Ok, Err}
+use Rattle.outcome.specs.declared.Refusal.{Refusal}
 use Rattle.outcome.specs.{Outcome.Outcome, Outcome.answered, Outcome.refused, Outcome.and_then, Numbers.number, Slices.output}
 use Rattle.eigen_ritz.specs.Ritz.{Pairs}
 use Rattle.eigen_ritz.specs.inner.Given as pairs
@@ -41,7 +41,7 @@ module _ (n k : ℕ) (total : Float) (values vectors : List Float) (many : lengt
       let cs = coords n k (signs n k vectors) (scales values) vectors in
       ap length parts ∙ length-append values (shares total values ++ cs) ∙ omega (arith, length-append (shares total values) cs, many, length-shares, length-coords)
 
-  pub laid-read : coordinates_of k Passed (laid c) ≡ answered c
+  pub laid-read : coordinates_of k (Ok tt) (laid c) ≡ answered c
   unfolding finish
   laid-read =
       let ss = shares total values in
@@ -56,8 +56,8 @@ module _ (n k : ℕ) (total : Float) (values vectors : List Float) (many : lengt
 -- ---- of a matrix b
 
 module _ (n k : ℕ) (b out : List Float) (size : length out ≡ k + k + n * k) {found : List Float} where
-  ordinate-refused : {new : List Float} (old : List Float) (r : Refusal) → pairs.given k (Refused r) found ≡ pairs.gives k n (top_eigs k n b) old → new ≡ cleared zero⁺ out
-      → given k (Refused r) new ≡ gives k n (ordinate k n b) out
+  ordinate-refused : {new : List Float} (old : List Float) (r : Refusal) → pairs.given k (Err r) found ≡ pairs.gives k n (top_eigs k n b) old → new ≡ cleared zero⁺ out
+      → given k (Err r) new ≡ gives k n (ordinate k n b) out
   unfolding pairs.gives gives written ordinate and_then
   ordinate-refused {new} old r e h =
       let none : refused (number r) ≡ top_eigs k n b = ap (λ (g : pairs.Given). g.found) e in
@@ -65,8 +65,8 @@ module _ (n k : ℕ) (b out : List Float) (size : length out ≡ k + k + n * k) 
       let late : Late (ordinate k n b) = late-then (top_eigs k n b) (λ p. finish n (trace n b) p.values p.vectors) (late-top k n b) in
       ap₂ (λ (o : Outcome Coordinates) (l : List Float). record { found = o; out = l }) is (late-output laid (k + k + n * k) (ordinate k n b) out (sym is) late size h)
 
-  ordinate-answered : {new : List Float} (old : List Float) {total : Float} → pairs.given k Passed found ≡ pairs.gives k n (top_eigs k n b) old → length found ≡ k + k * n
-      → total ≡ trace n b → new ≡ laid (finish n total (take k found) (drop k found)) → given k Passed new ≡ gives k n (ordinate k n b) out
+  ordinate-answered : {new : List Float} (old : List Float) {total : Float} → pairs.given k (Ok tt) found ≡ pairs.gives k n (top_eigs k n b) old → length found ≡ k + k * n
+      → total ≡ trace n b → new ≡ laid (finish n total (take k found) (drop k found)) → given k (Ok tt) new ≡ gives k n (ordinate k n b) out
   unfolding pairs.gives gives written ordinate and_then output
   ordinate-answered {new} old {total} e len t h =
       let values = take k found in
@@ -76,21 +76,19 @@ module _ (n k : ℕ) (b out : List Float) (size : length out ≡ k + k + n * k) 
       let is : answered (finish n (trace n b) values vectors) ≡ ordinate k n b =
       ap (λ (o : Outcome Pairs). and_then o (λ p. answered (finish n (trace n b) p.values p.vectors))) some in
       let made : new ≡ laid (finish n (trace n b) values vectors) = h ∙ ap (λ (x : Float). laid (finish n x values vectors)) t in
-      let read : coordinates_of k Passed new ≡ ordinate k n b = ap (coordinates_of k Passed) made ∙ laid-read n k (trace n b) values vectors many ∙ is in
+      let read : coordinates_of k (Ok tt) new ≡ ordinate k n b = ap (coordinates_of k (Ok tt)) made ∙ laid-read n k (trace n b) values vectors many ∙ is in
       let whole = length-laid n k (trace n b) values vectors many in
       let over-it : new ≡ over (laid (finish n (trace n b) values vectors)) out = made ∙ sym (over-all (laid (finish n (trace n b) values vectors)) out (omega arith)) in
       ap₂ (λ (o : Outcome Coordinates) (l : List Float). record { found = o; out = l }) read (over-it ∙ ap (λ (o : Outcome Coordinates). written k n o out) is)
 
   -- by what is returned
-  pub refused-by : {new : List Float} (old : List Float) (c : Check) (r : Refusal) → c ≡ Refused r → pairs.given k c found ≡ pairs.gives k n (top_eigs k n b) old
-      → new ≡ cleared zero⁺ out → given k c new ≡ gives k n (ordinate k n b) out
-  refused-by {new} old c r q e h =
-      ap (λ (x : Check). given k x new) q ∙ ordinate-refused old r (ap (λ (x : Check). pairs.given k x found) (sym q) ∙ e) h
+  pub refused-by : {new : List Float} (old : List Float) (c : Result Unit Refusal) (r : Refusal) → c ≡ Err r → pairs.given k c found ≡ pairs.gives k n (top_eigs k n b) old
+      → new ≡ cleared zero⁺ out → given k (Err r) new ≡ gives k n (ordinate k n b) out
+  refused-by old c r q e h = ordinate-refused old r (ap (λ (x : Result Unit Refusal). pairs.given k x found) (sym q) ∙ e) h
 
-  pub answered-by : {new : List Float} (old : List Float) (c : Check) {total : Float} → c ≡ Passed → pairs.given k c found ≡ pairs.gives k n (top_eigs k n b) old
-      → length found ≡ k + k * n → total ≡ trace n b → new ≡ laid (finish n total (take k found) (drop k found)) → given k c new ≡ gives k n (ordinate k n b) out
-  answered-by {new} old c q e len t h =
-      ap (λ (x : Check). given k x new) q ∙ ordinate-answered old (ap (λ (x : Check). pairs.given k x found) (sym q) ∙ e) len t h
+  pub answered-by : {new : List Float} (old : List Float) (c : Result Unit Refusal) {total : Float} → c ≡ Ok tt → pairs.given k c found ≡ pairs.gives k n (top_eigs k n b) old
+      → length found ≡ k + k * n → total ≡ trace n b → new ≡ laid (finish n total (take k found) (drop k found)) → given k (Ok tt) new ≡ gives k n (ordinate k n b) out
+  answered-by old c q e len t h = ordinate-answered old (ap (λ (x : Result Unit Refusal). pairs.given k x found) (sym q) ∙ e) len t h
 
 -- ---- of distances d
 

@@ -1,7 +1,7 @@
 -- Section 4: a whole call of `pcoa`, its answer and what all that is lent holds afterwards (document 01, the table and below it). Definitions only.
-use Rattle.std.specs.Prelude.{ℕ, min, List, length, Float}
+use Rattle.std.specs.Prelude.{ℕ, min, Result, List, length, Float}
 use Rattle.float.specs.Floats.{zero⁺}
-use Rattle.outcome.specs.declared.Check.{Check}
+use Rattle.outcome.specs.declared.Refusal.{Refusal}
 use Rattle.outcome.specs.Numbers.{told}
 use Rattle.outcome.specs.Refusals.{first}
 use Rattle.outcome.specs.Outcome.{Outcome, Told, judged, told_of}
@@ -20,7 +20,7 @@ pub record Called : Type 0 where
   pub m : List Float
   pub v : List Float
 
-abbrev pub called : Check → List Float → List Float → List Float → List Float → List Float → Called
+abbrev pub called : Result Unit Refusal → List Float → List Float → List Float → List Float → List Float → Called
 called r out b w m v = record { answer = told r; out = out; b = b; w = w; m = m; v = v }
 
 -- what a call leaves, by what is found

@@ -8,8 +8,18 @@ ghost use Rattle.ordination_coordinates.specs.Pcoa as meaning;
 ghost use Rattle.ordination_pcoa.specs.inner.Given.{given, gives};
 ghost use Rattle.ordination_pcoa.specs.Call.{called, leaves, pcoa_call};
 
-use ordination_coordinates::{checks, gower, slices};
-use outcome::Check;
+use eigen_matrix::square;
+use ordination_coordinates::checks::{self, Lengths};
+use ordination_coordinates::gower;
+use outcome::Refusal;
+
+// The work slices of the eigenpairs.
+#[derive(Drop)]
+pub struct Work<'a> {
+    pub w: &'a mut [f64],
+    pub m: &'a mut [f64],
+    pub v: &'a mut [f64],
+}
 
 // ---- from a matrix
 
@@ -21,21 +31,24 @@ fn ordinate_in(
     k: usize,
     out: &mut [f64],
     pairs: &mut [f64],
-    w: &mut [f64],
-    m: &mut [f64],
-    v: &mut [f64],
-) -> Check
+    work: Work<'_>,
+) -> Result<(), Refusal>
     requires b_len { (length b.now ≡ n * n) × (n ≤ most_samples) × (k ≤ n) × (k ≤ most_components) }
-    requires out_len { (length out.old ≡ k + k + n * k) × (length pairs.old ≡ k + k * n) × (length w.old ≡ n + n * n) × (length m.old ≡ n * n) × (length v.old ≡ n * n) }
+    requires out_len { (length out.old ≡ k + k + n * k) × (length pairs.old ≡ k + k * n) × (length work.w.now ≡ n + n * n) × (length work.m.now ≡ n * n) × (length work.v.now ≡ n * n) }
     ensures { given k result out.new ≡ gives k n (ordinate k n b.now) out.old }
 {
-    let c = eigen_top::top_pairs(b, n, k, pairs, w, m, v);
-    let Check::Passed = c else {
-        slices::lay(out, pairs, b, n, k, false);
-        return c;
-    };
-    slices::lay(out, pairs, b, n, k, true);
-    c
+    let Work { w, m, v } = work;
+    match eigen_top::top_pairs(b, n, k, pairs, w, m, v) {
+        Ok(()) => {
+            let total = square::trace(b, n);
+            ordination_coordinates::finish(out, pairs, total, n, k);
+            Ok(())
+        }
+        Err(e) => {
+            out.fill(0.0);
+            Err(e)
+        }
+    }
 }
 
 // The same with room for the eigenpairs, 33 KiB of stack.
@@ -44,16 +57,14 @@ pub fn ordinate(
     n: usize,
     k: usize,
     out: &mut [f64],
-    w: &mut [f64],
-    m: &mut [f64],
-    v: &mut [f64],
-) -> Check
+    work: Work<'_>,
+) -> Result<(), Refusal>
     requires b_len { (length b.now ≡ n * n) × (n ≤ most_samples) × (k ≤ n) × (k ≤ most_components) }
-    requires out_len { (length out.old ≡ k + k + n * k) × (length w.old ≡ n + n * n) × (length m.old ≡ n * n) × (length v.old ≡ n * n) }
+    requires out_len { (length out.old ≡ k + k + n * k) × (length work.w.now ≡ n + n * n) × (length work.m.now ≡ n * n) × (length work.v.now ≡ n * n) }
     ensures { given k result out.new ≡ gives k n (ordinate k n b.now) out.old }
 {
     let mut pairs = [0.0; 4112];
-    ordinate_in(b, n, k, out, &mut pairs[..k + k * n], w, m, v)
+    ordinate_in(b, n, k, out, &mut pairs[..k + k * n], work)
 }
 
 // ---- from distances
@@ -69,13 +80,13 @@ pub fn coordinates_of(
     w: &mut [f64],
     m: &mut [f64],
     v: &mut [f64],
-) -> Check
+) -> Result<(), Refusal>
     requires d_len { (length d.now ≡ n * n) × (n ≤ most_samples) × (k ≤ n) × (k ≤ most_components) }
     requires out_len { (length out.old ≡ k + k + n * k) × (length b.old ≡ n * n) × (length w.old ≡ n + n * n) × (length m.old ≡ n * n) × (length v.old ≡ n * n) }
     ensures { given k result out.new ≡ gives k n (meaning.pcoa k n d.now) out.old }
 {
     gower::centre(b, d, n);
-    ordinate(b, n, k, out, w, m, v)
+    ordinate(b, n, k, out, Work { w, m, v })
 }
 
 // ---- the operation
@@ -86,30 +97,30 @@ pub fn ordinate_front(
     k: usize,
     out: &mut [f64],
     b: &mut [f64],
-    w: &mut [f64],
-    m: &mut [f64],
-    v: &mut [f64],
-) -> Check
+    work: Work<'_>,
+) -> Result<(), Refusal>
     requires n_le_most_samples { (n ≤ most_samples) × (k ≤ n) × (k ≤ most_components) }
-    requires k_in_bounds { (k + k + n * k ≤ length out.old) × (n * n ≤ length b.old) × (n + n * n ≤ length w.old) × (n * n ≤ length m.old) × (n * n ≤ length v.old) }
-    ensures { called result out.new b.new w.new m.new v.new
-        ≡ leaves k n (ordinate k n (take (n * n) b.old)) out.old b.old w.old m.old v.old }
+    requires k_in_bounds { (k + k + n * k ≤ length out.old) × (n * n ≤ length b.old) × (n + n * n ≤ length work.w.now) × (n * n ≤ length work.m.now) × (n * n ≤ length work.v.now) }
+    ensures { called result out.new b.new work.exit.0.now work.exit.1.0.now work.exit.1.1.0.now
+        ≡ leaves k n (ordinate k n (take (n * n) b.old)) out.old b.old work.entry.w.now work.entry.m.now work.entry.v.now }
 {
     let s = n * n;
-    let r = ordinate(
-        &b[..s],
-        n,
-        k,
-        &mut out[..k + k + n * k],
-        &mut w[..n + s],
-        &mut m[..s],
-        &mut v[..s],
-    );
-    slices::clear_work(b, w, m, v);
+    let Work { w, m, v } = work;
+    let fronts = Work {
+        w: &mut w[..n + s],
+        m: &mut m[..s],
+        v: &mut v[..s],
+    };
+    let r = ordinate(&b[..s], n, k, &mut out[..k + k + n * k], fronts);
+    b.fill(0.0);
+    w.fill(0.0);
+    m.fill(0.0);
+    v.fill(0.0);
     r
 }
 
-// The same as `coordinates_of` on slices that may be longer, with the work cleared.
+// The same as `coordinates_of` on slices that may be longer, with the work cleared. The work comes as three slices: what a `Work` that is handed on whole
+// holds at the end was not to be proved.
 fn solve(
     d: &[f64],
     n: usize,
@@ -119,14 +130,14 @@ fn solve(
     w: &mut [f64],
     m: &mut [f64],
     v: &mut [f64],
-) -> Check
+) -> Result<(), Refusal>
     requires d_len { (length d.now ≡ n * n) × (n ≤ most_samples) × (k ≤ n) × (k ≤ most_components) }
     requires k_in_bounds { (k + k + n * k ≤ length out.old) × (n * n ≤ length b.old) × (n + n * n ≤ length w.old) × (n * n ≤ length m.old) × (n * n ≤ length v.old) }
     ensures { called result out.new b.new w.new m.new v.new
         ≡ leaves k n (meaning.pcoa k n d.now) out.old b.old w.old m.old v.old }
 {
     gower::centre(&mut b[..n * n], d, n);
-    ordinate_front(n, k, out, b, w, m, v)
+    ordinate_front(n, k, out, b, Work { w, m, v })
 }
 
 // The coordinates of n samples, by their n by n distances, on the leading components. `out` gets k values, k variance shares and coordinates n by k, where
@@ -140,24 +151,18 @@ pub fn pcoa(
     eigenpairs: &mut [f64],
     rotated: &mut [f64],
     vectors: &mut [f64],
-) -> Check
+) -> Result<(), Refusal>
     ensures { called result out.new centred.new eigenpairs.new rotated.new vectors.new
         ≡ pcoa_call components n distances.now out.old centred.old eigenpairs.old rotated.old vectors.old }
 {
     let k = eigen_top::checks::components_used(components, n);
-    let c = checks::check(
-        distances,
-        n,
-        components,
-        k,
-        out.len(),
-        centred.len(),
-        eigenpairs.len(),
-        rotated.len(),
-        vectors.len(),
-    );
-    match c {
-        Check::Refused(r) => Check::Refused(r),
-        Check::Passed => solve(distances, n, k, out, centred, eigenpairs, rotated, vectors),
-    }
+    let lengths = Lengths {
+        out: out.len(),
+        b: centred.len(),
+        w: eigenpairs.len(),
+        m: rotated.len(),
+        v: vectors.len(),
+    };
+    checks::check(distances, n, components, k, lengths)?;
+    solve(distances, n, k, out, centred, eigenpairs, rotated, vectors)
 }

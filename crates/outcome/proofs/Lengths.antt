@@ -1,5 +1,5 @@
 -- Line 1: a slice that is short makes the line hold, and where it does not hold each is as long as asked.
-use Rattle.lists.proofs.Base.{ℕ, zero, suc, ◌<◌, ◌≤◌, ◌≡◌, refl, sym, Bool, true, false, List, [], ◌∷◌, arith, ltb, length, get_or, le-ltb, ltb-false}
+use Rattle.lists.proofs.Base.{ℕ, zero, suc, ◌<◌, ◌≤◌, ◌≡◌, refl, sym, Bool, true, false, List, [], ◌∷◌, arith, ltb, length, get_or, le-ltb, lt-ltb, ltb-false, ◌⊎◌, inl, inr}
 use Rattle.lists.proofs.Truths.{or-neither, or-true, or-false}
 use Rattle.outcome.specs.Refusals.{short}
 
@@ -31,3 +31,20 @@ pub enough : (asked : List ℕ) → short asked asked ≡ false
 unfolding short
 enough [] = refl
 enough (a ∷ asked) = rw (le-ltb a a (omega arith)) (enough asked)
+
+-- one turn of a walk over both: what is left of each begins with the next length
+module _ {x a : ℕ} {xs ys lent asked : List ℕ} (e : xs ≡ x ∷ lent) (f : ys ≡ a ∷ asked) where
+  pub short-here : x < a → true ≡ short xs ys
+  unfolding short
+  short-here h = rw (e, f, lt-ltb x a h)
+
+  pub short-later : a ≤ x → short lent asked ≡ short xs ys
+  unfolding short
+  short-later h = rw (e, f, le-ltb x a h)
+
+pub short-end : (xs ys : List ℕ) → (length xs ≡ 0) ⊎ (length ys ≡ 0) → false ≡ short xs ys
+unfolding short
+short-end [] ys h = refl
+short-end (x ∷ xs) [] h = refl
+short-end (x ∷ xs) (y ∷ ys) (inl e) = absurd (omega (arith, e))
+short-end (x ∷ xs) (y ∷ ys) (inr e) = absurd (omega (arith, e))

@@ -1,8 +1,9 @@
 -- The table goes line by line and group by group: a line that holds is returned, and what does not hold leaves it to the rest.
 use Rattle.lists.proofs.Base.{ℕ, ◌≡◌, refl, sym, ap, ◌∙◌, Bool, true, false, ◌&&◌, cond, List, [], ◌∷◌, ◌++◌}
 use Rattle.lists.specs.Filters.{all}
-use Rattle.outcome.specs.declared.{Refusal.Refusal, Check.Check}
-use Rattle.outcome.specs.declared.Check.TheVariants.{Passed, Refused}
+use Rattle.std.specs.Prelude.{Result, Ok, Err, IsErrAnd}
+use Rattle.std.proofs.lemmas.Result.{err_from_is_err_and}
+use Rattle.outcome.specs.declared.Refusal.{Refusal}
 use Rattle.outcome.specs.{Outcome.Outcome, Outcome.Told, Outcome.judged, Outcome.answered, Outcome.refused, Outcome.passed, Numbers.number, Numbers.told}
 use Rattle.outcome.specs.{Refusals.Line, Refusals.◌when◌, Refusals.first, Slices.untouched}
 
@@ -86,17 +87,21 @@ module _ {A : Type 0} where
 
 -- ---- what a check that the code returns says
 
-module _ {c : Check} {t : Told} (e : told c ≡ t) where
-  pub told-passed : c ≡ Passed → passed ≡ t
+module _ {c : Result Unit Refusal} {t : Told} (e : told c ≡ t) where
+  pub told-passed : c ≡ Ok tt → passed ≡ t
   told-passed h = ap told (sym h) ∙ e
 
-  pub told-refused : {r : Refusal} → c ≡ Refused r → refused (number r) ≡ t
+  pub told-refused : {r : Refusal} → c ≡ Err r → refused (number r) ≡ t
   told-refused h = ap told (sym h) ∙ e
 
 -- one check after another: the first that refuses wins
-module _ (xs ys : List Line) {c : Check} (e : told c ≡ first xs) where
-  pub check-refused : {r : Refusal} → c ≡ Refused r → told c ≡ first (xs ++ ys)
+module _ (xs ys : List Line) {c : Result Unit Refusal} (e : told c ≡ first xs) where
+  pub check-refused : {r : Refusal} → c ≡ Err r → told c ≡ first (xs ++ ys)
   check-refused h = e ∙ sym (told-refused e h) ∙ sym (first-before xs ys (sym (told-refused e h)))
 
-  pub check-next : {t : Told} → c ≡ Passed → t ≡ first ys → t ≡ first (xs ++ ys)
+  pub check-next : {t : Told} → c ≡ Ok tt → t ≡ first ys → t ≡ first (xs ++ ys)
   check-next h f = f ∙ sym (first-after xs ys (sym (told-passed e h)))
+
+-- what `?` hands on is the refusal that it met
+pub passed-on : {A : Type 0} (r : Result A Refusal) {e : Refusal} → IsErrAnd r (λ f. f ≡ e) → r ≡ Err e
+passed-on r h = let p = err_from_is_err_and r h in p.1 ∙ ap Err p.2

@@ -1,10 +1,8 @@
 -- This paper's number for each name that the code has for a line of the table. Definitions only.
-use Rattle.std.specs.Prelude.{ℕ}
+use Rattle.std.specs.Prelude.{ℕ, Result, Ok, Err}
 use Rattle.outcome.specs.declared.Refusal.{Refusal}
 use Rattle.outcome.specs.declared.Refusal.TheVariants.{Length, Limit, Value, Weight, Labels, Ordination, Hashes, Ways, Columns, Pivot, Unordered, Frame, NoHashes, Mirror}
-use Rattle.outcome.specs.declared.Check.{Check}
-use Rattle.outcome.specs.declared.Check.TheVariants.{Passed, Refused}
-use Rattle.outcome.specs.Outcome.{Told, passed, refused}
+use Rattle.outcome.specs.Outcome.{Outcome, Told, answered, refused}
 
 abbrev pub number : Refusal → ℕ
 number Length = 1
@@ -22,7 +20,11 @@ number Frame = 12
 number NoHashes = 13
 number Mirror = 14
 
+-- what the code returns, as an outcome: an answer, or the number of its refusal
+abbrev pub outcome_of : {A : Type 0} → Result A Refusal → Outcome A
+outcome_of (Ok a) = answered a
+outcome_of (Err r) = refused (number r)
+
 -- what a check that the code returns says
-abbrev pub told : Check → Told
-told Passed = passed
-told (Refused r) = refused (number r)
+abbrev pub told : Result Unit Refusal → Told
+told r = outcome_of r

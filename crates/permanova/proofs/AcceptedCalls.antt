@@ -47,7 +47,7 @@ module _ (lot : Lot) (seed k : ℕ) (before : Slices) (passed : test_check lot k
       let few = groups-all lot e a.passed in
       let many = same-n lot e a.passed in (omega (arith, a.passed.few), omega (arith, a.labels_room))
 
-  pub runs : Runs d lot.distances lot.weighted lot.weights (record { seed = seed; many = k }) (slices_of [] before.counts before.means before.pair_terms before.weighted_squares)
+  pub runs : Runs d lot (record { seed = seed; many = k }) (slices_of [] before.counts before.means before.pair_terms before.weighted_squares)
   runs =
       let a = accepted-call lot k before passed in
       let fits = a.passed.fits in
@@ -57,6 +57,8 @@ module _ (lot : Lot) (seed k : ℕ) (before : Slices) (passed : test_check lot k
       let square : d.kept * d.kept ≤ lot.n * lot.n = mul-le-mul kept kept in
       let sound = design-sound lot e a.passed in
       record {
+        described = e;
+        all = many;
         weighing = record {
           sound = sound;
           samples = samples-below lot e;

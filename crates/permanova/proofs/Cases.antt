@@ -19,7 +19,7 @@ use Rattle.permanova_dispersion.specs.Anova.{grand_mean, group_mean, group_means
 use Rattle.permanova_p_values.specs.declared.Statistic.TheVariants.{Unbounded}
 use Rattle.permanova_statistics.specs.Statistics.{total_of, within_of, location_f, z_of, dispersion_of}
 use Rattle.permanova_p_values.specs.{Hits.statistic, PValues.p_value}
-use Rattle.permanova_p_values.specs.declared.PValue.TheVariants.{NoP}
+use Rattle.std.specs.Prelude.{None}
 use Rattle.permanova_sampling.specs.{Sampled.p_value_of, Sampled.location_pvalue, Sampled.dispersion_pvalue, Tested.tested}
 use Rattle.permanova.specs.Call.{Slices, too_short, test_check}
 
@@ -77,14 +77,14 @@ unfolding statistic dispersion_of anova_f residual residual_at between share squ
     groups position first_at kept_count group_count group_labels kept_labels gathered kept twice how_many count_if filter upward insert_up
 dispersion-unbounded = refl
 
-pub case-f-location : (seed n : ℕ) → location_pvalue zeros seed n ≡ NoP
+pub case-f-location : (seed n : ℕ) → location_pvalue zeros seed n ≡ None
 unfolding location_pvalue p_value_of p_value
 case-f-location seed n = rw location-unbounded
 
-pub case-f-dispersion : (seed n : ℕ) → dispersion_pvalue zeros seed n ≡ NoP
+pub case-f-dispersion : (seed n : ℕ) → dispersion_pvalue zeros seed n ≡ None
 unfolding dispersion_pvalue p_value_of p_value
 case-f-dispersion seed n = rw dispersion-unbounded
 
-pub case-f : (seed n : ℕ) → ((tested zeros seed n).p ≡ NoP) × ((tested zeros seed n).disp_p ≡ NoP)
+pub case-f : (seed n : ℕ) → ((tested zeros seed n).p ≡ None) × ((tested zeros seed n).disp_p ≡ None)
 unfolding tested
 case-f seed n = (case-f-location seed n, case-f-dispersion seed n)

@@ -1,10 +1,11 @@
 -- A whole call of `test`: its answer, and what all that is lent holds afterwards (section 8, and below the table). Definitions only.
-use Rattle.std.specs.Prelude.{ℕ, ◌*◌, Bool, List, [], ◌∷◌, ltb, length, Float}
+use Rattle.std.specs.Prelude.{ℕ, ◌*◌, Bool, List, [], ◌∷◌, ltb, length, Float, Result}
 use Rattle.limits.specs.Limits.{most_shuffles}
 use Rattle.float.specs.Floats.{zero⁺}
-use Rattle.outcome.specs.Numbers.{number}
+use Rattle.outcome.specs.declared.Refusal.{Refusal}
+use Rattle.outcome.specs.Numbers.{outcome_of}
 use Rattle.outcome.specs.Refusals.{first, short}
-use Rattle.outcome.specs.Outcome.{Outcome, answered, refused, judged, Told}
+use Rattle.outcome.specs.Outcome.{Outcome, answered, judged, Told}
 use Rattle.outcome.specs.Slices.{output, work}
 use Rattle.lot.specs.Lot.{Lot}
 use Rattle.lot.specs.Kept.{group_labels, groups, kept_count, group_count}
@@ -14,8 +15,6 @@ use Rattle.permanova_statistics.specs.Statistics.{z_of}
 use Rattle.permanova_statistics.specs.Warnings.{sizes_of}
 use Rattle.permanova_sampling.specs.declared.TestResult.{TestResult}
 use Rattle.permanova_sampling.specs.Tested.{tested}
-use Rattle.permanova.specs.declared.checks.Answer.{Answer}
-use Rattle.permanova.specs.declared.checks.Answer.TheVariants.{Tested, Refused}
 
 -- What is lent: outputs for g labels, counts and mean z, and work for the terms and the weighted squares.
 pub record Slices : Type 0 where
@@ -70,11 +69,10 @@ leaves lot o before =
 unfoldable pub test_call : Lot → ℕ → ℕ → Slices → Called
 test_call lot seed n before = leaves lot (judged (test_check lot n before) (answered (tested lot seed n))) before
 
--- ---- how a contract says it: the enum that is returned, and what the slices hold
+-- ---- how a contract says it: what is returned, and what the slices hold
 
-abbrev pub answer_of : Answer → Outcome TestResult
-answer_of (Tested r) = answered r
-answer_of (Refused r) = refused (number r)
+abbrev pub answer_of : Result TestResult Refusal → Outcome TestResult
+answer_of r = outcome_of r
 
-abbrev pub called : Answer → Slices → Called
+abbrev pub called : Result TestResult Refusal → Slices → Called
 called r after = record { answer = answer_of r; after = after }

@@ -1,20 +1,9 @@
-// The sampled test (document 01, section 8): what is answered, and lines 1 and 2 of the table for a call.
+// Lines 1 and 2 of the table for a call of the sampled test (document 01, section 8).
 ghost use Rattle.std.specs.Prelude.{◌≡◌, ltb};
 ghost use Rattle.limits.specs.Limits.{most_shuffles};
 ghost use Rattle.permanova.specs.Call.{too_short};
 
-use outcome::Refusal;
-use permanova_sampling::TestResult;
-
-#[derive(Drop)]
-pub enum Answer {
-    Tested(TestResult),
-    Refused(Refusal),
-}
-
-// ---- the operation
-
-// Line 1, for outputs and work slices of these lengths.
+// Line 1, for outputs and work slices of these lengths. A work slice of n by n that no `usize` counts is short.
 pub fn too_short(
     n: usize,
     group_labels: usize,
@@ -25,22 +14,13 @@ pub fn too_short(
 ) -> bool
     ensures { result ≡ too_short n group_labels counts means pair_terms weighted_squares }
 {
-    if group_labels < n {
+    let Some(square) = n.checked_mul(n) else {
         return true;
-    }
-    if counts < n {
-        return true;
-    }
-    if means < n {
-        return true;
-    }
-    if n >= 4294967296 {
-        return true;
-    }
-    if pair_terms < n * n {
-        return true;
-    }
-    weighted_squares < n * n
+    };
+    outcome::is_short(
+        &[group_labels, counts, means, pair_terms, weighted_squares],
+        &[n, n, n, square, square],
+    )
 }
 
 // Line 2, for this number of shuffles.

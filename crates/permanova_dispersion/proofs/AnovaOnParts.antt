@@ -4,6 +4,7 @@ use Rattle.float.specs.Floats.{zero⁻}
 use Rattle.lists.specs.{Ranges.table, Numbers.members, Sums.sum_from, Writes.over}
 use Rattle.lists.proofs.{Ranges.table-ext, Ranges.length-table, Ranges.get_or-table, Writes.get_d_over, Writes.take-over}
 use Rattle.grouping.specs.inner.Parts.{part, Grouped}
+use Rattle.grouping.proofs.SortedParts.{on-members}
 use Rattle.permanova_sums.specs.PairSums.{at}
 use Rattle.permanova_dispersion.specs.Anova.{grand_mean, group_mean, group_means, share, between}
 
@@ -13,16 +14,12 @@ written f g k old e h =
     let len = length-table f g in ap (λ (l : List Float). get_or l k nan) e ∙ get_d_over (table g f) old k nan (omega arith) ∙ get_or-table f g k nan h
 
 module _ (lab : List ℕ) (m g : ℕ) (next mem : List ℕ) (s : Grouped lab m g next mem) where
-  -- a rule on parts is the same rule on members
-  pub on-members : {A : Type 0} (f : ℕ → List ℕ → A) → table g (λ k. f k (part next mem k)) ≡ table g (λ k. f k (members lab m k))
-  on-members f = table-ext (λ k. f k (part next mem k)) (λ k. f k (members lab m k)) g (λ k h. ap (f k) (s.are k h))
-
   module _ (z means₀ means : List Float) (are : means ≡ over (table g (λ k. group_mean z (part next mem k))) means₀) where
     pub means-are : take g means ≡ group_means z lab m g
     unfolding group_means
     means-are =
         ap (take g) are ∙ take-over (table g (λ k. group_mean z (part next mem k))) means₀ g (length-table (λ k. group_mean z (part next mem k)) g)
-        ∙ on-members (λ k. group_mean z)
+        ∙ on-members lab m g next mem s (λ k. group_mean z)
 
     pub between_is : sum_from zero⁻ (table g (λ k. share (part next mem k) (at means k) (grand_mean z m))) ≡ between z (group_means z lab m g) lab m g
     unfolding between group_means

@@ -1,22 +1,17 @@
 // The one-way ANOVA of distances to centroids (document 01, section 3).
-ghost use Rattle.std.specs.Prelude.{◌≡◌, ◌+◌, ◌-◌, ◌*◌, ◌<◌, ◌≤◌, max, length};
+ghost use Rattle.std.specs.Prelude.{◌≡◌, ℕ, ◌+◌, ◌-◌, ◌*◌, ◌<◌, ◌≤◌, max, length};
 ghost use Rattle.limits.specs.Limits.{most_samples};
 ghost use Rattle.float.specs.Floats.{◌⊘◌, num, zero⁻};
 ghost use Rattle.lists.specs.Ranges.{table};
 ghost use Rattle.lists.specs.inner.Numbers.{Below};
 ghost use Rattle.lists.specs.Sums.{sum_from};
-ghost use Rattle.lists.specs.Writes.{over};
 ghost use Rattle.grouping.specs.inner.Parts.{part, Parts, Grouped};
 ghost use Rattle.permanova_sums.specs.PairSums.{at};
-ghost use Rattle.permanova_dispersion.specs.Anova.{group_mean, mean_of, share, residual_at, residual, grand_mean, anova_f};
+ghost use Rattle.permanova_dispersion.specs.Anova.{group_mean, mean_of, share, residual, grand_mean, anova_f};
+
+use grouping::Groups;
 
 // ---- the ANOVA of z
-
-fn at_least_one(n: usize) -> usize
-    ensures { result ≡ max n 1 }
-{
-    if n < 1 { 1 } else { n }
-}
 
 // x divided by a count.
 fn quotient(x: f64, n: usize) -> f64
@@ -31,10 +26,10 @@ fn group_mean(z: &[f64], mem: &[u16]) -> f64
     requires { Below (length z.now) mem.now × (length mem.now ≤ most_samples) }
     ensures { result ≡ group_mean z.now mem.now }
 {
-    quotient(permanova_sums::sum_at(z, mem, 0.0), at_least_one(mem.len()))
+    quotient(permanova_sums::sum_at(z, mem, 0.0), mem.len().max(1))
 }
 
-// The mean that the answer lists.
+// The mean that the answer lists. It is no `group_mean`: its sum starts at -0.0, and it divides by the count itself.
 pub fn mean_of(z: &[f64], mem: &[u16]) -> f64
     requires { Below (length z.now) mem.now × (length mem.now ≤ most_samples) }
     ensures { result ≡ mean_of z.now mem.now }
@@ -60,60 +55,29 @@ fn share(mem: &[u16], mean: f64, grand: f64) -> f64
     n as f64 * (x * x)
 }
 
-// What is left of sample k's z without its group's mean, squared.
-fn residual_at(z: &[f64], means: &[f64], lab: &[u16], k: usize) -> f64
-    requires { (k < length z.now) × (k < length lab.now) × Below (length means.now) lab.now }
-    ensures { result ≡ residual_at z.now means.now lab.now k }
-{
-    let l = lists::entry(lab, k);
-    let x = z[k] - means[l];
-    x * x
-}
-
-// Its sum over m samples.
-fn residual(z: &[f64], means: &[f64], lab: &[u16], m: usize) -> f64
-    requires { (length z.now ≡ m) × (length lab.now ≡ m) × Below (length means.now) lab.now }
-    ensures { result ≡ residual z.now means.now lab.now m }
+// What is left of each sample's z without its group's mean, squared and added up.
+fn residual(z: &[f64], means: &[f64], lab: &[u16]) -> f64
+    requires { (length lab.now ≡ length z.now) × Below (length means.now) lab.now }
+    ensures { result ≡ residual z.now means.now lab.now (length z.now) }
 {
     let mut s = -0.0;
-    for k in 0..m {
-        s = s + residual_at(z, means, lab, k);
+    for (x, l) in z.iter().zip(lab) {
+        let d = *x - means[*l as usize];
+        s = s + d * d;
     }
     s
 }
 
-// ---- over the groups' members, as parts of `mem`
-
-// The groups' means of z.
-fn fill_group_means(z: &[f64], m: usize, g: usize, next: &[u16], mem: &[u16], out: &mut [f64])
-    requires { (length z.now ≡ m) × Parts m g next.now mem.now × (length mem.now ≤ most_samples) × (g ≤ length out.old) }
-    ensures { out.new ≡ over (table g (λ k. group_mean z.now (part next.now mem.now k))) out.old }
-{
-    for k in 0..g {
-        let p = grouping::part_of(next, mem, k);
-        out[k] = group_mean(z, p);
-    }
-}
-
-// The means that the answer lists.
-pub fn fill_means(z: &[f64], m: usize, g: usize, next: &[u16], mem: &[u16], out: &mut [f64])
-    requires { (length z.now ≡ m) × Parts m g next.now mem.now × (length mem.now ≤ most_samples) × (g ≤ length out.old) }
-    ensures { out.new ≡ over (table g (λ k. mean_of z.now (part next.now mem.now k))) out.old }
-{
-    for k in 0..g {
-        let p = grouping::part_of(next, mem, k);
-        out[k] = mean_of(z, p);
-    }
-}
+// ---- over the groups
 
 // What lies between groups.
-fn between(m: usize, g: usize, next: &[u16], mem: &[u16], means: &[f64], grand: f64) -> f64
-    requires { Parts m g next.now mem.now × (length mem.now ≤ most_samples) × (g ≤ length means.now) }
-    ensures { result ≡ sum_from zero⁻ (table g (λ k. share (part next.now mem.now k) (at means.now k) grand)) }
+fn between(g: usize, groups: &Groups, means: &[f64], grand: f64) -> f64
+    requires { (m : ℕ) × Parts m g groups.now.starts groups.now.members × (g ≤ length means.now) }
+    ensures { result ≡ sum_from zero⁻ (table g (λ k. share (part groups.now.starts groups.now.members k) (at means.now k) grand)) }
 {
     let mut s = -0.0;
     for k in 0..g {
-        let p = grouping::part_of(next, mem, k);
+        let p = groups.part(k);
         s = s + share(p, means[k], grand);
     }
     s
@@ -125,19 +89,18 @@ pub fn anova_about(
     lab: &[u16],
     m: usize,
     g: usize,
-    next: &[u16],
-    mem: &[u16],
+    groups: &Groups,
     means: &mut [f64],
     grand: f64,
 ) -> f64
-    requires z_len { (length z.now ≡ m) × (length lab.now ≡ m) × Below g lab.now × Grouped lab.now m g next.now mem.now × (length mem.now ≤ most_samples) }
+    requires z_len { (length z.now ≡ m) × (length lab.now ≡ m) × Below g lab.now × Grouped lab.now m g groups.now.starts groups.now.members }
     requires g_in_bounds { (g ≤ length means.old) × (1 ≤ g) × (g ≤ m) × (m ≤ most_samples) }
     requires grand_value { grand ≡ grand_mean z.now m }
     ensures { result ≡ anova_f z.now lab.now m g }
 {
-    fill_group_means(z, m, g, next, mem, means);
-    let b = between(m, g, next, mem, means, grand);
-    let r = residual(z, &means[..g], lab, m);
+    groups.fill(g, means, |p| group_mean(z, p));
+    let b = between(g, groups, means, grand);
+    let r = residual(z, &means[..g], lab);
     permanova_location::f_ratio(b, r, m, g)
 }
 
@@ -147,14 +110,13 @@ pub fn anova_f(
     lab: &[u16],
     m: usize,
     g: usize,
-    next: &[u16],
-    mem: &[u16],
+    groups: &Groups,
     means: &mut [f64],
 ) -> f64
-    requires z_len { (length z.now ≡ m) × (length lab.now ≡ m) × Below g lab.now × Grouped lab.now m g next.now mem.now × (length mem.now ≤ most_samples) }
+    requires z_len { (length z.now ≡ m) × (length lab.now ≡ m) × Below g lab.now × Grouped lab.now m g groups.now.starts groups.now.members }
     requires g_in_bounds { (g ≤ length means.old) × (1 ≤ g) × (g ≤ m) × (m ≤ most_samples) }
     ensures { result ≡ anova_f z.now lab.now m g }
 {
     let grand = grand_mean(z, m);
-    anova_about(z, lab, m, g, next, mem, means, grand)
+    anova_about(z, lab, m, g, groups, means, grand)
 }

@@ -7,11 +7,12 @@ ghost use Rattle.std.specs.Prelude.{◌≡◌, map, ◌-◌, ◌*◌, ◌<◌, �
 ghost use Rattle.lists.specs.Ranges.{table};
 ghost use Rattle.lists.specs.Filters.{any};
 ghost use Rattle.lists.specs.inner.Numbers.{Below};
-ghost use Rattle.lists.specs.Writes.{over};
 ghost use Rattle.grouping.specs.inner.Parts.{part, Parts, Grouped};
 ghost use Rattle.permanova_location.specs.Location.{group_weight};
 ghost use Rattle.permanova_dispersion.specs.Dispersion.{inside, weighted_square_sum, value_of, distance_of, negative, values, z_of, some_negative};
 ghost use Rattle.permanova_dispersion.specs.inner.Parted.{value_by};
+
+use grouping::Groups;
 
 // ---- a group's values
 
@@ -21,9 +22,8 @@ fn inside(t: &[f64], m: usize, mem: &[u16]) -> f64
     ensures { result ≡ inside t.now m mem.now }
 {
     let mut s = 0.0;
-    for x in 0..mem.len() {
-        let a = lists::entry(mem, x);
-        s = permanova_sums::sum_entries(t, m, mem, a, s);
+    for a in mem {
+        s = permanova_sums::sum_entries(t, m, mem, *a as usize, s);
     }
     s
 }
@@ -53,8 +53,8 @@ fn distance_of(v: f64) -> f64
 pub fn distances(z: &mut [f64])
     ensures { z.new ≡ map distance_of z.old }
 {
-    for i in 0..z.len() {
-        z[i] = distance_of(z[i]);
+    for x in z {
+        *x = distance_of(*x);
     }
 }
 
@@ -62,39 +62,10 @@ pub fn distances(z: &mut [f64])
 pub fn some_negative(v: &[f64]) -> bool
     ensures { result ≡ any negative v.now }
 {
-    let mut i: usize = 0;
-    while i < v.len() {
-        if v[i] < 0.0 {
-            return true;
-        }
-        i += 1;
-    }
-    false
+    v.iter().any(|x| *x < 0.0)
 }
 
-// ---- over the groups' members, as parts of `mem`
-
-// The weight sums of the g groups go to the front of `out`.
-fn fill_weights(w: &[f64], m: usize, g: usize, next: &[u16], mem: &[u16], out: &mut [f64])
-    requires { (length w.now ≡ m) × Parts m g next.now mem.now × (g ≤ length out.old) }
-    ensures { out.new ≡ over (table g (λ k. group_weight w.now (part next.now mem.now k))) out.old }
-{
-    for k in 0..g {
-        let p = grouping::part_of(next, mem, k);
-        out[k] = permanova_location::group_weight(w, p);
-    }
-}
-
-// What is inside each of the g groups.
-fn fill_insides(t: &[f64], m: usize, g: usize, next: &[u16], mem: &[u16], out: &mut [f64])
-    requires { (length t.now ≡ m * m) × Parts m g next.now mem.now × (g ≤ length out.old) }
-    ensures { out.new ≡ over (table g (λ k. inside t.now m (part next.now mem.now k))) out.old }
-{
-    for k in 0..g {
-        let p = grouping::part_of(next, mem, k);
-        out[k] = inside(t, m, p);
-    }
-}
+// ---- over the groups
 
 // The value of sample a, from its group's weight sum and what is inside the group.
 fn value_at(
@@ -102,17 +73,16 @@ fn value_at(
     lab: &[u16],
     m: usize,
     g: usize,
-    next: &[u16],
-    mem: &[u16],
+    groups: &Groups,
     gw: &[f64],
     gi: &[f64],
     a: usize,
 ) -> f64
-    requires { (length weighted_squares.now ≡ m * m) × (length lab.now ≡ m) × Below g lab.now × Parts m g next.now mem.now × (g ≤ length gw.now) × (g ≤ length gi.now) × (a < m) }
-    ensures { result ≡ value_by weighted_squares.now lab.now m next.now mem.now gw.now gi.now a }
+    requires { (length weighted_squares.now ≡ m * m) × (length lab.now ≡ m) × Below g lab.now × Parts m g groups.now.starts groups.now.members × (g ≤ length gw.now) × (g ≤ length gi.now) × (a < m) }
+    ensures { result ≡ value_by weighted_squares.now lab.now m groups.now.starts groups.now.members gw.now gi.now a }
 {
     let l = lists::entry(lab, a);
-    let p = grouping::part_of(next, mem, l);
+    let p = groups.part(l);
     let sum = weighted_square_sum(weighted_squares, m, p, a);
     value_of(sum, gw[l], gi[l])
 }
@@ -123,17 +93,16 @@ fn fill_values(
     lab: &[u16],
     m: usize,
     g: usize,
-    next: &[u16],
-    mem: &[u16],
+    groups: &Groups,
     gw: &[f64],
     gi: &[f64],
     z: &mut [f64],
 )
-    requires { (length weighted_squares.now ≡ m * m) × (length lab.now ≡ m) × Below g lab.now × Parts m g next.now mem.now × (g ≤ length gw.now) × (g ≤ length gi.now) × (length z.old ≡ m) }
-    ensures { z.new ≡ table m (value_by weighted_squares.now lab.now m next.now mem.now gw.now gi.now) }
+    requires { (length weighted_squares.now ≡ m * m) × (length lab.now ≡ m) × Below g lab.now × Parts m g groups.now.starts groups.now.members × (g ≤ length gw.now) × (g ≤ length gi.now) × (length z.old ≡ m) }
+    ensures { z.new ≡ table m (value_by weighted_squares.now lab.now m groups.now.starts groups.now.members gw.now gi.now) }
 {
     for a in 0..m {
-        z[a] = value_at(weighted_squares, lab, m, g, next, mem, gw, gi, a);
+        z[a] = value_at(weighted_squares, lab, m, g, groups, gw, gi, a);
     }
 }
 
@@ -145,19 +114,18 @@ fn values(
     lab: &[u16],
     m: usize,
     g: usize,
-    next: &[u16],
-    mem: &[u16],
+    groups: &Groups,
     gw: &mut [f64],
     gi: &mut [f64],
     z: &mut [f64],
 )
     requires weighted_squares_len { (length weighted_squares.now ≡ m * m) × (length t.now ≡ m * m) × (length w.now ≡ m) × (length lab.now ≡ m) × Below g lab.now }
-    requires grouped { Grouped lab.now m g next.now mem.now × (g ≤ length gw.old) × (g ≤ length gi.old) × (length z.old ≡ m) }
+    requires grouped { Grouped lab.now m g groups.now.starts groups.now.members × (g ≤ length gw.old) × (g ≤ length gi.old) × (length z.old ≡ m) }
     ensures { z.new ≡ values weighted_squares.now t.now w.now lab.now m }
 {
-    fill_weights(w, m, g, next, mem, gw);
-    fill_insides(t, m, g, next, mem, gi);
-    fill_values(weighted_squares, lab, m, g, next, mem, gw, gi, z);
+    groups.fill(g, gw, |p| permanova_location::group_weight(w, p));
+    groups.fill(g, gi, |p| inside(t, m, p));
+    fill_values(weighted_squares, lab, m, g, groups, gw, gi, z);
 }
 
 // Every sample's z, and whether some value was below 0. `gw` and `gi` lend room; what they hold after is left open.
@@ -168,18 +136,17 @@ pub fn fill_z(
     lab: &[u16],
     m: usize,
     g: usize,
-    next: &[u16],
-    mem: &[u16],
+    groups: &Groups,
     gw: &mut [f64],
     gi: &mut [f64],
     z: &mut [f64],
 ) -> bool
     requires weighted_squares_len { (length weighted_squares.now ≡ m * m) × (length t.now ≡ m * m) × (length w.now ≡ m) × (length lab.now ≡ m) × Below g lab.now }
-    requires grouped { Grouped lab.now m g next.now mem.now × (g ≤ length gw.old) × (g ≤ length gi.old) × (length z.old ≡ m) }
+    requires grouped { Grouped lab.now m g groups.now.starts groups.now.members × (g ≤ length gw.old) × (g ≤ length gi.old) × (length z.old ≡ m) }
     ensures { (result ≡ some_negative weighted_squares.now t.now w.now lab.now m)
         × (z.new ≡ z_of weighted_squares.now t.now w.now lab.now m) }
 {
-    values(weighted_squares, t, w, lab, m, g, next, mem, gw, gi, z);
+    values(weighted_squares, t, w, lab, m, g, groups, gw, gi, z);
     let some = some_negative(z);
     distances(z);
     some

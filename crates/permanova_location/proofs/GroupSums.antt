@@ -1,11 +1,12 @@
--- A group's part of within, from its pair sum; a sum over groups, with one more and with two more; fewer groups.
-use Rattle.lists.proofs.Base.{◌≡◌, refl, sym, ap, ◌∙◌, List, [], ◌∷◌, ℕ, ◌+◌, ◌*◌, ◌≤◌, arith, Float}
-use Rattle.float.specs.{Floats.◌⊕◌, Floats.◌⊘◌, Floats.smallest_normal, Order.larger}
+-- A group's part of within, from its pair sum; a sum over groups, with one more and with two more.
+use Rattle.lists.proofs.Base.{◌≡◌, refl, sym, ap, ◌∙◌, List, [], ◌∷◌, ℕ, ◌+◌, ◌*◌, arith, Float}
+use Rattle.float.specs.{Floats.◌⊕◌, Floats.◌⊘◌, Floats.zero⁻, Floats.smallest_normal, Order.larger}
 use Rattle.lists.specs.{Ranges.up_from, Ranges.table, Sums.sum_from}
 use Rattle.lists.proofs.{Ranges.table-last, Sums.sum-append}
-use Rattle.grouping.specs.inner.Parts.{Parts}
+use Rattle.grouping.specs.inner.Parts.{part, Grouped}
+use Rattle.grouping.proofs.SortedParts.{on-members}
 use Rattle.permanova_sums.specs.PairSums.{pair_sum}
-use Rattle.permanova_location.specs.Location.{group_weight, group_within}
+use Rattle.permanova_location.specs.Location.{group_weight, group_within, within}
 
 pub group-is : (t w : List Float) (m : ℕ) (mem : List ℕ) {s r : Float} → s ≡ pair_sum t m mem → r ≡ s ⊘ larger (group_weight w mem) smallest_normal → r ≡ group_within t w m mem
 unfolding group_within
@@ -28,5 +29,8 @@ module _ (z : Float) (f : ℕ → Float) where
       → r ≡ sum_from z (table (2 * (j + 1)) f)
   table-two j e g h k = table_same (2 * j + 1 + 1) (2 * (j + 1)) (omega arith) (table-next (2 * j + 1) (table-next (2 * j) e g refl) h k)
 
-pub fewer-parts : (m g h : ℕ) (next mem : List ℕ) → h ≤ g → Parts m g next mem → Parts m h next mem
-fewer-parts m g h next mem few p = record { starts = omega (arith, p.starts); each = λ k lt. p.each k (omega arith) }
+-- the sum over the parts is within, of labels whose groups they are
+pub within-is : (t w : List Float) (lab : List ℕ) (m g : ℕ) (starts mem : List ℕ) {r : Float} → Grouped lab m g starts mem
+    → r ≡ sum_from zero⁻ (table g (λ k. group_within t w m (part starts mem k))) → r ≡ within t w lab m g
+unfolding within
+within-is t w lab m g starts mem grouped e = e ∙ ap (sum_from zero⁻) (on-members lab m g starts mem grouped (λ k. group_within t w m))

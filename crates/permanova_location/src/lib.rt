@@ -1,15 +1,17 @@
 // PERMANOVA's within, F and r2 (document 01, section 2).
 #![tactic(auto)]
 
-ghost use Rattle.std.specs.Prelude.{◌≡◌, ◌+◌, ◌-◌, ◌*◌, ◌≤◌, length};
+ghost use Rattle.std.specs.Prelude.{◌≡◌, List, ℕ, ◌+◌, ◌-◌, ◌*◌, ◌/◌, ◌≤◌, length};
 ghost use Rattle.limits.specs.Limits.{most_samples};
 ghost use Rattle.float.specs.Floats.{◌⊕◌, ◌⊘◌, zero⁻, smallest_normal};
 ghost use Rattle.float.specs.Order.{larger};
 ghost use Rattle.lists.specs.inner.Numbers.{Below};
 ghost use Rattle.lists.specs.Sums.{sum_from};
 ghost use Rattle.lists.specs.Ranges.{table};
-ghost use Rattle.grouping.specs.inner.Parts.{part, Parts};
-ghost use Rattle.permanova_location.specs.Location.{f_ratio, group_weight, group_within, pseudo_f, r_squared};
+ghost use Rattle.grouping.specs.inner.Parts.{part, Parts, Grouped};
+ghost use Rattle.permanova_location.specs.Location.{f_ratio, group_weight, group_within, pseudo_f, r_squared, within};
+
+use grouping::Groups;
 
 // ---- within
 
@@ -46,30 +48,31 @@ fn add_two(t: &[f64], w: &[f64], m: usize, p: &[u16], q: &[u16], s: f64) -> f64
     s + over_weight(sums.first, w, p) + over_weight(sums.second, w, q)
 }
 
-// The sum over the first 2 h parts of `mem`, two at a time.
-fn within_twos(t: &[f64], w: &[f64], m: usize, h: usize, next: &[u16], mem: &[u16]) -> f64
-    requires { (length t.now ≡ m * m) × (length w.now ≡ m) × Parts m (2 * h) next.now mem.now }
-    ensures { result ≡ sum_from zero⁻ (table (2 * h) (λ k. group_within t.now w.now m (part next.now mem.now k))) }
+// The sum over the g groups but a last odd one, two at a time.
+fn within_twos(t: &[f64], w: &[f64], m: usize, g: usize, groups: &Groups) -> f64
+    requires { (length t.now ≡ m * m) × (length w.now ≡ m) × Parts m g groups.now.starts groups.now.members }
+    ensures { result ≡ sum_from zero⁻ (table (2 * (g / 2)) (λ k. group_within t.now w.now m (part groups.now.starts groups.now.members k))) }
 {
     let mut s = -0.0;
-    for j in 0..h {
-        let p = grouping::part_of(next, mem, 2 * j);
-        let q = grouping::part_of(next, mem, 2 * j + 1);
+    for j in 0..g / 2 {
+        let p = groups.part(2 * j);
+        let q = groups.part(2 * j + 1);
         s = add_two(t, w, m, p, q, s);
     }
     s
 }
 
-// The sum over the g parts of `mem`.
-pub fn within(t: &[f64], w: &[f64], m: usize, g: usize, next: &[u16], mem: &[u16]) -> f64
-    requires { (length t.now ≡ m * m) × (length w.now ≡ m) × Parts m g next.now mem.now }
-    ensures { result ≡ sum_from zero⁻ (table g (λ k. group_within t.now w.now m (part next.now mem.now k))) }
+// The sum over the g groups: within, of labels whose groups they are.
+pub fn within(t: &[f64], w: &[f64], m: usize, g: usize, groups: &Groups) -> f64
+    requires { (length t.now ≡ m * m) × (length w.now ≡ m) × Parts m g groups.now.starts groups.now.members }
+    ensures sum { result ≡ sum_from zero⁻ (table g (λ k. group_within t.now w.now m (part groups.now.starts groups.now.members k))) }
+    ensures of_labels { (lab : List ℕ) → Grouped lab m g groups.now.starts groups.now.members → result ≡ within t.now w.now lab m g }
 {
-    let s = within_twos(t, w, m, g / 2, next, mem);
+    let s = within_twos(t, w, m, g, groups);
     if g % 2 == 0 {
         return s;
     }
-    let p = grouping::part_of(next, mem, g - 1);
+    let p = groups.part(g - 1);
     s + group_within(t, w, m, p)
 }
 

@@ -1,4 +1,3 @@
--- Statistics, hits and p by cases, and the bits of the warnings: the laws that the proofs share.
-pub mod HitCases
+-- The largest and the smallest group, the bits of the warnings, and how many hits there can be.
 pub mod PValueCases
 pub mod JointWarnings

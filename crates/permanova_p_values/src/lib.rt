@@ -11,7 +11,14 @@ ghost use Rattle.permanova_p_values.specs.PValues.{p_value, given, p_of};
 ghost use Rattle.permanova_p_values.specs.WarningBits.{bit, warning_bits};
 ghost use Rattle.permanova_p_values.specs.Together.{largest, smallest, alarmed, together};
 
-// A statistic: a finite F, or unbounded, above all others.
+// One of each: of the location test, and of the dispersion test.
+#[derive(Clone, Copy)]
+pub struct Both<T> {
+    pub location: T,
+    pub dispersion: T,
+}
+
+// A statistic: a finite F, or unbounded. No Option: unbounded is not the lack of a statistic, but stands above all others, and a hit of every one.
 #[derive(Clone, Copy)]
 pub enum Statistic {
     Finite(f64),
@@ -19,39 +26,41 @@ pub enum Statistic {
 }
 
 // The statistic that an F is.
+#[tactic(auto, unfolding(crate::specs::Hits::statistic))]
 pub fn statistic_of(f: f64) -> Statistic
     ensures { result ≡ hits.statistic f }
 {
     if float::is_finite(f) {
-        return Statistic::Finite(f);
+        Statistic::Finite(f)
+    } else {
+        Statistic::Unbounded
     }
-    Statistic::Unbounded
 }
 
 // Whether the F of a shuffle is a hit of the observed statistic.
+#[tactic(auto, unfolding(crate::specs::Hits::shuffle_hit))]
 pub fn shuffle_hit(observed: Statistic, f: f64) -> bool
     ensures { result ≡ hits.shuffle_hit observed f }
 {
-    let Statistic::Finite(x) = observed else {
-        return false;
-    };
-    float::as_large(x, f)
+    match observed {
+        Statistic::Finite(x) => float::as_large(x, f),
+        Statistic::Unbounded => false,
+    }
 }
 
 // Whether the statistic of a way is a hit of the observed one.
+#[tactic(auto, unfolding(crate::specs::Hits::hit))]
 pub fn hit(observed: Statistic, found: Statistic) -> bool
     ensures { result ≡ hits.hit observed found }
 {
-    let Statistic::Finite(f) = found else {
-        return true;
-    };
-    let Statistic::Finite(x) = observed else {
-        return false;
-    };
-    float::as_large(x, f)
+    match (observed, found) {
+        (_, Statistic::Unbounded) => true,
+        (Statistic::Unbounded, Statistic::Finite(_)) => false,
+        (Statistic::Finite(x), Statistic::Finite(f)) => float::as_large(x, f),
+    }
 }
 
-// 1 for a finite F, 0 for an unbounded one.
+// 1 for a finite F, 0 for an unbounded one: the C arrays' number.
 pub fn state_of(s: Statistic) -> u64
     ensures { result ≡ hits.state_of s }
 {
@@ -61,7 +70,7 @@ pub fn state_of(s: Statistic) -> u64
     }
 }
 
-// F, 0 where it is unbounded.
+// F, 0 where it is unbounded: the C arrays' value.
 pub fn value_of(s: Statistic) -> f64
     ensures { result ≡ hits.value_of s }
 {
@@ -73,45 +82,30 @@ pub fn value_of(s: Statistic) -> f64
 
 // ---- p
 
-// A p, or none.
-#[derive(Clone, Copy)]
-pub enum PValue {
-    P(f64),
-    NoP,
-}
-
 // p = (1 + hits)/(1 + n). None where the strata tell nothing, or the observed statistic is unbounded.
-pub fn p_value_of(none: bool, seen: Statistic, hits: usize, n: u64) -> PValue
+#[tactic(auto, unfolding(crate::specs::PValues::p_value))]
+pub fn p_value_of(none: bool, seen: Statistic, hits: usize, n: u64) -> Option<f64>
     requires { (hits ≤ most_shuffles) × (n ≤ most_shuffles) }
     ensures { result ≡ p_value none seen hits n }
 {
-    let Statistic::Finite(_f) = seen else {
-        return PValue::NoP;
-    };
-    if none {
-        return PValue::NoP;
+    match seen {
+        Statistic::Finite(_) if !none => Some((1 + hits) as f64 / (1 + n) as f64),
+        _ => None,
     }
-    PValue::P((1 + hits) as f64 / (1 + n) as f64)
 }
 
 // Whether there is a p.
-pub fn is_given(c: PValue) -> u64
+pub fn is_given(c: Option<f64>) -> u64
     ensures { result ≡ given c }
 {
-    match c {
-        PValue::P(_p) => 1,
-        PValue::NoP => 0,
-    }
+    u64::from(c.is_some())
 }
 
 // A p, 0 where there is none.
-pub fn p_of(c: PValue) -> f64
+pub fn p_of(c: Option<f64>) -> f64
     ensures { result ≡ p_of c }
 {
-    match c {
-        PValue::P(p) => p,
-        PValue::NoP => 0.0,
-    }
+    c.unwrap_or(0.0)
 }
 
 // ---- warnings: bits 0 to 4
@@ -120,34 +114,21 @@ pub fn p_of(c: PValue) -> f64
 pub fn uninformed(stratified: bool, informing: usize) -> bool
     ensures { result ≡ (stratified && eqb informing 0) }
 {
-    if stratified {
-        return informing == 0;
-    }
-    false
+    stratified && informing == 0
 }
 
 // Whether the informative fraction is below 0.5, and some inform.
 pub fn few_inform(fraction: f64, informing: usize) -> bool
     ensures { result ≡ (lt fraction 0·5 && not (eqb informing 0)) }
 {
-    if fraction < 0.5 {
-        return informing != 0;
-    }
-    false
+    fraction < 0.5 && informing != 0
 }
 
 // Whether some group has fewer than 5 samples.
 pub fn some_small(sizes: &[u16]) -> bool
     ensures { result ≡ any (λ c. ltb c 5) sizes.now }
 {
-    let mut k: usize = 0;
-    while k < sizes.len() {
-        if sizes[k] < 5 {
-            return true;
-        }
-        k += 1;
-    }
-    false
+    sizes.iter().any(|size| *size < 5)
 }
 
 // The bit b where it is on.
@@ -170,68 +151,34 @@ pub fn warning(left: bool, uninformed: bool, few: bool, small: bool, negative: b
 fn largest(sizes: &[u16]) -> u16
     ensures { result ≡ largest sizes.now }
 {
-    let mut most: u16 = 0;
-    let mut k = sizes.len();
-    while k > 0 {
-        k -= 1;
-        most = larger_of(sizes[k], most);
-    }
-    most
-}
-
-fn larger_of(a: u16, b: u16) -> u16
-    ensures { result ≡ max a b }
-{
-    if a < b { b } else { a }
-}
-
-fn smaller_of(a: u16, b: u16) -> u16
-    ensures { result ≡ min a b }
-{
-    if a < b { a } else { b }
+    sizes.iter().copied().max().unwrap_or(0)
 }
 
 // The size of the smallest group.
 fn smallest(sizes: &[u16]) -> u16
     ensures { result ≡ smallest sizes.now }
 {
-    let mut least = largest(sizes);
-    let mut k = sizes.len();
-    while k > 0 {
-        k -= 1;
-        least = smaller_of(sizes[k], least);
-    }
-    least
+    sizes.iter().copied().min().unwrap_or(0)
 }
 
 // Bits 5 and 6, of both p.
-pub fn together_of(sizes: &[u16], location: PValue, dispersion: PValue) -> u8
+#[tactic(auto, unfolding(crate::specs::Together::together))]
+pub fn together_of(sizes: &[u16], location: Option<f64>, dispersion: Option<f64>) -> u8
     ensures { result ≡ together sizes.now location dispersion }
 {
-    let PValue::P(p) = location else {
-        return 0;
-    };
-    let PValue::P(q) = dispersion else {
-        return 0;
-    };
-    let most = largest(sizes);
-    let least = smallest(sizes);
-    alarm(p, q, most, least)
+    match (location, dispersion) {
+        (Some(p), Some(q)) => alarm(p, q, largest(sizes), smallest(sizes)),
+        _ => 0,
+    }
 }
 
 // Bits 5 and 6, of both p and the sizes of the largest and the smallest group.
+#[tactic(auto, unfolding(crate::specs::Together::alarmed))]
 fn alarm(p: f64, q: f64, most: u16, least: u16) -> u8
     ensures { result ≡ alarmed p q most least }
 {
-    if p < 0.05 {
-        if q < 0.05 {
-            return 32;
-        }
-        if most as f64 >= 3.0 * least as f64 {
-            if q < 0.2 {
-                return 64;
-            }
-        }
+    if p < 0.05 && q < 0.05 {
+        return 32;
     }
-    0
+    flag(64, p < 0.05 && most as f64 >= 3.0 * least as f64 && q < 0.2)
 }

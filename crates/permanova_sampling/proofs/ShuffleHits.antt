@@ -1,5 +1,6 @@
 -- Hits that are counted one after the other, and hits of shuffles over parts as hits of shuffles within strata.
-use Rattle.lists.proofs.Base.{◌≡◌, sym, ap, subst, ◌∙◌, Bool, cond, List, ℕ, ◌+◌, ◌<◌, ◌≤◌, zero-add, arith, length, Float}
+use Rattle.lists.proofs.Base.{◌≡◌, sym, ap, subst, ◌∙◌, Bool, true, false, cond, List, ℕ, ◌+◌, ◌<◌, ◌≤◌, zero-add, arith, length, Float}
+use Rattle.std.specs.Int.{from_bool}
 use Rattle.lists.specs.{Ranges.range, Filters.count_if}
 use Rattle.lists.specs.inner.Numbers.{Below}
 use Rattle.lists.proofs.Filters.{count_turn, count-end, one_more}
@@ -8,8 +9,14 @@ use Rattle.grouping.specs.inner.Parts.{Grouped}
 use Rattle.shuffle.specs.Shuffled.{parts, shuffled}
 use Rattle.shuffle.specs.inner.Parted.{shuffled_by}
 use Rattle.shuffle.proofs.Shuffles.{after_shuffle_by-fine, after_shuffle-within}
-use Rattle.permanova_sampling.specs.declared.hits.Seen.{Seen}
+use Rattle.permanova_p_values.specs.declared.Statistic.{Statistic}
+use Rattle.permanova_p_values.specs.declared.Both.{Both}
 use Rattle.permanova_sampling.specs.inner.{Drawn.location_hit, Drawn.dispersion_hit, Drawn.hits_among, Hits.Labelled, Hits.Sampling}
+
+-- one more where it is so, as the code adds it
+pub added-one : (b : Bool) (a : ℕ) {n x : ℕ} → n ≡ from_bool b → x ≡ a + n → x ≡ cond b 1 0 + a
+added-one true a e f = omega arith
+added-one false a e f = omega arith
 
 -- a of the first i numbers pass; those and the ones left that do are all
 pub record Counted (p : ℕ → Bool) (n a i : ℕ) : Type 0 where
@@ -32,26 +39,26 @@ module _ {p : ℕ → Bool} {n : ℕ} where
   counted-all {a} {i} c h = count-end p i n a h c.all
 
 -- the hits of both among the first i of n labels, and room for labels
-pub record Counting (t w z : List Float) (sizes : Shape) (seen : Seen) (way : ℕ → List ℕ) (n : ℕ) (lab : List ℕ) (a b i : ℕ) : Type 0 where
+pub record Counting (t w z : List Float) (sizes : Shape) (seen : Both Statistic) (total : Float) (way : ℕ → List ℕ) (n : ℕ) (lab : List ℕ) (hits : Both ℕ) (i : ℕ) : Type 0 where
   pub room : length lab ≡ 256
-  pub location : Counted (λ k. location_hit t w sizes seen.location seen.total (way k)) n a i
-  pub dispersion : Counted (λ k. dispersion_hit z sizes seen.dispersion (way k)) n b i
+  pub location : Counted (λ k. location_hit t w sizes seen.location total (way k)) n hits.location i
+  pub dispersion : Counted (λ k. dispersion_hit z sizes seen.dispersion (way k)) n hits.dispersion i
 
-module _ {t w z : List Float} {sizes : Shape} {seen : Seen} {way : ℕ → List ℕ} {n : ℕ} where
-  pub counting-none : {lab : List ℕ} → length lab ≡ 256 → Counting t w z sizes seen way n lab 0 0 0
+module _ {t w z : List Float} {sizes : Shape} {seen : Both Statistic} {total : Float} {way : ℕ → List ℕ} {n : ℕ} where
+  pub counting-none : {lab : List ℕ} → length lab ≡ 256 → Counting t w z sizes seen total way n lab (record { location = 0; dispersion = 0 }) 0
   counting-none room = record { room = room; location = counted_none; dispersion = counted_none }
 
   -- one more, by the labels that were dealt
-  pub counting-next : {lab lab' new : List ℕ} {a a' b b' i : ℕ} {x y : Bool} → Counting t w z sizes seen way n lab a b i → i < n → length lab' ≡ length lab → new ≡ way i
-      → x ≡ location_hit t w sizes seen.location seen.total new → y ≡ dispersion_hit z sizes seen.dispersion new → a' ≡ cond x 1 0 + a → b' ≡ cond y 1 0 + b
-      → Counting t w z sizes seen way n lab' a' b' (i + 1)
+  pub counting-next : {lab lab' new : List ℕ} {hits : Both ℕ} {a b i : ℕ} {x y : Bool} → Counting t w z sizes seen total way n lab hits i → i < n → length lab' ≡ length lab → new ≡ way i
+      → x ≡ location_hit t w sizes seen.location total new → y ≡ dispersion_hit z sizes seen.dispersion new → a ≡ cond x 1 0 + hits.location → b ≡ cond y 1 0 + hits.dispersion
+      → Counting t w z sizes seen total way n lab' (record { location = a; dispersion = b }) (i + 1)
   counting-next c h long e ex ey ea eb = record {
     room = long ∙ c.room;
-    location = counted_next c.location h (ex ∙ ap (location_hit t w sizes seen.location seen.total) e) ea;
+    location = counted_next c.location h (ex ∙ ap (location_hit t w sizes seen.location total) e) ea;
     dispersion = counted_next c.dispersion h (ey ∙ ap (dispersion_hit z sizes seen.dispersion) e) eb;
   }
 
-  pub counting-all : {lab : List ℕ} {a b i : ℕ} → Counting t w z sizes seen way n lab a b i → n ≤ i → record { location = a; dispersion = b } ≡ hits_among t w z sizes seen way n
+  pub counting-all : {lab : List ℕ} {hits : Both ℕ} {i : ℕ} → Counting t w z sizes seen total way n lab hits i → n ≤ i → hits ≡ hits_among t w z sizes seen total way n
   unfolding hits_among
   counting-all c h = λ j. record { location = counted-all c.location h j; dispersion = counted-all c.dispersion h j }
 
@@ -63,7 +70,7 @@ module _ {sizes : Shape} {gs sn sm : List ℕ} (r : Sampling sizes gs sn sm) whe
       let f = after_shuffle_by-fine sizes.kept sizes.groups l.some sn sm sizes.strata gs seed i (record { long = l.labels; below = l.groups }) in
       record { labels = ap length e ∙ f.long; groups = subst (Below sizes.groups) (sym e) f.below; some = l.some; enough = l.enough; few = l.few }
 
-module _ (t w z : List Float) (sizes : Shape) (seen : Seen) (n : ℕ) where
+module _ (t w z : List Float) (sizes : Shape) (seen : Both Statistic) (total : Float) (n : ℕ) where
   pub hits-within : (ss : List ℕ) (m s : ℕ) (sn sm gs : List ℕ) (seed : ℕ) → Grouped ss m s sn sm
-      → hits_among t w z sizes seen (shuffled_by sn sm s gs seed) n ≡ hits_among t w z sizes seen (shuffled (parts ss m s) gs seed) n
-  hits-within ss m s sn sm gs seed g = λ j. hits_among t w z sizes seen (λ i. (after_shuffle-within ss m s sn sm gs seed i g j).labels) n
+      → hits_among t w z sizes seen total (shuffled_by sn sm s gs seed) n ≡ hits_among t w z sizes seen total (shuffled (parts ss m s) gs seed) n
+  hits-within ss m s sn sm gs seed g = λ j. hits_among t w z sizes seen total (λ i. (after_shuffle-within ss m s sn sm gs seed i g j).labels) n

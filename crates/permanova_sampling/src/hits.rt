@@ -1,23 +1,25 @@
 // How many shuffles are hits (document 01, section 8).
-ghost use Rattle.std.specs.Prelude.{◌≡◌, ◌+◌, ◌*◌, ◌<◌, ◌≤◌, cond, length};
+ghost use Rattle.std.specs.Prelude.{◌≡◌, List, ℕ, ◌+◌, ◌*◌, ◌<◌, ◌≤◌, length};
+ghost use Rattle.grouping.specs.inner.Parts.{Grouped};
 ghost use Rattle.limits.specs.Limits.{most_shuffles};
 ghost use Rattle.permanova_dispersion.specs.Anova.{grand_mean};
-ghost use Rattle.shuffle.specs.inner.Parted.{after_shuffle_by, shuffled_by};
+ghost use Rattle.shuffle.specs.inner.Parted.{shuffled_by};
 ghost use Rattle.permanova_sampling.specs.inner.Drawn.{location_hit, dispersion_hit, hits_among, drawn};
 ghost use Rattle.permanova_sampling.specs.inner.Hits.{PairTerms, Assigned, Sampling, ShufflesLabels, Drawing};
 
+use grouping::Groups;
 use lot::Shape;
 use lot_design::Design;
 use permanova_dispersion::anova;
-use permanova_p_values::Statistic;
-use shuffle::DrawState;
+use permanova_p_values::{Both, Statistic};
 
-// Both observed statistics, and the total that the first goes by.
-#[derive(Drop)]
-pub struct Seen {
-    pub location: Statistic,
-    pub dispersion: Statistic,
+// What the hits of shuffles are counted over: the pair terms and the weights of the kept samples, the total over both, and the observed z.
+#[derive(Clone, Copy)]
+pub struct Terms<'a> {
+    pub pair_terms: &'a [f64],
+    pub weights: &'a [f64],
     pub total: f64,
+    pub z: &'a [f64],
 }
 
 // How many shuffles there are, and from which seed.
@@ -27,54 +29,34 @@ pub struct Draws {
     pub many: u64,
 }
 
-// How many shuffles are hits of each.
-#[derive(Drop)]
-pub struct Hits {
-    pub location: usize,
-    pub dispersion: usize,
-}
-
-// Shuffle i of the labels `gs` within the parts of `sm` goes to `lab`, and the members of its groups to `next` and `mem`.
+// Shuffle i of the labels `gs` within the parts of `strata` goes to `lab`, and the members of its groups become the parts of `groups`.
 fn shuffle_labels(
     lab: &mut [u16],
-    next: &mut [u16; limits::MOST_SAMPLES + 1],
-    mem: &mut [u16; limits::MOST_SAMPLES],
+    groups: &mut Groups,
     gs: &[u16],
-    sn: &[u16],
-    sm: &[u16],
+    strata: &Groups,
     sizes: Shape,
     seed: u64,
     i: u64,
-) -> DrawState
-    requires { Sampling sizes gs.now sn.now sm.now × (length lab.old ≡ sizes.kept) }
-    ensures { ShufflesLabels sizes (after_shuffle_by sn.now sm.now sizes.strata gs.now seed i) result lab.new next.new mem.new }
+)
+    requires { Sampling sizes gs.now strata.now.starts strata.now.members × (length lab.old ≡ sizes.kept) }
+    ensures { ShufflesLabels sizes (shuffled_by strata.now.starts strata.now.members sizes.strata gs.now seed i) lab.new groups.new.starts groups.new.members }
 {
-    let m = sizes.kept;
-    let g = sizes.groups;
-    let s = sizes.strata;
-    let drawn = shuffle::shuffle_again(lab, gs, sn, sm, m, s, seed, i);
-    grouping::group(lab, m, g, next, mem);
-    drawn
+    shuffle::shuffle_again(lab, gs, strata, sizes.strata, seed, i);
+    groups.sort(lab, sizes.groups);
 }
 
-// Whether labels with these members are a hit of the observed location, over terms t, weights w and their total.
-fn location_hit(
-    t: &[f64],
-    w: &[f64],
-    lab: &[u16],
-    next: &[u16; limits::MOST_SAMPLES + 1],
-    mem: &[u16; limits::MOST_SAMPLES],
-    sizes: Shape,
-    observed: Statistic,
-    total: f64,
-) -> bool
-    requires { Assigned sizes lab.now next.now mem.now × (length t.now ≡ sizes.kept * sizes.kept) × (length w.now ≡ sizes.kept) }
-    ensures { result ≡ location_hit t.now w.now sizes observed total lab.now }
+// Whether labels with these groups are a hit of the observed location.
+fn location_hit(over: Terms<'_>, groups: &Groups, sizes: Shape, observed: Statistic) -> bool
+    requires { (length over.pair_terms.now ≡ sizes.kept * sizes.kept) × (length over.weights.now ≡ sizes.kept)
+        × ((lab : List ℕ) × Assigned sizes lab groups.now.starts groups.now.members) }
+    ensures { (lab : List ℕ) → Grouped lab sizes.kept sizes.groups groups.now.starts groups.now.members
+        → result ≡ location_hit over.entry.pair_terms.now over.entry.weights.now sizes observed over.entry.total lab }
 {
     let m = sizes.kept;
     let g = sizes.groups;
-    let inside = permanova_statistics::within(t, w, lab, m, g, next, mem);
-    let f = permanova_location::pseudo_f(total, inside, m, g);
+    let inside = permanova_location::within(over.pair_terms, over.weights, m, g, groups);
+    let f = permanova_location::pseudo_f(over.total, inside, m, g);
     permanova_p_values::shuffle_hit(observed, f)
 }
 
@@ -83,98 +65,74 @@ fn dispersion_hit(
     means: &mut [f64; limits::MOST_SAMPLES],
     z: &[f64],
     lab: &[u16],
-    next: &[u16; limits::MOST_SAMPLES + 1],
-    mem: &[u16; limits::MOST_SAMPLES],
+    groups: &Groups,
     sizes: Shape,
     observed: Statistic,
     grand: f64,
 ) -> bool
-    requires { Assigned sizes lab.now next.now mem.now × (length z.now ≡ sizes.kept) × (grand ≡ grand_mean z.now sizes.kept) }
+    requires { Assigned sizes lab.now groups.now.starts groups.now.members × (length z.now ≡ sizes.kept) × (grand ≡ grand_mean z.now sizes.kept) }
     ensures { result ≡ dispersion_hit z.now sizes observed lab.now }
 {
     let m = sizes.kept;
     let g = sizes.groups;
-    let f = anova::anova_about(z, lab, m, g, next, mem, means, grand);
+    let f = anova::anova_about(z, lab, m, g, groups, means, grand);
     permanova_p_values::shuffle_hit(observed, f)
 }
 
-// One more, if so.
-fn counted(a: usize, yes: bool) -> usize
-    requires { a < 1000000 }
-    ensures { result ≡ cond yes 1 0 + a }
-{
-    if yes { a + 1 } else { a }
-}
-
-// How many shuffles within the parts of `sm` are hits of each observed statistic.
+// How many shuffles within the parts of `strata` are hits of each observed statistic.
 fn count_hits(
-    t: &[f64],
-    w: &[f64],
-    z: &[f64],
+    over: Terms<'_>,
     gs: &[u16],
-    sn: &[u16],
-    sm: &[u16],
+    strata: &Groups,
     sizes: Shape,
-    seen: Seen,
+    seen: Both<Statistic>,
     grand: f64,
     draws: Draws,
-) -> Hits
-    requires { Sampling sizes gs.now sn.now sm.now × PairTerms sizes.kept t.now w.now z.now × (draws.many ≤ most_shuffles) × (grand ≡ grand_mean z.now sizes.kept) }
-    ensures { result ≡ hits_among t.now w.now z.now sizes seen (shuffled_by sn.now sm.now sizes.strata gs.now draws.seed) draws.many }
+) -> Both<usize>
+    requires { Sampling sizes gs.now strata.now.starts strata.now.members × PairTerms sizes.kept over.pair_terms.now over.weights.now over.z.now
+        × (draws.many ≤ most_shuffles) × (grand ≡ grand_mean over.z.now sizes.kept) }
+    ensures { result ≡ hits_among over.entry.pair_terms.now over.entry.weights.now over.entry.z.now sizes seen over.entry.total
+        (shuffled_by strata.now.starts strata.now.members sizes.strata gs.now draws.seed) draws.many }
 {
     let m = sizes.kept;
-    let seed = draws.seed;
-    let n = draws.many;
-    let first = seen.location;
-    let second = seen.dispersion;
-    let total = seen.total;
     let mut lab = [0u16; limits::MOST_SAMPLES];
-    let mut next = [0u16; limits::MOST_SAMPLES + 1];
-    let mut mem = [0u16; limits::MOST_SAMPLES];
+    let mut groups = Groups::new();
     let mut means = [0.0f64; limits::MOST_SAMPLES];
-    let mut a: usize = 0;
-    let mut b: usize = 0;
-    for i in 0..n {
-        shuffle_labels(
-            &mut lab[..m],
-            &mut next,
-            &mut mem,
-            gs,
-            sn,
-            sm,
+    let mut hits = Both {
+        location: 0,
+        dispersion: 0,
+    };
+    for i in 0..draws.many {
+        shuffle_labels(&mut lab[..m], &mut groups, gs, strata, sizes, draws.seed, i);
+        let x = location_hit(over, &groups, sizes, seen.location);
+        let y = dispersion_hit(
+            &mut means,
+            over.z,
+            &lab[..m],
+            &groups,
             sizes,
-            seed,
-            i,
+            seen.dispersion,
+            grand,
         );
-        let x = location_hit(t, w, &lab[..m], &next, &mem, sizes, first, total);
-        let y = dispersion_hit(&mut means, z, &lab[..m], &next, &mem, sizes, second, grand);
-        a = counted(a, x);
-        b = counted(b, y);
+        hits.location += usize::from(x);
+        hits.dispersion += usize::from(y);
     }
-    Hits {
-        location: a,
-        dispersion: b,
-    }
+    hits
 }
 
-// The hits of shuffles within the strata of a design, over terms t, weights w and the observed z.
-pub fn draw(d: Design, t: &[f64], w: &[f64], z: &[f64], seen: Seen, draws: Draws) -> Hits
-    requires { Drawing d t.now w.now z.now × (draws.many ≤ most_shuffles) }
-    ensures { result ≡ drawn d t.now w.now z.now seen draws }
+// The hits of shuffles within the strata of a design.
+pub fn draw(d: Design, over: Terms<'_>, seen: Both<Statistic>, draws: Draws) -> Both<usize>
+    requires { Drawing d over.pair_terms.now over.weights.now over.z.now × (draws.many ≤ most_shuffles) }
+    ensures { result ≡ drawn d over.entry.pair_terms.now over.entry.weights.now over.entry.z.now seen over.entry.total draws }
 {
     let m = d.kept;
-    let g = d.groups;
-    let s = d.strata;
-    let gs = d.group;
-    let ss = d.stratum;
-    let mut sn = [0u16; limits::MOST_SAMPLES + 1];
-    let mut sm = [0u16; limits::MOST_SAMPLES];
-    let grand = anova::grand_mean(z, m);
-    grouping::group(&ss[..m], m, s, &mut sn, &mut sm);
+    let grand = anova::grand_mean(over.z, m);
+    let mut strata = Groups::new();
+    strata.sort(&d.stratum[..m], d.strata);
     let sizes = Shape {
         kept: m,
-        groups: g,
-        strata: s,
+        groups: d.groups,
+        strata: d.strata,
     };
-    count_hits(t, w, z, &gs[..m], &sn, &sm, sizes, seen, grand, draws)
+    count_hits(over, &d.group[..m], &strata, sizes, seen, grand, draws)
 }

@@ -14,9 +14,9 @@ ghost use Rattle.permanova_sampling.specs.Tested.{tested};
 ghost use Rattle.permanova_sampling.specs.inner.Tested.{p_values_of};
 ghost use Rattle.permanova_sampling.specs.inner.Measurement as room;
 
-use crate::hits::{Draws, Seen};
+use crate::hits::{Draws, Terms};
 use lot_design::Design;
-use permanova_p_values::{PValue, Statistic};
+use permanova_p_values::{Both, Statistic};
 use permanova_statistics::observation;
 use permanova_statistics::observation::Observed;
 use permanova_statistics::summary::Summary;
@@ -28,82 +28,83 @@ pub struct TestResult {
     pub summary: Summary,
     // PERMANOVA: F and p
     pub f: f64,
-    pub p: PValue,
+    pub p: Option<f64>,
     // PERMDISP: F and p
     pub disp_f: f64,
-    pub disp_p: PValue,
+    pub disp_p: Option<f64>,
     pub strata_used: bool,
     pub weighted: bool,
 }
 
-// Both p.
-#[derive(Drop)]
-pub struct PValues {
-    pub location: PValue,
-    pub dispersion: PValue,
-}
-
 // Whether neither statistic can have a p, whatever the hits: the strata tell nothing, or both are unbounded.
-fn neither(none: bool, location: Statistic, dispersion: Statistic) -> bool
-    ensures { result ≡ neither none location dispersion }
+#[tactic(auto, unfolding(crate::specs::inner::Neither::neither))]
+fn neither(none: bool, seen: Both<Statistic>) -> bool
+    ensures { result ≡ neither none seen.location seen.dispersion }
 {
-    let Statistic::Finite(_f) = location else {
-        let Statistic::Finite(_g) = dispersion else {
-            return true;
-        };
-        return none;
-    };
-    none
+    match (seen.location, seen.dispersion) {
+        (Statistic::Unbounded, Statistic::Unbounded) => true,
+        _ => none,
+    }
 }
 
-// Both p, from the hits of the shuffles of a design over its terms t, weights w and the observed z.
+// Both p, from the hits of the shuffles of a design.
 fn p_values_drawn(
     d: Design,
-    t: &[f64],
-    w: &[f64],
-    z: &[f64],
+    over: Terms<'_>,
     none: bool,
-    seen: Seen,
+    seen: Both<Statistic>,
     draws: Draws,
-) -> PValues
-    requires { Drawing d t.now w.now z.now × (draws.many ≤ most_shuffles) }
-    ensures { result ≡ both none seen (drawn d t.now w.now z.now seen draws) draws.many }
+) -> Both<Option<f64>>
+    requires { Drawing d over.pair_terms.now over.weights.now over.z.now × (draws.many ≤ most_shuffles) }
+    ensures { result ≡ both none seen (drawn d over.entry.pair_terms.now over.entry.weights.now over.entry.z.now seen over.entry.total draws) draws.many }
 {
-    let first = seen.location;
-    let second = seen.dispersion;
-    let h = hits::draw(d, t, w, z, seen, draws);
-    let location = permanova_p_values::p_value_of(none, first, h.location, draws.many);
-    let dispersion = permanova_p_values::p_value_of(none, second, h.dispersion, draws.many);
-    PValues {
-        location,
-        dispersion,
+    let h = hits::draw(d, over, seen, draws);
+    Both {
+        location: permanova_p_values::p_value_of(none, seen.location, h.location, draws.many),
+        dispersion: permanova_p_values::p_value_of(none, seen.dispersion, h.dispersion, draws.many),
     }
 }
 
 // Both p of the lot that a design describes, over its terms t, weights w and the observed z. Where neither can have one, no shuffle is made.
-fn p_values_of(d: Design, t: &[f64], w: &[f64], z: &[f64], o: Observed, draws: Draws) -> PValues
+fn p_values_of(
+    d: Design,
+    t: &[f64],
+    w: &[f64],
+    z: &[f64],
+    o: Observed,
+    draws: Draws,
+) -> Both<Option<f64>>
     requires { Drawing d t.now w.now z.now × (draws.many ≤ most_shuffles) }
     ensures { (lot : Lot) → room.Seen lot d t.now w.now z.now o → result ≡ p_values_of lot draws.seed draws.many }
 {
-    let location = permanova_p_values::statistic_of(o.f);
-    let dispersion = permanova_p_values::statistic_of(o.disp_f);
+    let seen = Both {
+        location: permanova_p_values::statistic_of(o.f),
+        dispersion: permanova_p_values::statistic_of(o.disp_f),
+    };
     let none = permanova_p_values::uninformed(d.stratified, d.informing);
-    if neither(none, location, dispersion) {
-        return PValues {
-            location: PValue::NoP,
-            dispersion: PValue::NoP,
+    if neither(none, seen) {
+        return Both {
+            location: None,
+            dispersion: None,
         };
     }
-    let seen = Seen {
-        location,
-        dispersion,
+    let over = Terms {
+        pair_terms: t,
+        weights: w,
         total: o.total,
+        z,
     };
-    p_values_drawn(d, t, w, z, none, seen, draws)
+    p_values_drawn(d, over, none, seen, draws)
 }
 
 // The answer, from what was observed and both p. `counts` are the groups' sizes.
-fn conclude(d: Design, weighted: bool, o: Observed, counts: &[u16], c: PValues) -> TestResult
+fn conclude(
+    d: Design,
+    weighted: bool,
+    o: Observed,
+    counts: &[u16],
+    c: Both<Option<f64>>,
+) -> TestResult
     requires { Sound d }
     ensures { (lot : Lot) (seed n : ℕ) → room.Concludes lot seed n d weighted o counts.now c → result ≡ tested lot seed n }
 {

@@ -1,6 +1,8 @@
 // What is observed of a lot: the weights and terms of its kept samples, location, dispersion, and each group's count and mean z (document 01, sections 2 and 3).
-ghost use Rattle.std.specs.Prelude.{◌≡◌, Bool, List, map, ℕ, ◌*◌, length, take};
+ghost use Rattle.std.specs.Prelude.{◌≡◌, Bool, List, map, ℕ, ◌*◌, is_some, length, take};
 ghost use Rattle.lists.specs.Writes.{over};
+ghost use Rattle.grouping.specs.inner.Parts.{Grouped};
+ghost use Rattle.lot.specs.Given.{held_by};
 ghost use Rattle.lot.specs.Lot.{Lot, lot_of};
 ghost use Rattle.lot.specs.Kept.{sizes};
 ghost use Rattle.permanova_sums.specs.Squares.{weight_at, pair_terms, weighted_squares};
@@ -10,6 +12,7 @@ ghost use Rattle.lot_design.specs.inner.Designs.{Describes};
 ghost use Rattle.permanova_statistics.specs.inner.Observed.{located, spread, observed};
 ghost use Rattle.permanova_statistics.specs.inner.Observation.{WeighingKept, Weighing, Weighs, Locating, Dispersing, Listing, ObservingKept, Observing, Observes};
 
+use grouping::Groups;
 use lot_design::Design;
 use permanova_dispersion::anova;
 use permanova_sums::squares;
@@ -22,18 +25,17 @@ fn weigh_kept(
     n: usize,
     ks: &[u16],
     m: usize,
-    weighted: bool,
-    weights: &[f64],
+    weights: Option<&[f64]>,
     w: &mut [f64],
     t: &mut [f64],
     p: &mut [f64],
 )
-    requires { WeighingKept n m distances.now ks.now weighted weights.now (length w.old) (length t.old) (length p.old) }
-    ensures { (w.new ≡ map (weight_at weighted weights.now) ks.now)
-        × (t.new ≡ pair_terms distances.now n ks.now (map (weight_at weighted weights.now) ks.now) m)
-        × (p.new ≡ weighted_squares distances.now n ks.now (map (weight_at weighted weights.now) ks.now) m) }
+    requires { WeighingKept n m distances.now ks.now (is_some weights) (held_by weights) (length w.old) (length t.old) (length p.old) }
+    ensures { (w.new ≡ map (weight_at (is_some weights.entry) (held_by weights.entry)) ks.now)
+        × (t.new ≡ pair_terms distances.now n ks.now (map (weight_at (is_some weights.entry) (held_by weights.entry)) ks.now) m)
+        × (p.new ≡ weighted_squares distances.now n ks.now (map (weight_at (is_some weights.entry) (held_by weights.entry)) ks.now) m) }
 {
-    squares::fill_weights(w, weighted, weights, ks);
+    squares::fill_weights(w, weights, ks);
     squares::fill_pair_terms(t, distances, n, ks, w, m);
     squares::fill_weighted_squares(p, distances, n, ks, w, m);
 }
@@ -42,15 +44,14 @@ fn weigh_kept(
 pub fn weigh(
     d: Design,
     distances: &[f64],
-    weighted: bool,
-    weights: &[f64],
+    weights: Option<&[f64]>,
     w: &mut [f64],
     pair_terms: &mut [f64],
     weighted_squares: &mut [f64],
 )
-    requires { Weighing d distances.now weighted weights.now (length w.old) (length pair_terms.old) (length weighted_squares.old) }
-    ensures { (labels : List ℕ) (stratified : Bool) (strata : List ℕ) → Describes (lot_of d.n distances.now labels stratified strata weighted weights.now) d
-        → Weighs (lot_of d.n distances.now labels stratified strata weighted weights.now) d
+    requires { Weighing d distances.now (is_some weights) (held_by weights) (length w.old) (length pair_terms.old) (length weighted_squares.old) }
+    ensures { (labels : List ℕ) (stratified : Bool) (strata : List ℕ) → Describes (lot_of d.n distances.now labels stratified strata (is_some weights.entry) (held_by weights.entry)) d
+        → Weighs (lot_of d.n distances.now labels stratified strata (is_some weights.entry) (held_by weights.entry)) d
         (take (d.kept * d.kept) weighted_squares.new) (take (d.kept * d.kept) pair_terms.new) (take d.kept w.new) }
 {
     let n = d.n;
@@ -62,7 +63,6 @@ pub fn weigh(
         n,
         &ks[..m],
         m,
-        weighted,
         weights,
         &mut w[..m],
         &mut pair_terms[..k],
@@ -79,21 +79,13 @@ pub struct Located {
     pub r2: f64,
 }
 
-// Location of the labels `gs`, whose groups' members are the parts of `mem`.
-fn locate(
-    t: &[f64],
-    w: &[f64],
-    gs: &[u16],
-    m: usize,
-    g: usize,
-    next: &[u16],
-    mem: &[u16],
-) -> Located
-    requires { Locating m g t.now w.now gs.now next.now mem.now }
-    ensures { result ≡ located t.now w.now gs.now m g }
+// Location of labels whose groups these are.
+fn locate(t: &[f64], w: &[f64], m: usize, g: usize, groups: &Groups) -> Located
+    requires { Locating m g t.now w.now groups.now.starts groups.now.members }
+    ensures { (gs : List ℕ) → Grouped gs m g groups.now.starts groups.now.members → result ≡ located t.now w.now gs m g }
 {
     let total = crate::total(t, w, m);
-    let inside = crate::within(t, w, gs, m, g, next, mem);
+    let inside = permanova_location::within(t, w, m, g, groups);
     let f = permanova_location::pseudo_f(total, inside, m, g);
     let r2 = permanova_location::r_squared(total, inside);
     Located { total, f, r2 }
@@ -113,38 +105,34 @@ fn disperse(
     gs: &[u16],
     m: usize,
     g: usize,
-    next: &[u16],
-    mem: &[u16],
+    groups: &Groups,
     z: &mut [f64],
 ) -> Spread
-    requires { Dispersing m g p.now t.now w.now gs.now next.now mem.now (length z.old) }
+    requires { Dispersing m g p.now t.now w.now gs.now groups.now.starts groups.now.members (length z.old) }
     ensures { (result ≡ spread p.now t.now w.now gs.now m g)
         × (z.new ≡ z_of p.now t.now w.now gs.now m) }
 {
     let mut gw = [0.0f64; limits::MOST_SAMPLES];
     let mut gi = [0.0f64; limits::MOST_SAMPLES];
-    let negative = permanova_dispersion::fill_z(p, t, w, gs, m, g, next, mem, &mut gw, &mut gi, z);
-    let f = anova::anova_f(z, gs, m, g, next, mem, &mut gw);
+    let negative = permanova_dispersion::fill_z(p, t, w, gs, m, g, groups, &mut gw, &mut gi, z);
+    let f = anova::anova_f(z, gs, m, g, groups, &mut gw);
     Spread { f, negative }
 }
 
 // Each group's count and mean z go to the front of the outputs.
 fn list_groups(
     z: &[f64],
-    gs: &[u16],
     m: usize,
     g: usize,
-    next: &[u16],
-    mem: &[u16],
+    groups: &Groups,
     counts: &mut [u16],
     means: &mut [f64],
 )
-    requires { Listing m g gs.now next.now mem.now (length z.now) (length counts.old) (length means.old) }
-    ensures { (counts.new ≡ over (sizes gs.now m g) counts.old)
-        × (means.new ≡ over (mean_z z.now gs.now m g) means.old) }
+    requires { Listing m g groups.now.starts groups.now.members (length z.now) (length counts.old) (length means.old) }
+    ensures { (gs : List ℕ) → Grouped gs m g groups.now.starts groups.now.members → (counts.new ≡ over (sizes gs m g) counts.old) × (means.new ≡ over (mean_z z.now gs m g) means.old) }
 {
-    crate::fill_sizes(next, mem, m, g, counts);
-    anova::fill_means(z, m, g, next, mem, means);
+    groups.fill(g, counts, |p| p.len() as u16);
+    groups.fill(g, means, |p| anova::mean_of(z, p));
 }
 
 #[derive(Clone, Copy)]
@@ -174,12 +162,11 @@ fn observe_kept(
         × (counts.new ≡ over (sizes gs.now m g) counts.old)
         × (means.new ≡ over (mean_z (z_of p.now t.now w.now gs.now m) gs.now m g) means.old) }
 {
-    let mut next = [0u16; limits::MOST_SAMPLES + 1];
-    let mut mem = [0u16; limits::MOST_SAMPLES];
-    grouping::group(gs, m, g, &mut next, &mut mem);
-    let l = locate(t, w, gs, m, g, &next, &mem);
-    let s = disperse(p, t, w, gs, m, g, &next, &mem, z);
-    list_groups(z, gs, m, g, &next, &mem, counts, means);
+    let mut groups = Groups::new();
+    groups.sort(gs, g);
+    let l = locate(t, w, m, g, &groups);
+    let s = disperse(p, t, w, gs, m, g, &groups, z);
+    list_groups(z, m, g, &groups, counts, means);
     Observed {
         total: l.total,
         f: l.f,

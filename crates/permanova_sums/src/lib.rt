@@ -44,22 +44,13 @@ pub fn sum(w: &[f64]) -> f64
     ensures { result ≡ sum_from zero⁻ w.now }
 {
     let mut s = -0.0;
-    for i in 0..w.len() {
-        s = s + w[i];
+    for x in w {
+        s = s + *x;
     }
     s
 }
 
 // ---- within
-
-// The entry of row a at the sample `mem[y]`, added to s.
-fn add_entry(t: &[f64], m: usize, mem: &[u16], a: usize, y: usize, s: f64) -> f64
-    requires { (length t.now ≡ m * m) × Below m mem.now × (a < m) × (y < length mem.now) }
-    ensures { result ≡ s ⊕ entry m t.now a (get_or mem.now y 0) }
-{
-    let b = lists::entry(mem, y);
-    s + lists::cell(t, m, a, b)
-}
 
 // The entries of row a at the samples `mem`, added to s.
 pub fn sum_entries(t: &[f64], m: usize, mem: &[u16], a: usize, s: f64) -> f64
@@ -67,8 +58,8 @@ pub fn sum_entries(t: &[f64], m: usize, mem: &[u16], a: usize, s: f64) -> f64
     ensures { result ≡ sum_from s (map (entry m t.now a) mem.now) }
 {
     let mut u = s;
-    for y in 0..mem.len() {
-        u = add_entry(t, m, mem, a, y, u);
+    for b in mem {
+        u = u + lists::cell(t, m, a, *b as usize);
     }
     u
 }
@@ -78,8 +69,7 @@ fn pairs_with(t: &[f64], m: usize, mem: &[u16], x: usize, s: f64) -> f64
     requires { (length t.now ≡ m * m) × Below m mem.now × (x < length mem.now) }
     ensures { result ≡ sum_from s (later_pair_terms t.now m mem.now x) }
 {
-    let a = lists::entry(mem, x);
-    sum_entries(t, m, &mem[x + 1..], a, s)
+    sum_entries(t, m, &mem[x + 1..], mem[x] as usize, s)
 }
 
 // The terms of each of the first n members with each later one.
@@ -119,9 +109,9 @@ fn sum_rows(t: &[f64], m: usize, p: &[u16], q: &[u16], a: usize, b: usize, s: f6
 {
     let mut v = s;
     let mut w = u;
-    for y in 0..p.len() {
-        v = add_entry(t, m, p, a, y, v);
-        w = add_entry(t, m, q, b, y, w);
+    for (x, y) in p.iter().zip(q) {
+        v = v + lists::cell(t, m, a, *x as usize);
+        w = w + lists::cell(t, m, b, *y as usize);
     }
     Sums {
         first: v,
@@ -135,9 +125,16 @@ fn pairs_with_both(t: &[f64], m: usize, p: &[u16], q: &[u16], x: usize, s: f64, 
     ensures { (result.first ≡ sum_from s (later_pair_terms t.now m p.now x))
         × (result.second ≡ sum_from u (later_pair_terms t.now m q.now x)) }
 {
-    let a = lists::entry(p, x);
-    let b = lists::entry(q, x);
-    sum_rows(t, m, &p[x + 1..], &q[x + 1..], a, b, s, u)
+    sum_rows(
+        t,
+        m,
+        &p[x + 1..],
+        &q[x + 1..],
+        p[x] as usize,
+        q[x] as usize,
+        s,
+        u,
+    )
 }
 
 // The terms of the pairs of two groups of one size, added to s and to u.
@@ -159,21 +156,14 @@ fn add_pairs(t: &[f64], m: usize, p: &[u16], q: &[u16], s: f64, u: f64) -> Sums
     }
 }
 
-// How far a is above b.
-fn excess(a: usize, b: usize) -> usize
-    ensures { result ≡ a - b }
-{
-    if a > b { a - b } else { 0 }
-}
-
 // The pair sums of two groups: the larger one's first members alone until as many are left as the other has, then both side by side.
 pub fn two_pair_sums(t: &[f64], m: usize, p: &[u16], q: &[u16]) -> Sums
     requires { (length t.now ≡ m * m) × Below m p.now × Below m q.now }
     ensures { (result.first ≡ pair_sum t.now m p.now)
         × (result.second ≡ pair_sum t.now m q.now) }
 {
-    let i = excess(p.len(), q.len());
-    let j = excess(q.len(), p.len());
+    let i = p.len().saturating_sub(q.len());
+    let j = q.len().saturating_sub(p.len());
     let s = first_pairs(t, m, p, i);
     let u = first_pairs(t, m, q, j);
     add_pairs(t, m, &p[i..], &q[j..], s, u)
@@ -187,9 +177,8 @@ pub fn sum_at(w: &[f64], mem: &[u16], s: f64) -> f64
     ensures { result ≡ sum_from s (map (at w.now) mem.now) }
 {
     let mut u = s;
-    for x in 0..mem.len() {
-        let a = lists::entry(mem, x);
-        u = u + w[a];
+    for a in mem {
+        u = u + w[*a as usize];
     }
     u
 }

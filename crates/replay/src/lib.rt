@@ -1,37 +1,90 @@
-// Reads replay files (oracle/README.md): words of 64 bits, little endian, and holds answers against them.
+// Reads replay files (oracle/README.md): words of 64 bits, little endian, and holds answers against them. Writes numbers by their bits.
 #![tactic(auto)]
 
-ghost use Rattle.std.specs.Prelude.{◌+◌, ◌*◌, ◌≤◌, length};
+ghost use Rattle.std.specs.Prelude.{◌≤◌, length};
 
+use std::fmt;
 use std::io::Read;
 
 // ---- words
 
-// Byte i; 0 past the end.
-fn byte(b: &[u8], i: usize) -> u64 {
-    if i < b.len() { b[i] as u64 } else { 0 }
+// What is left of a record; past its end each word is 0.
+#[derive(Clone, Copy)]
+pub struct Record<'a> {
+    words: &'a [[u8; 8]],
 }
 
-// Word i; 0 past the end.
-pub fn word(b: &[u8], i: usize) -> u64 {
-    if 0x1000_0000 < i {
-        return 0;
+impl<'a> Record<'a> {
+    pub fn new(bytes: &'a [u8]) -> Record<'a> {
+        let (words, _) = bytes.as_chunks::<8>();
+        Record { words }
     }
-    let mut w: u64 = 0;
-    let mut k: usize = 8;
-    while 0 < k {
-        k -= 1;
-        w = w << 8 | byte(b, 8 * i + k);
-    }
-    w
-}
 
-// Word i, if it is at most `most`; `most` otherwise.
-pub fn number(b: &[u8], i: usize, most: usize) -> usize
-    ensures { result ≤ most }
-{
-    let w = word(b, i);
-    if w <= most as u64 { w as usize } else { most }
+    // Word k of those that are left.
+    pub fn word(&self, k: usize) -> u64 {
+        self.words.get(k).map_or(0, |w| u64::from_le_bytes(*w))
+    }
+
+    // Leaves out k words.
+    pub fn skip(&mut self, k: usize) {
+        self.words = self.words.get(k..).unwrap_or(&[]);
+    }
+
+    // The next word.
+    pub fn next(&mut self) -> u64 {
+        let w = self.word(0);
+        self.skip(1);
+        w
+    }
+
+    // The next word, if it is at most `most`; `most` otherwise.
+    pub fn number(&mut self, most: usize) -> usize
+        ensures { result ≤ most }
+    {
+        self.next().min(most as u64) as usize
+    }
+
+    // Each entry is what the next word says.
+    pub fn fill<T: Copy, F: Fn(u64) -> T>(&mut self, x: &mut [T], of: F)
+        requires { F.IsAlwaysCallable of }
+    {
+        for to in x {
+            *to = of(self.next());
+        }
+    }
+
+    // Whether the next words are those of the entries.
+    pub fn tells<T: Copy, F: Fn(T) -> u64>(&mut self, x: &[T], word_of: F) -> bool
+        requires { F.IsAlwaysCallable word_of }
+    {
+        for y in x {
+            if word_of(*y) != self.next() {
+                return false;
+            }
+        }
+        true
+    }
+
+    // The entries of a matrix of n rows, in the form that stands before them.
+    pub fn matrix(&mut self, n: usize, x: &mut [f64]) {
+        let form = Form::new(self.next());
+        for (t, to) in x.iter_mut().enumerate() {
+            *to = form.entry(*self, form.place(n, t));
+        }
+        self.skip(form.words(n));
+    }
+
+    // Whether every entry of a matrix of n rows is that which stands for it, where the entries i <= j stand row by row.
+    pub fn tells_upper(&self, n: usize, x: &[f64]) -> bool {
+        x.iter()
+            .enumerate()
+            .all(|(t, y)| pattern(*y) == self.word(upper_place(n, t)))
+    }
+
+    // A refusal by number r, as the outcome that comes next.
+    pub fn refused(&mut self, r: u8) -> Option<Held> {
+        (self.next() != 0 && self.next() == u64::from(r)).then_some(Held::Refusal)
+    }
 }
 
 // The f64 of a pattern.
@@ -39,187 +92,104 @@ pub fn value(w: u64) -> f64 {
     if w % 0x8000_0000_0000_0000 <= 0x7ff0_0000_0000_0000 {
         return f64::from_bits(w);
     }
-    0.0 / 0.0
+    f64::NAN
 }
 
-// Whether x has the pattern w; NaNs are alike.
-pub fn same(x: f64, w: u64) -> bool {
-    if x != x {
-        return w == 0x7ff8_0000_0000_0000;
+// The pattern of an f64; NaNs have one.
+pub fn pattern(x: f64) -> u64 {
+    if x.is_nan() {
+        return 0x7ff8_0000_0000_0000;
     }
-    f64::to_bits(x) == w
+    x.to_bits()
 }
 
-// ---- lists from word `at` on
+// An f64 written by its bits, or `nan`.
+#[derive(Clone, Copy, Debug)]
+pub struct Bits(pub f64);
 
-// The place k words on.
-pub fn after(at: usize, k: usize) -> usize {
-    if 0x1000_0000 < at {
-        return at;
-    }
-    if 0x1000_0000 < k {
-        return at;
-    }
-    at + k
-}
-
-pub fn read_floats(b: &[u8], at: usize, x: &mut [f64]) {
-    for i in 0..x.len() {
-        x[i] = value(word(b, after(at, i)));
-    }
-}
-
-pub fn read_numbers(b: &[u8], at: usize, x: &mut [u16]) {
-    for i in 0..x.len() {
-        x[i] = (word(b, after(at, i)) % 65536) as u16;
-    }
-}
-
-pub fn read_words(b: &[u8], at: usize, x: &mut [u64]) {
-    for i in 0..x.len() {
-        x[i] = word(b, after(at, i));
-    }
-}
-
-pub fn read_indices(b: &[u8], at: usize, x: &mut [usize]) {
-    for i in 0..x.len() {
-        x[i] = word(b, after(at, i)) as usize;
-    }
-}
-
-pub fn same_floats(b: &[u8], at: usize, x: &[f64]) -> bool {
-    for i in 0..x.len() {
-        if !same(x[i], word(b, after(at, i))) {
-            return false;
+impl fmt::Display for Bits {
+    fn fmt<W: fmt::Write>(&self, f: &mut fmt::Formatter<W>) -> fmt::Result {
+        if self.0.is_nan() {
+            return write!(f, "nan");
         }
+        write!(f, "{:016x}", pattern(self.0))
     }
-    true
-}
-
-pub fn same_numbers(b: &[u8], at: usize, x: &[u16]) -> bool {
-    for i in 0..x.len() {
-        if x[i] as u64 != word(b, after(at, i)) {
-            return false;
-        }
-    }
-    true
 }
 
 // ---- matrices
 
-// a times b, for numbers of up to 16 bits; 0 otherwise.
-pub fn product(a: usize, b: usize) -> usize {
-    if 65536 < a {
-        return 0;
+// How the entries of a matrix stand: one of each pair that mirror each other, or all; whole, or in 16 bits each, with a scale and an offset before them.
+#[derive(Clone, Copy)]
+struct Form {
+    upper: bool,
+    packed: bool,
+}
+
+impl Form {
+    fn new(form: u64) -> Form {
+        Form {
+            upper: form % 2 == 1,
+            packed: 2 <= form,
+        }
     }
-    if 65536 < b {
-        return 0;
+
+    // The place of entry t of all n by n among those that the file has.
+    fn place(self, n: usize, t: usize) -> usize {
+        if self.upper { upper_place(n, t) } else { t }
     }
-    a * b
-}
 
-// a less b; 0 below.
-fn less(a: usize, b: usize) -> usize {
-    if a < b { 0 } else { a - b }
-}
-
-// Number k of those of 16 bits, four to a word, from word `at` on.
-fn quarter(b: &[u8], at: usize, k: usize) -> u16 {
-    let w = word(b, after(at, k / 4));
-    let low = if k % 4 < 2 {
-        w % 0x1_0000_0000
-    } else {
-        w / 0x1_0000_0000
-    };
-    let n = if k % 2 == 0 { low } else { low / 65536 };
-    (n % 65536) as u16
-}
-
-// Entry k of those that stand from word `at` on, in a form of 0 to 3.
-fn entry(b: &[u8], at: usize, form: u64, k: usize) -> f64 {
-    if form < 2 {
-        return value(word(b, after(at, k)));
+    // Entry k of those that stand in r.
+    fn entry(self, r: Record, k: usize) -> f64 {
+        if !self.packed {
+            return value(r.word(k));
+        }
+        let scale = value(r.word(0));
+        let offset = value(r.word(1));
+        let w = r.word((k / 4).saturating_add(2));
+        let quarter = (w >> (16 * (k % 4))) % 65536;
+        (quarter as f64 - offset) * scale
     }
-    let scale = value(word(b, at));
-    let offset = value(word(b, after(at, 1)));
-    (quarter(b, after(at, 2), k) as f64 - offset) * scale
-}
 
-// The place of entry (i, j), i <= j, among those of the upper half.
-fn upper_place(n: usize, i: usize, j: usize) -> usize {
-    less(after(product(i, n), j), product(i, after(i, 1)) / 2)
-}
-
-// The place of entry t of all n by n among those that the file has.
-fn place(form: u64, n: usize, t: usize) -> usize {
-    if form % 2 == 0 {
-        return t;
+    // How many words they take.
+    fn words(self, n: usize) -> usize {
+        let all = n.saturating_mul(n);
+        let k = if self.upper {
+            all.saturating_add(n) / 2
+        } else {
+            all
+        };
+        if self.packed {
+            (k.saturating_add(3) / 4).saturating_add(2)
+        } else {
+            k
+        }
     }
+}
+
+// The place of entry t of all n by n among those of the upper half.
+fn upper_place(n: usize, t: usize) -> usize {
     if n == 0 {
         return t;
     }
-    let i = t / n;
-    let j = t % n;
-    if i < j {
-        upper_place(n, i, j)
-    } else {
-        upper_place(n, j, i)
-    }
-}
-
-// The entries of a matrix of n rows, whose form stands at word `at`.
-pub fn read_matrix(b: &[u8], at: usize, n: usize, x: &mut [f64]) {
-    let form = word(b, at);
-    let from = after(at, 1);
-    for t in 0..x.len() {
-        x[t] = entry(b, from, form, place(form, n, t));
-    }
-}
-
-// How many words it takes, its form included.
-pub fn matrix_words(b: &[u8], at: usize, n: usize) -> usize {
-    let form = word(b, at);
-    let all = product(n, n);
-    let k = if form % 2 == 0 {
-        all
-    } else {
-        after(all, n) / 2
-    };
-    if form < 2 {
-        after(1, k)
-    } else {
-        after(3, after(k, 3) / 4)
-    }
-}
-
-// Whether every entry of a matrix of n rows is that which stands for it from word `at` on, where the entries i <= j stand row by row.
-pub fn same_upper(b: &[u8], at: usize, n: usize, x: &[f64]) -> bool {
-    for t in 0..x.len() {
-        if !same(x[t], word(b, after(at, place(1, n, t)))) {
-            return false;
-        }
-    }
-    true
+    let i = (t / n).min(t % n);
+    let j = (t / n).max(t % n);
+    let whole = i.saturating_mul(n).saturating_add(j);
+    whole.saturating_sub(i.saturating_mul(i.saturating_add(1)) / 2)
 }
 
 // ---- the file
-
-// How many bytes the next record has.
-fn announced<R: Read>(file: &mut R) -> usize {
-    let mut head = [0u8; 8];
-    let _ = file.read_exact(&mut head);
-    8 * number(&head, 0, 80000)
-}
 
 // The next record goes to the front of b; how many bytes it has, or 0 where there is no room.
 pub fn next<R: Read>(file: &mut R, b: &mut [u8]) -> usize
     ensures { result ≤ length b.new }
 {
-    let k = announced(file);
-    if b.len() < k {
+    let mut head = [0u8; 8];
+    let _ = file.read_exact(&mut head);
+    let k = 8 * Record::new(&head).number(80000);
+    let Some(front) = b.get_mut(..k) else {
         return 0;
-    }
-    let _ = file.read_exact(&mut b[..k]);
+    };
+    let _ = file.read_exact(front);
     k
 }
 
@@ -227,90 +197,46 @@ pub fn next<R: Read>(file: &mut R, b: &mut [u8]) -> usize
 pub fn records<R: Read>(file: &mut R, op: u64) -> usize {
     let mut head = [0u8; 32];
     let _ = file.read_exact(&mut head);
-    if word(&head, 0) != 0x3130_7961_6c70_6572 {
+    let mut r = Record::new(&head);
+    if r.next() != u64::from_le_bytes(*b"replay01") || r.next() != op {
         return 0;
     }
-    if word(&head, 1) != op {
-        return 0;
-    }
-    number(&head, 2, 1000000)
+    r.number(1000000)
 }
 
 // ---- what came of it
 
-// How an answer compares with a record: an answer alike, a refusal alike, or a difference.
-#[derive(Drop)]
+// How an answer is like its record: both answer alike, or both refuse alike.
+#[derive(Clone, Copy, Debug, PartialEq, Eq)]
 pub enum Held {
     Answer,
     Refusal,
-    Difference,
-}
-
-pub fn alike(yes: bool) -> Held {
-    if yes { Held::Answer } else { Held::Difference }
-}
-
-// A refusal by number r, where word `at` begins the outcome.
-pub fn refused(b: &[u8], at: usize, r: u8) -> Held {
-    if word(b, at) == 0 {
-        return Held::Difference;
-    }
-    if word(b, after(at, 1)) != r as u64 {
-        return Held::Difference;
-    }
-    Held::Refusal
 }
 
 // How many of each so far.
-#[derive(Drop)]
+#[derive(Clone, Copy, Debug, Default)]
 pub struct Tally {
-    pub answers: usize,
-    pub refusals: usize,
-    pub differences: usize,
+    answers: usize,
+    refusals: usize,
+    differences: usize,
 }
 
-pub fn none() -> Tally {
-    Tally {
-        answers: 0,
-        refusals: 0,
-        differences: 0,
+impl Tally {
+    // One more record; none where it differs.
+    pub fn add(&mut self, h: Option<Held>) {
+        let count = match h {
+            Some(Held::Answer) => &mut self.answers,
+            Some(Held::Refusal) => &mut self.refusals,
+            None => &mut self.differences,
+        };
+        *count = count.saturating_add(1);
     }
 }
 
-// A line; a write that fails is passed over.
-fn print(rt: &impl Print, text: &str, n: usize) {
-    let _ = println!(rt; "{text}{n}");
-}
-
-// One more; a record that differs is told by its place.
-pub fn add(rt: &impl Print, t: Tally, h: Held, place: usize) -> Tally {
-    match h {
-        Held::Answer => Tally {
-            answers: after(t.answers, 1),
-            refusals: t.refusals,
-            differences: t.differences,
-        },
-        Held::Refusal => Tally {
-            answers: t.answers,
-            refusals: after(t.refusals, 1),
-            differences: t.differences,
-        },
-        Held::Difference => {
-            print(rt, "different: record ", place);
-            Tally {
-                answers: t.answers,
-                refusals: t.refusals,
-                differences: after(t.differences, 1),
-            }
-        }
+impl fmt::Display for Tally {
+    fn fmt<W: fmt::Write>(&self, f: &mut fmt::Formatter<W>) -> fmt::Result {
+        writeln!(f, "  answers alike: {}", self.answers)?;
+        writeln!(f, "  refusals alike: {}", self.refusals)?;
+        writeln!(f, "  different: {}", self.differences)
     }
-}
-
-// The tally of a file, a line each.
-pub fn tell(rt: &impl Print, name: &[u8], t: Tally) {
-    let _ = rt.write_all(name);
-    let _ = rt.write_all(b"\n");
-    print(rt, "  answers alike: ", t.answers);
-    print(rt, "  refusals alike: ", t.refusals);
-    print(rt, "  different: ", t.differences);
 }

@@ -1,90 +1,68 @@
 // Holds `gram_matrix` against a record of a replay file (oracle/README.md).
-use ordination_gram::{Answer, gram_matrix};
-use outcome::{Refusal, number_of};
-use replay::{Held, after, product, word};
+use crate::judge;
+use ordination_gram::gram_matrix;
+use replay::{Held, Record};
 
-// An answer: the selected hashes, and the entries i <= j row by row, which stand from word `at` on.
-fn selected(b: &[u8], at: usize, n: usize, k: usize, out: &[f64]) -> bool {
-    if k as u64 != word(b, at) {
-        return false;
-    }
-    replay::same_upper(b, after(at, 1), n, out)
+// n sets of hashes between offsets.
+#[derive(Clone, Copy)]
+pub struct Sets<'a> {
+    pub n: usize,
+    pub hashes: &'a [u64],
+    pub offsets: &'a [usize],
 }
 
-// What came of it, against the outcome that begins at word `at`.
-fn judge(b: &[u8], at: usize, n: usize, r: Answer, out: &[f64]) -> Held {
-    match r {
-        Answer::Refused(e) => replay::refused(b, at, number_of(e)),
-        Answer::Features(k) => replay::alike(
-            word(b, at) == 0 && selected(b, after(at, 1), n, k, out),
-        ),
+impl<'a> Sets<'a> {
+    // The next sets of a record, held in slices that are as long or longer. The last offset is the number of hashes.
+    pub fn read(
+        r: &mut Record,
+        hashes: &'a mut [u64],
+        offsets: &'a mut [usize],
+    ) -> Option<Sets<'a>> {
+        let n = r.number(256);
+        let h = r.word(n).min(65536) as usize;
+        let hashes = hashes.get_mut(..h)?;
+        let offsets = offsets.get_mut(..n + 1)?;
+        r.fill(offsets, |w| w as usize);
+        r.fill(hashes, |w| w);
+        Some(Sets { n, hashes, offsets })
     }
 }
 
-// `gram_matrix` with work of just the length asked for, cut out of more.
-fn cut_work(
-    hashes: &[u64],
-    offsets: &[usize],
-    n: usize,
+// An answer, against the selected hashes, and the entries i <= j row by row.
+fn selected(mut r: Record, n: usize, k: usize, out: &[f64]) -> bool {
+    r.next() == k as u64 && r.tells_upper(n, out)
+}
+
+// A call on sets that have been read, with an output of just the length asked for.
+fn held(r: Record, sets: Sets, out: &mut [f64], words: &mut [u64]) -> Option<Held> {
+    let n = sets.n;
+    let got = gram_matrix(sets.hashes, sets.offsets, n, out, words);
+    judge(r, got, |k, r| selected(r, n, k, out))
+}
+
+// The same, with the slices cut out of larger ones.
+fn cut(
+    mut r: Record,
+    hashes: &mut [u64],
+    offsets: &mut [usize],
     out: &mut [f64],
     words: &mut [u64],
-) -> Answer {
-    let w = product(n, limits::SELECTED_WORDS);
-    if words.len() < w {
-        return Answer::Refused(Refusal::Length);
-    }
-    gram_matrix(hashes, offsets, n, out, &mut words[..w])
-}
-
-// The same, with work of its own.
-fn ask(hashes: &[u64], offsets: &[usize], n: usize, out: &mut [f64]) -> Answer {
-    let mut words = [0u64; limits::MOST_SAMPLES * limits::SELECTED_WORDS];
-    cut_work(hashes, offsets, n, out, &mut words)
-}
-
-// A call on sets that have been read from the record b; the outcome begins at word `at`.
-fn called(
-    b: &[u8],
-    at: usize,
-    n: usize,
-    hashes: &[u64],
-    offsets: &[usize],
-    out: &mut [f64],
-) -> Held {
-    let r = ask(hashes, offsets, n, out);
-    judge(b, at, n, r, out)
-}
-
-// A call on the record b, whose hashes, offsets and output have just the lengths asked for.
-fn held(b: &[u8], n: usize, hashes: &mut [u64], offsets: &mut [usize], out: &mut [f64]) -> Held {
-    replay::read_indices(b, 2, offsets);
-    let from = after(2, offsets.len());
-    replay::read_words(b, from, hashes);
-    called(b, after(from, hashes.len()), n, hashes, offsets, out)
-}
-
-// The same, with the slices cut out of larger ones. The last offset is the number of hashes.
-fn cut(b: &[u8], hashes: &mut [u64], offsets: &mut [usize], out: &mut [f64]) -> Held {
-    let n = replay::number(b, 1, 256);
-    let h = replay::number(b, after(2, n), 65536);
-    let o = after(n, 1);
-    let k = product(n, n);
-    if hashes.len() < h {
-        return Held::Difference;
-    }
-    if offsets.len() < o {
-        return Held::Difference;
-    }
-    if out.len() < k {
-        return Held::Difference;
-    }
-    held(b, n, &mut hashes[..h], &mut offsets[..o], &mut out[..k])
+) -> Option<Held> {
+    let sets = Sets::read(&mut r, hashes, offsets)?;
+    let n = sets.n;
+    held(
+        r,
+        sets,
+        out.get_mut(..n.saturating_mul(n))?,
+        words.get_mut(..n.saturating_mul(limits::SELECTED_WORDS))?,
+    )
 }
 
 // The same, with room of its own.
-pub fn hold(b: &[u8]) -> Held {
+pub fn hold(r: Record) -> Option<Held> {
     let mut hashes = [0u64; 65536];
     let mut offsets = [0usize; 257];
     let mut out = [0.0; 65536];
-    cut(b, &mut hashes, &mut offsets, &mut out)
+    let mut words = [0u64; limits::MOST_SAMPLES * limits::SELECTED_WORDS];
+    cut(r, &mut hashes, &mut offsets, &mut out, &mut words)
 }

@@ -1,33 +1,28 @@
 // Holds `pcoa` against a record of a replay file (oracle/README.md).
+use crate::judge;
 use ordination_pcoa::pcoa;
-use outcome::{Check, number_of};
-use replay::{Held, after, product, word};
+use replay::{Held, Record, pattern};
 
-// An answer, against that which stands from word `at` on: n, k, then k values, k variance shares and coordinates n by k.
-fn found(b: &[u8], at: usize, n: usize, out: &[f64]) -> bool {
-    let k = replay::number(b, after(at, 1), 16);
-    let f = after(after(k, k), product(n, k));
-    if out.len() < f {
+// An answer, against k values, k variance shares and coordinates n by k, after k; and a number before it.
+pub fn found(mut r: Record, number: usize, n: usize, out: &[f64]) -> bool {
+    let first = r.next();
+    let k = r.number(16);
+    let Some(coordinates) = out.get(..k.saturating_add(k).saturating_add(n.saturating_mul(k)))
+    else {
         return false;
-    }
-    word(b, at) == n as u64 && replay::same_floats(b, after(at, 2), &out[..f])
+    };
+    first == number as u64 && r.tells(coordinates, pattern)
 }
 
-// What came of it, against the outcome that begins at word `at`.
-fn judge(b: &[u8], at: usize, n: usize, r: Check, out: &[f64]) -> Held {
-    match r {
-        Check::Refused(e) => replay::refused(b, at, number_of(e)),
-        Check::Passed => replay::alike(word(b, at) == 0 && found(b, after(at, 1), n, out)),
-    }
-}
-
-// `pcoa` with work of its own.
-fn ask(distances: &[f64], n: usize, components: usize, out: &mut [f64]) -> Check {
+// A call on a matrix of just the entries asked for, with work of its own.
+fn held(mut r: Record, n: usize, distances: &mut [f64], out: &mut [f64]) -> Option<Held> {
     let mut centred = [0.0; 65536];
     let mut eigenpairs = [0.0; 65792];
     let mut rotated = [0.0; 65536];
     let mut vectors = [0.0; 65536];
-    pcoa(
+    r.matrix(n, distances);
+    let components = r.number(65536);
+    let got = pcoa(
         distances,
         n,
         components,
@@ -36,30 +31,19 @@ fn ask(distances: &[f64], n: usize, components: usize, out: &mut [f64]) -> Check
         &mut eigenpairs,
         &mut rotated,
         &mut vectors,
-    )
-}
-
-// A call on the record b, whose matrix has just the entries asked for.
-fn held(b: &[u8], n: usize, distances: &mut [f64], out: &mut [f64]) -> Held {
-    replay::read_matrix(b, 2, n, distances);
-    let at = after(2, replay::matrix_words(b, 2, n));
-    let r = ask(distances, n, replay::number(b, at, 65536), out);
-    judge(b, after(at, 1), n, r, out)
+    );
+    judge(r, got, |_, r| found(r, n, n, out))
 }
 
 // The same, with the matrix cut out of a larger one.
-fn cut(b: &[u8], distances: &mut [f64], out: &mut [f64]) -> Held {
-    let n = replay::number(b, 1, 256);
-    let k = product(n, n);
-    if distances.len() < k {
-        return Held::Difference;
-    }
-    held(b, n, &mut distances[..k], out)
+fn cut(mut r: Record, distances: &mut [f64], out: &mut [f64]) -> Option<Held> {
+    let n = r.number(256);
+    held(r, n, distances.get_mut(..n.saturating_mul(n))?, out)
 }
 
 // The same, with room of its own.
-pub fn hold(b: &[u8]) -> Held {
+pub fn hold(r: Record) -> Option<Held> {
     let mut distances = [0.0; 65536];
     let mut out = [0.0; 4128];
-    cut(b, &mut distances, &mut out)
+    cut(r, &mut distances, &mut out)
 }

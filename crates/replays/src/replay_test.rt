@@ -1,312 +1,166 @@
 // Holds `test` against a record of a replay file (oracle/README.md).
-use outcome::number_of;
-use permanova::checks::Answer;
+use crate::{judge, label};
+use lot::Lot;
 use permanova::test;
-use permanova_p_values::PValue;
 use permanova_sampling::TestResult;
-use replay::{Held, after, product, same, word};
+use replay::{Held, Record, pattern, value};
 
 // ---- an answer
 
-// A p, against that which stands from word `at` on. Where F is not finite there is none (docs/DIFFERENCES.md).
-fn same_p_value(b: &[u8], at: usize, f: f64, c: PValue) -> bool {
-    let finite = float::is_finite(f);
-    match c {
-        PValue::NoP => !finite || word(b, at) == 0,
-        PValue::P(p) => finite && word(b, at) == 1 && same(p, word(b, after(at, 1))),
+// A p, against the two words that come next. Where F is not finite there is none (docs/DIFFERENCES.md).
+fn same_p_value(r: &mut Record, f: f64, p: Option<f64>) -> bool {
+    let given = r.next();
+    let w = r.next();
+    match p {
+        None => !f.is_finite() || given == 0,
+        Some(p) => f.is_finite() && given == 1 && pattern(p) == w,
     }
 }
 
-// The warnings, which stand at word `at`. Bits 5 and 6 read both p.
-fn same_warnings(b: &[u8], at: usize, r: TestResult) -> bool {
-    let s = r.summary;
-    if float::is_finite(r.f) && float::is_finite(r.disp_f) {
-        return s.warnings as u64 == word(b, at);
-    }
-    s.warnings as u64 == word(b, at) % 32
+// The warnings, which come next. Bits 5 and 6 read both p.
+fn same_warnings(r: &mut Record, t: TestResult) -> bool {
+    let w = r.next();
+    let told = if t.f.is_finite() && t.disp_f.is_finite() {
+        w
+    } else {
+        w % 32
+    };
+    t.summary.warnings as u64 == told
 }
 
-// Location: F, r2 and p.
-fn same_location(b: &[u8], at: usize, r: TestResult) -> bool {
-    let p = r.p;
-    let s = r.summary;
-    same(r.f, word(b, at))
-        && same(s.r2, word(b, after(at, 1)))
-        && same_p_value(b, after(at, 2), r.f, p)
-}
-
-// Dispersion: F and p.
-fn same_dispersion(b: &[u8], at: usize, r: TestResult) -> bool {
-    let p = r.disp_p;
-    same(r.disp_f, word(b, at)) && same_p_value(b, after(at, 1), r.disp_f, p)
+// Location: F, r2 and p; dispersion: F and p.
+fn same_statistics(r: &mut Record, t: TestResult) -> bool {
+    r.next() == pattern(t.f)
+        && r.next() == pattern(t.summary.r2)
+        && same_p_value(r, t.f, t.p)
+        && r.next() == pattern(t.disp_f)
+        && same_p_value(r, t.disp_f, t.disp_p)
 }
 
 // The record: m, g, location, dispersion, the informative fraction and the warnings.
-fn same_result(b: &[u8], at: usize, r: TestResult) -> bool {
-    let s = r.summary;
-    if s.n as u64 != word(b, at) {
-        return false;
-    }
-    if s.n_groups as u64 != word(b, after(at, 1)) {
-        return false;
-    }
-    if !same_location(b, after(at, 2), r) {
-        return false;
-    }
-    if !same_dispersion(b, after(at, 6), r) {
-        return false;
-    }
-    same(s.informative_fraction, word(b, after(at, 9))) && same_warnings(b, after(at, 10), r)
+fn same_result(r: &mut Record, t: TestResult) -> bool {
+    r.next() == t.summary.n as u64
+        && r.next() == t.summary.n_groups as u64
+        && same_statistics(r, t)
+        && r.next() == pattern(t.summary.informative_fraction)
+        && same_warnings(r, t)
 }
 
-// Each group's label, count and mean z.
-fn same_groups(
-    b: &[u8],
-    at: usize,
-    g: usize,
-    group_labels: &[u16],
-    counts: &[u16],
-    means: &[f64],
-) -> bool {
-    if group_labels.len() < g {
-        return false;
-    }
-    if counts.len() < g {
-        return false;
-    }
-    if means.len() < g {
+// What is lent for the groups: each one's label, count and mean z.
+#[derive(Clone, Copy)]
+struct Groups<'a> {
+    labels: &'a [u16],
+    counts: &'a [u16],
+    means: &'a [f64],
+}
+
+// The first g groups.
+fn same_groups(r: &mut Record, g: usize, groups: Groups) -> bool {
+    if groups.labels.len() < g || groups.counts.len() < g || groups.means.len() < g {
         return false;
     }
     for k in 0..g {
-        if !same_group(
-            b,
-            after(at, product(3, k)),
-            group_labels[k],
-            counts[k],
-            means[k],
-        ) {
+        let label = r.next() == u64::from(groups.labels[k]);
+        let count = r.next() == u64::from(groups.counts[k]);
+        let mean = r.next() == pattern(groups.means[k]);
+        if !label || !count || !mean {
             return false;
         }
     }
     true
 }
 
-fn same_group(b: &[u8], at: usize, name: u16, count: u16, mean: f64) -> bool {
-    name as u64 == word(b, at)
-        && count as u64 == word(b, after(at, 1))
-        && same(mean, word(b, after(at, 2)))
+fn found(mut r: Record, t: TestResult, groups: Groups) -> bool {
+    same_result(&mut r, t) && same_groups(&mut r, t.summary.n_groups, groups)
 }
 
 // ---- a call
 
-// Where each part of a record of n samples begins.
-#[derive(Clone, Copy)]
-pub struct Places {
-    labels: usize,
-    strata: usize,
-    weights: usize,
-    shuffles: usize,
-}
-
-// The place after a list of n words, if the word before it says that it is given.
-fn past(b: &[u8], at: usize, n: usize) -> usize {
-    if word(b, at) == 0 {
-        after(at, 1)
-    } else {
-        after(after(at, 1), n)
+// A list that may be left out, held in x.
+fn given<'a, T: Copy, F: Fn(u64) -> T>(r: &mut Record, x: &'a mut [T], of: F) -> Option<&'a [T]>
+    requires { F.IsAlwaysCallable of }
+{
+    let given = r.next();
+    if given != 0 {
+        r.fill(x, of);
     }
+    if given == 1 { Some(x) } else { None }
 }
 
-fn find(b: &[u8], n: usize) -> Places {
-    let labels = after(2, replay::matrix_words(b, 2, n));
-    let strata = after(labels, n);
-    let weights = past(b, strata, n);
-    Places {
-        labels,
-        strata,
-        weights,
-        shuffles: past(b, weights, n),
-    }
-}
-
-// What came of it, against the outcome that begins at word `at`.
-fn judge(
-    b: &[u8],
-    at: usize,
-    r: Answer,
-    group_labels: &[u16],
-    counts: &[u16],
-    means: &[f64],
-) -> Held {
-    match r {
-        Answer::Refused(e) => replay::refused(b, at, number_of(e)),
-        Answer::Tested(t) => {
-            let s = t.summary;
-            replay::alike(
-                word(b, at) == 0
-                    && same_result(b, after(at, 1), t)
-                    && same_groups(b, after(at, 12), s.n_groups, group_labels, counts, means),
-            )
-        }
-    }
-}
-
-// What a record asks, beside its lists.
-#[derive(Drop)]
-struct Asked {
-    n: usize,
-    stratified: bool,
-    weighted: bool,
-    seed: u64,
-    n_perm: u64,
-}
-
-fn question(b: &[u8], n: usize, p: Places) -> Asked {
-    Asked {
-        n,
-        stratified: word(b, p.strata) == 1,
-        weighted: word(b, p.weights) == 1,
-        seed: word(b, after(p.shuffles, 1)),
-        n_perm: word(b, p.shuffles),
-    }
-}
-
-// `test` with work of its own.
-fn ask(
-    q: Asked,
-    distances: &[f64],
-    labels: &[u16],
-    strata: &[u16],
-    weights: &[f64],
-    group_labels: &mut [u16],
-    counts: &mut [u16],
-    means: &mut [f64],
-) -> Answer {
-    let mut pair_terms = [0.0; 65536];
-    let mut weighted_squares = [0.0; 65536];
-    test(
-        q.n,
-        distances,
-        labels,
-        q.stratified,
-        strata,
-        q.weighted,
-        weights,
-        q.seed,
-        q.n_perm,
-        group_labels,
-        counts,
-        means,
-        &mut pair_terms,
-        &mut weighted_squares,
-    )
-}
-
-// A call on what has been read from the record b; the outcome begins at word `at`.
-fn called(
-    b: &[u8],
-    at: usize,
-    q: Asked,
-    distances: &[f64],
-    labels: &[u16],
-    strata: &[u16],
-    weights: &[f64],
-) -> Held {
-    let mut group_labels = [0u16; 256];
+// A call on the lot that has been read, with outputs and work of its own; the shuffles and the seed come next.
+fn held(mut r: Record, lot: Lot) -> Option<Held> {
+    let mut labels = [0u16; 256];
     let mut counts = [0u16; 256];
     let mut means = [0.0; 256];
-    let r = ask(
-        q,
-        distances,
-        labels,
-        strata,
-        weights,
-        &mut group_labels,
+    let mut pair_terms = [0.0; 65536];
+    let mut weighted_squares = [0.0; 65536];
+    let n_perm = r.next();
+    let seed = r.next();
+    let got = test(
+        lot,
+        seed,
+        n_perm,
+        &mut labels,
         &mut counts,
         &mut means,
+        &mut pair_terms,
+        &mut weighted_squares,
     );
-    judge(b, at, r, &group_labels, &counts, &means)
+    let groups = Groups {
+        labels: &labels,
+        counts: &counts,
+        means: &means,
+    };
+    judge(r, got, |t, r| found(r, t, groups))
 }
 
-// A call on the record b, whose distances have been read, with slices of just the lengths asked for.
-fn held(
-    b: &[u8],
+// The same, the lot read first into slices of just the lengths asked for.
+fn read(
+    mut r: Record,
     n: usize,
-    distances: &[f64],
+    distances: &mut [f64],
     labels: &mut [u16],
     strata: &mut [u16],
     weights: &mut [f64],
-) -> Held {
-    let p = find(b, n);
-    replay::read_numbers(b, p.labels, labels);
-    replay::read_numbers(b, after(p.strata, 1), strata);
-    replay::read_floats(b, after(p.weights, 1), weights);
-    let q = question(b, n, p);
-    called(
-        b,
-        after(p.shuffles, 2),
-        q,
+) -> Option<Held> {
+    r.matrix(n, distances);
+    r.fill(labels, label);
+    let strata = given(&mut r, strata, label);
+    let weights = given(&mut r, weights, value);
+    let lot = Lot {
+        n,
         distances,
         labels,
         strata,
         weights,
-    )
+    };
+    held(r, lot)
 }
 
-// The same, with the samples cut out of more.
-fn cut_samples(
-    b: &[u8],
-    n: usize,
-    distances: &[f64],
+// The same, with the slices cut out of more.
+fn cut(
+    mut r: Record,
+    distances: &mut [f64],
     labels: &mut [u16],
     strata: &mut [u16],
     weights: &mut [f64],
-) -> Held {
-    if labels.len() < n {
-        return Held::Difference;
-    }
-    if strata.len() < n {
-        return Held::Difference;
-    }
-    if weights.len() < n {
-        return Held::Difference;
-    }
-    held(
-        b,
+) -> Option<Held> {
+    let n = r.number(256);
+    read(
+        r,
         n,
-        distances,
-        &mut labels[..n],
-        &mut strata[..n],
-        &mut weights[..n],
+        distances.get_mut(..n.saturating_mul(n))?,
+        labels.get_mut(..n)?,
+        strata.get_mut(..n)?,
+        weights.get_mut(..n)?,
     )
-}
-
-// The same, with room for the samples.
-fn hold_samples(b: &[u8], n: usize, distances: &[f64]) -> Held {
-    let mut labels = [0u16; 256];
-    let mut strata = [0u16; 256];
-    let mut weights = [0.0; 256];
-    cut_samples(b, n, distances, &mut labels, &mut strata, &mut weights)
-}
-
-// The same, the distances read first.
-fn read(b: &[u8], n: usize, distances: &mut [f64]) -> Held {
-    replay::read_matrix(b, 2, n, distances);
-    hold_samples(b, n, distances)
-}
-
-// The same, with the distances cut out of more.
-fn cut(b: &[u8], distances: &mut [f64]) -> Held {
-    let n = replay::number(b, 1, 256);
-    let k = product(n, n);
-    if distances.len() < k {
-        return Held::Difference;
-    }
-    read(b, n, &mut distances[..k])
 }
 
 // The same, with room of its own.
-pub fn hold(b: &[u8]) -> Held {
+pub fn hold(r: Record) -> Option<Held> {
     let mut distances = [0.0; 65536];
-    cut(b, &mut distances)
+    let mut labels = [0u16; 256];
+    let mut strata = [0u16; 256];
+    let mut weights = [0.0; 256];
+    cut(r, &mut distances, &mut labels, &mut strata, &mut weights)
 }

@@ -1,32 +1,25 @@
 // Holds `top_eigs` against a record of a replay file (oracle/README.md).
+use crate::judge;
 use eigen_top::top_eigs;
-use outcome::{Check, number_of};
-use replay::{Held, after, product, word};
+use replay::{Held, Record, pattern};
 
-// An answer, against that which stands from word `at` on: k, then k values and k rows of n.
-fn found(b: &[u8], at: usize, n: usize, out: &[f64]) -> bool {
-    let k = replay::number(b, at, 16);
-    let f = after(k, product(k, n));
-    if out.len() < f {
+// An answer, against k, then k values and k rows of n.
+fn found(mut r: Record, n: usize, out: &[f64]) -> bool {
+    let k = r.number(16);
+    let Some(eigenpairs) = out.get(..k.saturating_add(k.saturating_mul(n))) else {
         return false;
-    }
-    replay::same_floats(b, after(at, 1), &out[..f])
+    };
+    r.tells(eigenpairs, pattern)
 }
 
-// What came of it, against the outcome that begins at word `at`.
-fn judge(b: &[u8], at: usize, n: usize, r: Check, out: &[f64]) -> Held {
-    match r {
-        Check::Refused(e) => replay::refused(b, at, number_of(e)),
-        Check::Passed => replay::alike(word(b, at) == 0 && found(b, after(at, 1), n, out)),
-    }
-}
-
-// `top_eigs` with work of its own.
-fn ask(a: &[f64], n: usize, components: usize, out: &mut [f64]) -> Check {
+// A call on a matrix of just the entries asked for, with work of its own.
+fn held(mut r: Record, n: usize, a: &mut [f64], out: &mut [f64]) -> Option<Held> {
     let mut eigenpairs = [0.0; 65792];
     let mut rotated = [0.0; 65536];
     let mut vectors = [0.0; 65536];
-    top_eigs(
+    r.matrix(n, a);
+    let components = r.number(65536);
+    let got = top_eigs(
         a,
         n,
         components,
@@ -34,30 +27,19 @@ fn ask(a: &[f64], n: usize, components: usize, out: &mut [f64]) -> Check {
         &mut eigenpairs,
         &mut rotated,
         &mut vectors,
-    )
-}
-
-// A call on the record b, whose matrix has just the entries asked for.
-fn held(b: &[u8], n: usize, a: &mut [f64], out: &mut [f64]) -> Held {
-    replay::read_matrix(b, 2, n, a);
-    let at = after(2, replay::matrix_words(b, 2, n));
-    let r = ask(a, n, replay::number(b, at, 65536), out);
-    judge(b, after(at, 1), n, r, out)
+    );
+    judge(r, got, |_, r| found(r, n, out))
 }
 
 // The same, with the matrix cut out of a larger one.
-fn cut(b: &[u8], a: &mut [f64], out: &mut [f64]) -> Held {
-    let n = replay::number(b, 1, 256);
-    let k = product(n, n);
-    if a.len() < k {
-        return Held::Difference;
-    }
-    held(b, n, &mut a[..k], out)
+fn cut(mut r: Record, a: &mut [f64], out: &mut [f64]) -> Option<Held> {
+    let n = r.number(256);
+    held(r, n, a.get_mut(..n.saturating_mul(n))?, out)
 }
 
 // The same, with room of its own.
-pub fn hold(b: &[u8]) -> Held {
+pub fn hold(r: Record) -> Option<Held> {
     let mut a = [0.0; 65536];
     let mut out = [0.0; 4112];
-    cut(b, &mut a, &mut out)
+    cut(r, &mut a, &mut out)
 }

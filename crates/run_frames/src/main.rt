@@ -4,12 +4,11 @@
 // them by its own rules.
 #![tactic(auto)]
 
-ghost use Rattle.std.specs.Prelude.{◌≡◌, ◌+◌, ◌<◌, ◌≤◌, min, length};
+ghost use Rattle.std.specs.Prelude.{◌-◌, ◌≤◌, length};
 ghost use Rattle.limits.specs.Limits.{most_printed};
 
-use exhaustive_hits::Assignment;
-use exhaustive_hits::every_way::Answer;
-use exhaustive_hits::judgement::{Assigned, Judgement, Tested};
+use exhaustive_hits::judgement::{Judgement, Tested};
+use judge_frames::Header;
 use outcome::Refusal;
 use permanova_p_values::Statistic;
 use permanova_statistics::summary::Summary;
@@ -22,87 +21,50 @@ fn put(rt: &impl Print, text: &str) {
     let _ = rt.print(text);
 }
 
-fn put_bytes(rt: &impl Print, s: &[u8]) {
-    let _ = rt.write_all(s);
-}
-
 // The first n bytes of s.
 fn write_front(rt: &impl Print, s: &[u8], n: usize) {
-    if n <= s.len() {
-        put_bytes(rt, &s[..n]);
+    if let Some(front) = s.get(..n) {
+        let _ = rt.write_all(front);
     }
-}
-
-fn space(rt: &impl Print) {
-    put(rt, " ");
-}
-
-fn show_number(rt: &impl Print, x: u64, digits: usize) {
-    space(rt);
-    let _ = print!(rt; "{x:0digits$x}");
-}
-
-fn wide(x: u16) -> u64 {
-    x as u64
-}
-
-// A float's pattern; one for all NaNs.
-fn pattern(x: f64) -> u64 {
-    if x != x {
-        return 0x7ff8_0000_0000_0000;
-    }
-    f64::to_bits(x)
 }
 
 fn mix(h: u64, x: u64) -> u64 {
-    (h << 5) ^ (h >> 59) ^ x
+    h.rotate_left(5) ^ x
 }
 
-fn mix_numbers(from: u64, s: &[u16]) -> u64 {
-    let mut h = from;
-    for i in 0..s.len() {
-        h = mix(h, wide(s[i]));
+// A sum over all that is held.
+fn sum_of(labels: &[u16; 32], strata: &[u16; 32], distances: &[f64; 1024]) -> u64 {
+    let mut h = 1;
+    for x in labels {
+        h = mix(h, u64::from(*x));
+    }
+    for x in strata {
+        h = mix(h, u64::from(*x));
+    }
+    for x in distances {
+        h = mix(h, replay::pattern(*x));
     }
     h
-}
-
-fn mix_floats(from: u64, s: &[f64]) -> u64 {
-    let mut h = from;
-    for i in 0..s.len() {
-        h = mix(h, pattern(s[i]));
-    }
-    h
-}
-
-fn show_sample(rt: &impl Print, label: u16, stratum: u16) {
-    show_number(rt, wide(label), 4);
-    show_number(rt, wide(stratum), 4);
-}
-
-fn show_distances(rt: &impl Print, d: &[f64; 1024]) {
-    show_number(rt, pattern(d[0]), 16);
-    show_number(rt, pattern(d[1]), 16);
-    show_number(rt, pattern(d[2]), 16);
-    show_number(rt, pattern(d[3]), 16);
 }
 
 fn show_lot(
     rt: &impl Print,
-    h: judge_frames::Header,
+    header: Header,
     labels: &[u16; 32],
     strata: &[u16; 32],
     distances: &[f64; 1024],
 ) {
-    show_number(rt, h.n as u64, 2);
-    if h.stratified {
+    let _ = print!(rt; " {:02x}", header.n);
+    if header.stratified {
         put(rt, " strata");
     }
-    show_sample(rt, labels[0], strata[0]);
-    show_sample(rt, labels[1], strata[1]);
-    show_distances(rt, distances);
-    let a = mix_numbers(1, labels);
-    let b = mix_numbers(a, strata);
-    show_number(rt, mix_floats(b, distances), 16);
+    for (label, stratum) in labels.iter().zip(strata).take(2) {
+        let _ = print!(rt; " {label:04x} {stratum:04x}");
+    }
+    for d in &distances[..4] {
+        let _ = print!(rt; " {:016x}", replay::pattern(*d));
+    }
+    let _ = print!(rt; " {:016x}", sum_of(labels, strata, distances));
 }
 
 fn show(rt: &impl Print, text: &[u8]) {
@@ -110,12 +72,9 @@ fn show(rt: &impl Print, text: &[u8]) {
     let mut strata = [7u16; 32];
     let mut distances = [7.0f64; 1024];
     match judge_frames::read_lot(text, &mut labels, &mut strata, &mut distances) {
-        judge_frames::Answer::Read(h) => {
-            show_lot(rt, h, &labels, &strata, &distances);
-        }
-        judge_frames::Answer::Refused(r) => {
-            put(rt, " refused");
-            show_number(rt, outcome::number_of(r) as u64, 2);
+        Ok(header) => show_lot(rt, header, &labels, &strata, &distances),
+        Err(e) => {
+            let _ = print!(rt; " refused {:02x}", u8::from(e));
         }
     }
     put(rt, "\n");
@@ -131,50 +90,26 @@ fn show_judged(rt: &impl Print, text: &[u8]) {
     judge_on(rt, text, &mut out);
 }
 
-// The first place of the byte from place at on, or the end.
-fn find(input: &[u8], at: usize, byte: u8) -> usize
-    requires { at ≤ length input.now }
-    ensures { (at ≤ result) × (result ≤ length input.now) }
-{
-    let mut i = at;
-    while i < input.len() {
-        if input[i] == byte {
-            return i;
-        }
-        i += 1;
+// All texts of a file, each between its name and a bar, and a sharp; what is left of one where either is missing.
+fn replay_all(rt: &impl Print, input: &[u8]) {
+    let mut rest = input;
+    while !rest.is_empty() {
+        let (name, after) = cut(rest, b'|');
+        let (text, left) = cut(after, b'#');
+        let _ = rt.write_all(name);
+        show(rt, text);
+        show_judged(rt, text);
+        rest = left;
     }
-    i
 }
 
-// The place after p, or the end.
-fn past(input: &[u8], p: usize) -> usize
-    requires { p ≤ length input.now }
-    ensures { result ≡ min (p + 1) (length input.now) }
+// What stands before the first such byte, and after it; all and nothing where there is none.
+fn cut(s: &[u8], byte: u8) -> (&[u8], &[u8])
+    ensures { length result.1.now ≤ length s.now - 1 }
 {
-    if p < input.len() {
-        return p + 1;
-    }
-    p
-}
-
-// The text at place at, and the place of the next one.
-fn show_next(rt: &impl Print, input: &[u8], at: usize) -> usize
-    requires { at < length input.now }
-    ensures { (at < result) × (result ≤ length input.now) }
-{
-    let bar = find(input, at, b'|');
-    put_bytes(rt, &input[at..bar]);
-    let start = past(input, bar);
-    let end = find(input, start, b'#');
-    show(rt, &input[start..end]);
-    show_judged(rt, &input[start..end]);
-    past(input, end)
-}
-
-fn replay(rt: &impl Print, input: &[u8]) {
-    let mut at: usize = 0;
-    while at < input.len() {
-        at = show_next(rt, input, at);
+    match s.iter().position(|c| *c == byte) {
+        Some(at) => (&s[..at], &s[at + 1..]),
+        None => (s, &[]),
     }
 }
 
@@ -197,7 +132,7 @@ fn read_full<R: Read>(file: &mut R, buffer: &mut [u8]) -> usize
 fn texts<R: Read>(rt: &impl Print, file: &mut R) {
     let mut input = [0u8; 65536];
     let n = read_full(file, &mut input);
-    replay(rt, &input[..n]);
+    replay_all(rt, &input[..n]);
 }
 
 // All texts of a file; a file that cannot be opened has none.
@@ -228,25 +163,26 @@ fn zero_digits(rt: &impl Print) {
 
 // ---- printing
 
-fn print_on(rt: &impl Print, a: Answer, out: &mut [u8])
+fn print_on(rt: &impl Print, a: Result<Judgement, Refusal>, out: &mut [u8])
     requires { most_printed ≤ length out.old }
 {
     let n = judge_printing::print_into(a, out);
     write_front(rt, out, n);
 }
 
-fn print(rt: &impl Print, a: Answer) {
+fn print(rt: &impl Print, a: Result<Judgement, Refusal>) {
     let mut out = [0u8; limits::MOST_PRINTED];
     print_on(rt, a, &mut out);
 }
 
-fn tested(s: Statistic, hits: usize) -> Tested {
-    Tested { statistic: s, hits }
-}
-
-fn show_verdict(rt: &impl Print, n: usize, ways: usize, f: f64, hits: usize, assigned: Assigned) {
-    let location = tested(permanova_p_values::statistic_of(f), hits);
-    let dispersion = tested(Statistic::Unbounded, ways);
+fn show_verdict(
+    rt: &impl Print,
+    n: usize,
+    ways: usize,
+    f: f64,
+    hits: usize,
+    assigned: Tested<Option<usize>>,
+) {
     let summary = Summary {
         n,
         n_groups: 2,
@@ -254,9 +190,17 @@ fn show_verdict(rt: &impl Print, n: usize, ways: usize, f: f64, hits: usize, ass
         informative_fraction: 1.0,
         warnings: 8,
     };
+    let location = Tested {
+        statistic: permanova_p_values::statistic_of(f),
+        hits,
+    };
+    let dispersion = Tested {
+        statistic: Statistic::Unbounded,
+        hits: ways,
+    };
     print(
         rt,
-        Answer::Judged(Judgement {
+        Ok(Judgement {
             summary,
             ways,
             location,
@@ -267,22 +211,22 @@ fn show_verdict(rt: &impl Print, n: usize, ways: usize, f: f64, hits: usize, ass
 }
 
 fn verdicts(rt: &impl Print) {
-    let none = Assigned {
-        assignment: Assignment::Withheld,
+    let none = Tested {
+        statistic: None,
         hits: 0,
     };
     show_verdict(rt, 4, 6, 32.0, 2, none);
-    let given = Assigned {
-        assignment: Assignment::Right(31),
+    let given = Tested {
+        statistic: Some(31),
         hits: 19999,
     };
     show_verdict(rt, 32, 20000, -0.0, 10, given);
 }
 
 fn refusals(rt: &impl Print) {
-    print(rt, Answer::Refused(Refusal::Length));
-    print(rt, Answer::Refused(Refusal::Unordered));
-    print(rt, Answer::Refused(Refusal::Frame));
+    for e in [Refusal::Length, Refusal::Unordered, Refusal::Frame] {
+        print(rt, Err(e));
+    }
 }
 
 fn main(rt: HostRuntime) {

@@ -6,6 +6,8 @@
 
 mod vectors;
 
+use replay::Bits;
+
 // Zeros, the ends of the subnormals and of the normals, the neighbours of powers of two, the infinities,
 // a NaN, negative numbers; values whose roots lie nearest to halfway between two f64; and four whose roots
 // are found digit by digit.
@@ -55,62 +57,30 @@ const PATTERNS: [u64; 43] = [
     0x3ff0_4529_742e_6aa3,
 ];
 
-// The value of a pattern.
-fn value(b: u64) -> f64 {
-    if b % 0x8000_0000_0000_0000 <= 0x7ff0_0000_0000_0000 {
-        return f64::from_bits(b);
-    }
-    0.0 / 0.0
-}
-
-// The pattern of a number.
-fn pattern(x: f64) -> u64 {
-    if x != x {
-        return 0;
-    }
-    f64::to_bits(x)
-}
-
-// Writes x's pattern, or `nan`.
-fn show(rt: &impl Print, x: f64) {
-    if x != x {
-        let _ = println!(rt; "nan");
-        return;
-    }
-    let bits = f64::to_bits(x);
-    let _ = println!(rt; "{bits:016x}");
-}
-
 // Writes the pattern b and the root of its value.
 fn line(rt: &impl Print, b: u64) {
-    let _ = print!(rt; "{b:016x} ");
-    show(rt, square_root::sqrt(value(b)));
+    let root = Bits(square_root::sqrt(replay::value(b)));
+    let _ = println!(rt; "{b:016x} {root}");
 }
 
 // The patterns above.
 fn listed(rt: &impl Print) {
-    let mut i: usize = 0;
-    while i < 43 {
-        line(rt, PATTERNS[i]);
-        i += 1;
+    for b in PATTERNS {
+        line(rt, b);
     }
 }
 
 // The powers of two among the subnormals.
 fn subnormals(rt: &impl Print) {
-    let mut b: u64 = 1;
-    while b < 0x10_0000_0000_0000 {
-        line(rt, b);
-        b = 2 * b;
+    for e in 0..52u32 {
+        line(rt, 1 << e);
     }
 }
 
 // Every eleventh of the other powers of two.
 fn powers(rt: &impl Print) {
-    let mut e: u64 = 1;
-    while e < 2047 {
-        line(rt, e * 0x10_0000_0000_0000);
-        e += 11;
+    for k in 0..186 {
+        line(rt, (1 + 11 * k) << 52);
     }
 }
 
@@ -118,7 +88,8 @@ fn powers(rt: &impl Print) {
 fn squares(rt: &impl Print) {
     let mut n: u64 = 1;
     while n < 0x400_0000 {
-        let b = pattern((n * n) as f64) % 0x8000_0000_0000_0000 + n % 400 * 0x20_0000_0000_0000;
+        let square = replay::pattern((n * n) as f64);
+        let b = square % 0x8000_0000_0000_0000 + n % 400 * 0x20_0000_0000_0000;
         if 0 < b {
             line(rt, b - 1);
         }
@@ -131,13 +102,11 @@ fn squares(rt: &impl Print) {
 // Random patterns, of every exponent.
 fn random(rt: &impl Print) {
     let mut b: u64 = 0x9e37_79b9_7f4a_7c15;
-    let mut n: u32 = 0;
-    while n < 500 {
-        b = b ^ (b << 13);
-        b = b ^ (b >> 7);
-        b = b ^ (b << 17);
+    for _ in 0..500 {
+        b ^= b << 13;
+        b ^= b >> 7;
+        b ^= b << 17;
         line(rt, b % 0x8000_0000_0000_0000);
-        n += 1;
     }
 }
 

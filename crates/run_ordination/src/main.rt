@@ -2,85 +2,87 @@
 // whether work slices are all zero, all as they were (7), or neither.
 #![tactic(auto)]
 
+ghost use Rattle.std.specs.Prelude.{◌≤◌};
+
 mod eigenpairs;
 mod grams;
 mod shown;
 
-use ordination_gram::Answer;
-use outcome::Check;
-use shown::{all_are, all_words, put, show};
+use outcome::Refusal;
+use shown::{all_are, put, show};
 
-// The answer: what was passed or the number of the refusal.
-fn show_check(rt: &impl Print, r: Check) {
-    match r {
-        Check::Passed => {
-            put(rt, "passed\n");
-        }
-        Check::Refused(e) => {
-            let number = outcome::number_of(e);
-            let _ = print!(rt; "refused {number}");
-            put(rt, "\n");
-        }
-    }
+fn show_passed(rt: &impl Print, r: Result<(), Refusal>) {
+    let _ = match r {
+        Ok(()) => println!(rt; "passed"),
+        Err(e) => println!(rt; "refused {}", u8::from(e)),
+    };
 }
 
-fn show_answer(rt: &impl Print, r: Answer) {
-    match r {
-        Answer::Features(k) => {
-            let _ = print!(rt; "features {k}");
-        }
-        Answer::Refused(e) => {
-            let number = outcome::number_of(e);
-            let _ = print!(rt; "refused {number}");
-        }
-    }
-    put(rt, "\n");
+fn show_features(rt: &impl Print, r: Result<usize, Refusal>) {
+    let _ = match r {
+        Ok(k) => println!(rt; "features {k}"),
+        Err(e) => println!(rt; "refused {}", u8::from(e)),
+    };
 }
 
 // A work slice: zero, as it was, or neither.
-fn show_work(rt: &impl Print, s: &[f64]) {
-    if all_are(s, 0.0) {
-        put(rt, " zero");
-        return;
-    }
-    if all_are(s, 7.0) {
-        put(rt, " kept");
-        return;
-    }
-    put(rt, " neither");
-}
-
-fn show_words(rt: &impl Print, s: &[u64]) {
-    if all_words(s, 0) {
-        put(rt, " zero\n");
-        return;
-    }
-    if all_words(s, 7) {
-        put(rt, " kept\n");
-        return;
-    }
-    put(rt, " neither\n");
-}
-
-fn show_works(rt: &impl Print, b: &[f64], w: &[f64], m: &[f64], v: &[f64]) {
-    show_work(rt, b);
-    show_work(rt, w);
-    show_work(rt, m);
-    show_work(rt, v);
+fn show_work<T: Copy + PartialEq>(rt: &impl Print, s: &[T], zero: T, seven: T) {
+    let held = if all_are(s, zero) {
+        " zero"
+    } else if all_are(s, seven) {
+        " kept"
+    } else {
+        " neither"
+    };
+    put(rt, held);
 }
 
 // ---- `pcoa`, on slices that are longer than asked for n up to 4 and 3 components
 
+// Work slices, and an output.
+#[derive(Drop)]
+struct Lent {
+    out: [f64; 20],
+    b: [f64; 17],
+    w: [f64; 21],
+    m: [f64; 17],
+    v: [f64; 17],
+}
+
+impl Lent {
+    fn new() -> Lent {
+        Lent {
+            out: [7.0; 20],
+            b: [7.0; 17],
+            w: [7.0; 21],
+            m: [7.0; 17],
+            v: [7.0; 17],
+        }
+    }
+
+    fn show(&self, rt: &impl Print) {
+        show(rt, &self.out);
+        show_work(rt, &self.b, 0.0, 7.0);
+        show_work(rt, &self.w, 0.0, 7.0);
+        show_work(rt, &self.m, 0.0, 7.0);
+        show_work(rt, &self.v, 0.0, 7.0);
+    }
+}
+
 fn call(rt: &impl Print, d: &[f64], n: usize, components: usize) {
-    let mut out = [7.0f64; 20];
-    let mut b = [7.0f64; 17];
-    let mut w = [7.0f64; 21];
-    let mut m = [7.0f64; 17];
-    let mut v = [7.0f64; 17];
-    let r = ordination_pcoa::pcoa(d, n, components, &mut out, &mut b, &mut w, &mut m, &mut v);
-    show_check(rt, r);
-    show(rt, &out);
-    show_works(rt, &b, &w, &m, &v);
+    let mut lent = Lent::new();
+    let r = ordination_pcoa::pcoa(
+        d,
+        n,
+        components,
+        &mut lent.out,
+        &mut lent.b,
+        &mut lent.w,
+        &mut lent.m,
+        &mut lent.v,
+    );
+    show_passed(rt, r);
+    lent.show(rt);
     put(rt, "\n");
 }
 
@@ -103,7 +105,7 @@ fn bounds(rt: &impl Print) {
     call(rt, &[-0.0, p, p, p, 0.0, p, p, p, 0.0], 3, 2);
     let q = 1048576.0000000002328306436538696289;
     call(rt, &[0.0, p, p, p, 0.0, q, p, q, 0.0], 3, 2);
-    let nan = 0.0 / 0.0;
+    let nan = f64::NAN;
     call(rt, &[0.0, p, p, p, 0.0, p, p, p, nan], 3, 2);
     let below = -5e-324;
     call(rt, &[0.0, p, p, p, 0.0, p, p, p, below], 3, 2);
@@ -123,7 +125,7 @@ fn mirrors(rt: &impl Print) {
     call(rt, &[0.0, 3.0, 4.0, 0.0, 0.0, 5.0, 0.0, 0.0, 0.0], 3, 17);
     call(
         rt,
-        &[0.0, 3.0, 4.0, 0.0, 0.0, 5.0, 0.0, 0.0, 0.0 / 0.0],
+        &[0.0, 3.0, 4.0, 0.0, 0.0, 5.0, 0.0, 0.0, f64::NAN],
         3,
         2,
     );
@@ -142,8 +144,7 @@ fn refusals(rt: &impl Print) {
     call(rt, &d, 3, 0);
     call(rt, &d, 3, 17);
     call(rt, &d, 4, 2);
-    let none: [f64; 0] = [];
-    call(rt, &none, 0x1_0000_0000, 2);
+    call(rt, &[], 0x1_0000_0000, 2);
     call(rt, &[1.0f64; 16], 4, 4);
 }
 
@@ -157,18 +158,23 @@ fn call_sets(
     components: usize,
     words: &mut [u64],
 ) {
-    let mut out = [7.0f64; 20];
-    let mut b = [7.0f64; 17];
-    let mut w = [7.0f64; 21];
-    let mut m = [7.0f64; 17];
-    let mut v = [7.0f64; 17];
+    let mut lent = Lent::new();
     let r = ordination_hash_pca::hash_pca(
-        hashes, offsets, n, components, &mut out, &mut b, &mut w, &mut m, &mut v, words,
+        hashes,
+        offsets,
+        n,
+        components,
+        &mut lent.out,
+        &mut lent.b,
+        &mut lent.w,
+        &mut lent.m,
+        &mut lent.v,
+        words,
     );
-    show_answer(rt, r);
-    show(rt, &out);
-    show_works(rt, &b, &w, &m, &v);
-    show_words(rt, words);
+    show_features(rt, r);
+    lent.show(rt);
+    show_work(rt, words, 0, 7);
+    put(rt, "\n");
 }
 
 fn call_hashes(rt: &impl Print, hashes: &[u64], offsets: &[usize], n: usize, components: usize) {
@@ -184,46 +190,36 @@ fn sets(rt: &impl Print) {
     call_hashes(rt, &two, &[0, 1, 2], 2, 2);
     call_hashes(rt, &[5, 6], &[0, 1, 2, 2, 2], 4, 2);
     call_hashes(rt, &two, &[0, 1, 2, 2], 3, 17);
-    let mut words = [7u64; 63];
-    call_sets(rt, &two, &[0, 1, 2, 2, 2], 4, 2, &mut words);
+    call_sets(rt, &two, &[0, 1, 2, 2, 2], 4, 2, &mut [7; 63]);
 }
 
 // No hash at all in 0, 2 and 3 sets; a hash in every set, and one three times in one set; 17 components and none, with no hash to select.
 fn catches(rt: &impl Print) {
-    let none: [u64; 0] = [];
     let all = [5u64, 5, 5];
-    call_hashes(rt, &none, &[0], 0, 2);
-    call_hashes(rt, &none, &[0, 0, 0], 2, 2);
-    call_hashes(rt, &none, &[0, 0, 0, 0], 3, 2);
+    call_hashes(rt, &[], &[0], 0, 2);
+    call_hashes(rt, &[], &[0, 0, 0], 2, 2);
+    call_hashes(rt, &[], &[0, 0, 0, 0], 3, 2);
     call_hashes(rt, &all, &[0, 1, 2, 3], 3, 2);
     call_hashes(rt, &all, &[0, 3, 3, 3], 3, 2);
-    call_hashes(rt, &none, &[0, 0, 0, 0], 3, 17);
-    call_hashes(rt, &none, &[0, 0, 0, 0], 3, 0);
+    call_hashes(rt, &[], &[0, 0, 0, 0], 3, 17);
+    call_hashes(rt, &[], &[0, 0, 0, 0], 3, 0);
 }
 
-// 1,024 hashes to select in three sets, and 1,025.
-fn call_widest(rt: &impl Print, words: &mut [u64]) {
-    let mut h = [0u64; 2048];
-    grams::over_and_over(&mut h, 1024);
-    call_sets(rt, &h, &[0, 1024, 2048, 2048], 3, 2, words);
+// m hashes to select in three sets.
+fn call_wide<const ALL: usize>(rt: &impl Print, m: usize, words: &mut [u64])
+    requires { ALL ≤ 2050 }
+{
+    let mut h = [0u64; ALL];
+    grams::over_and_over(&mut h, m as u64);
+    call_sets(rt, &h, &[0, m, ALL, ALL], 3, 2, words);
 }
 
-fn call_wider(rt: &impl Print, words: &mut [u64]) {
-    let mut h = [0u64; 2050];
-    grams::over_and_over(&mut h, 1025);
-    call_sets(rt, &h, &[0, 1025, 2050, 2050], 3, 2, words);
-}
-
-// Each with just the words that three sets take, and with one word less.
+// 1,024 and 1,025, each with just the words that three sets take, and with one word less.
 fn widths(rt: &impl Print) {
-    let mut words = [7u64; 48];
-    call_widest(rt, &mut words);
-    let mut short = [7u64; 47];
-    call_widest(rt, &mut short);
-    let mut again = [7u64; 48];
-    call_wider(rt, &mut again);
-    let mut short_again = [7u64; 47];
-    call_wider(rt, &mut short_again);
+    call_wide::<2048>(rt, 1024, &mut [7; 48]);
+    call_wide::<2048>(rt, 1024, &mut [7; 47]);
+    call_wide::<2050>(rt, 1025, &mut [7; 48]);
+    call_wide::<2050>(rt, 1025, &mut [7; 47]);
 }
 
 fn main(rt: HostRuntime) {

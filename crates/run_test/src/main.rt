@@ -1,11 +1,13 @@
 // Calls of `test` at the edges of each refusal, and with each warning: for each its answer, then the outputs and what both work slices hold. Every slice holds 7 at first.
 #![tactic(auto)]
 
-ghost use Rattle.std.specs.Prelude.{◌<◌, ◌≤◌};
+ghost use Rattle.std.specs.Prelude.{◌≤◌};
 
-use permanova::checks::Answer;
-use permanova_p_values::PValue;
+use lot::Lot;
+use outcome::Refusal;
 use permanova_sampling::TestResult;
+use replay::{Bits, pattern};
+use std::fmt;
 
 // ---- what is printed
 
@@ -14,342 +16,202 @@ fn put(rt: &impl Print, text: &str) {
     let _ = rt.print(text);
 }
 
-fn show_count(rt: &impl Print, n: u64) {
-    let _ = print!(rt; " {n}");
-}
+// A p, or that there is none.
+#[derive(Clone, Copy, Debug)]
+struct P(Option<f64>);
 
-// The bits of x; one pattern for all NaNs.
-fn pattern(x: f64) -> u64 {
-    if x != x {
-        return 0x7ff8_0000_0000_0000;
-    }
-    f64::to_bits(x)
-}
-
-// The bits of x, or `nan`.
-fn show_number(rt: &impl Print, x: f64) {
-    put(rt, " ");
-    if x != x {
-        put(rt, "nan");
-        return;
-    }
-    let bits = pattern(x);
-    let _ = print!(rt; "{bits:016x}");
-}
-
-fn show_p_value(rt: &impl Print, p: PValue) {
-    match p {
-        PValue::P(x) => {
-            show_number(rt, x);
-        }
-        PValue::NoP => {
-            put(rt, " none");
+impl fmt::Display for P {
+    fn fmt<W: fmt::Write>(&self, f: &mut fmt::Formatter<W>) -> fmt::Result {
+        match self.0 {
+            Some(p) => write!(f, "{}", Bits(p)),
+            None => write!(f, "none"),
         }
     }
 }
 
 // Kept samples and groups, F, r2 and p, F and p of dispersion, the informative fraction, the warnings.
 fn show_result(rt: &impl Print, r: TestResult) {
-    put(rt, "tested");
     let s = r.summary;
-    show_count(rt, s.n as u64);
-    show_count(rt, s.n_groups as u64);
-    show_number(rt, r.f);
-    show_number(rt, s.r2);
-    let p = r.p;
-    show_p_value(rt, p);
-    show_number(rt, r.disp_f);
-    let q = r.disp_p;
-    show_p_value(rt, q);
-    show_number(rt, s.informative_fraction);
-    show_count(rt, s.warnings as u64);
+    let _ = print!(rt; "tested {} {}", s.n, s.n_groups);
+    let _ = print!(rt; " {} {} {}", Bits(r.f), Bits(s.r2), P(r.p));
+    let _ = print!(rt; " {} {}", Bits(r.disp_f), P(r.disp_p));
+    let _ = println!(rt; " {} {}", Bits(s.informative_fraction), s.warnings);
 }
 
-fn show_answer(rt: &impl Print, a: Answer) {
+fn show_answer(rt: &impl Print, a: Result<TestResult, Refusal>) {
     match a {
-        Answer::Tested(r) => {
-            show_result(rt, r);
-        }
-        Answer::Refused(e) => {
-            put(rt, "refused");
-            show_count(rt, outcome::number_of(e) as u64);
+        Ok(r) => show_result(rt, r),
+        Err(e) => {
+            let _ = println!(rt; "refused {}", u8::from(e));
         }
     }
-    put(rt, "\n");
 }
 
 fn show_counts(rt: &impl Print, s: &[u16]) {
-    for i in 0..s.len() {
-        show_count(rt, s[i] as u64);
+    for x in s {
+        let _ = print!(rt; " {x}");
     }
     put(rt, " |");
 }
 
 fn show_numbers(rt: &impl Print, s: &[f64]) {
-    for i in 0..s.len() {
-        show_number(rt, s[i]);
+    for x in s {
+        let _ = print!(rt; " {}", Bits(*x));
     }
     put(rt, " |");
 }
 
-// Whether every number has these bits. So -0.0 is not 0.0; a NaN has none of those asked.
+// Whether every number has these bits. So -0.0 is not 0.0.
 fn all_are(s: &[f64], bits: u64) -> bool {
-    for i in 0..s.len() {
-        if pattern(s[i]) != bits {
-            return false;
-        }
-    }
-    true
+    s.iter().all(|x| pattern(*x) == bits)
 }
 
 // Whether a work slice is 0.0 throughout, or 7.0 as it was.
 fn show_work(rt: &impl Print, s: &[f64]) {
-    if all_are(s, 0) {
-        put(rt, " zero");
+    let held = if all_are(s, 0) {
+        " zero"
+    } else if all_are(s, 0x401c_0000_0000_0000) {
+        " untouched"
     } else {
-        if all_are(s, 0x401c_0000_0000_0000) {
-            put(rt, " untouched");
-        } else {
-            put(rt, " mixed");
-        }
-    }
-}
-
-fn show_works(rt: &impl Print, pair_terms: &[f64], weighted_squares: &[f64]) {
-    show_work(rt, pair_terms);
-    show_work(rt, weighted_squares);
-    put(rt, "\n");
-}
-
-fn show_slices(
-    rt: &impl Print,
-    group_labels: &[u16],
-    counts: &[u16],
-    means: &[f64],
-    pair_terms: &[f64],
-    weighted_squares: &[f64],
-) {
-    show_counts(rt, group_labels);
-    show_counts(rt, counts);
-    show_numbers(rt, means);
-    show_works(rt, pair_terms, weighted_squares);
+        " mixed"
+    };
+    put(rt, held);
 }
 
 // ---- calls
 
-// The number of samples, whether strata and weights are given, and how many shuffles are asked.
-#[derive(Drop)]
-struct Asked {
-    n: usize,
-    stratified: bool,
-    weighted: bool,
-    n_perm: u64,
-}
-
-fn call(
+// With outputs and work slices of these lengths.
+fn call_sized<const A: usize, const B: usize, const C: usize, const T: usize, const P: usize>(
     rt: &impl Print,
-    asked: Asked,
-    distances: &[f64],
-    labels: &[u16],
-    strata: &[u16],
-    weights: &[f64],
-    group_labels: &mut [u16],
-    counts: &mut [u16],
-    means: &mut [f64],
-    pair_terms: &mut [f64],
-    weighted_squares: &mut [f64],
-) {
+    lot: Lot,
+    n_perm: u64,
+)
+    requires { (A ≤ 16) × (B ≤ 16) × (C ≤ 16) × (T ≤ 256) × (P ≤ 256) }
+{
+    let mut group_labels = [7u16; A];
+    let mut counts = [7u16; B];
+    let mut means = [7.0; C];
+    let mut pair_terms = [7.0; T];
+    let mut weighted_squares = [7.0; P];
     let a = permanova::test(
-        asked.n,
-        distances,
-        labels,
-        asked.stratified,
-        strata,
-        asked.weighted,
-        weights,
+        lot,
         42,
-        asked.n_perm,
-        group_labels,
-        counts,
-        means,
-        pair_terms,
-        weighted_squares,
-    );
-    show_answer(rt, a);
-    show_slices(
-        rt,
-        group_labels,
-        counts,
-        means,
-        pair_terms,
-        weighted_squares,
-    );
-}
-
-// With outputs and work slices for 4 samples.
-fn call_four(
-    rt: &impl Print,
-    n: usize,
-    distances: &[f64],
-    labels: &[u16],
-    stratified: bool,
-    strata: &[u16],
-    weighted: bool,
-    weights: &[f64],
-    n_perm: u64,
-) {
-    let mut group_labels = [7u16; 4];
-    let mut counts = [7u16; 4];
-    let mut means = [7.0; 4];
-    let mut pair_terms = [7.0; 16];
-    let mut weighted_squares = [7.0; 16];
-    let asked = Asked {
-        n,
-        stratified,
-        weighted,
         n_perm,
-    };
-    call(
-        rt,
-        asked,
-        distances,
-        labels,
-        strata,
-        weights,
         &mut group_labels,
         &mut counts,
         &mut means,
         &mut pair_terms,
         &mut weighted_squares,
     );
+    show_answer(rt, a);
+    show_counts(rt, &group_labels);
+    show_counts(rt, &counts);
+    show_numbers(rt, &means);
+    show_work(rt, &pair_terms);
+    show_work(rt, &weighted_squares);
+    put(rt, "\n");
+}
+
+// With those that 4 samples ask.
+fn call(rt: &impl Print, lot: Lot, n_perm: u64) {
+    call_sized::<4, 4, 4, 16, 16>(rt, lot, n_perm);
+}
+
+// Neither strata nor weights are given.
+fn plain<'a>(n: usize, distances: &'a [f64], labels: &'a [u16]) -> Lot<'a> {
+    Lot {
+        n,
+        distances,
+        labels,
+        strata: None,
+        weights: None,
+    }
 }
 
 // The distances of document 01's example.
-fn example() -> [f64; 16] {
-    [
-        0.0, 2.0, 8.0, 10.0, 2.0, 0.0, 6.0, 8.0, 8.0, 6.0, 0.0, 2.0, 10.0, 8.0, 2.0, 0.0,
-    ]
-}
+const EXAMPLE: [f64; 16] = [
+    0.0, 2.0, 8.0, 10.0, 2.0, 0.0, 6.0, 8.0, 8.0, 6.0, 0.0, 2.0, 10.0, 8.0, 2.0, 0.0,
+];
 
-// Labels, with neither strata nor weights.
+// Two labels, held by two samples each.
+const TWO: [u16; 4] = [0, 0, 1, 1];
+
 fn with_labels(rt: &impl Print, labels: &[u16], n_perm: u64) {
-    let d = example();
-    call_four(rt, 4, &d, labels, false, &[], false, &[], n_perm);
+    call(rt, plain(4, &EXAMPLE, labels), n_perm);
 }
 
-// Slices of these lengths.
-fn with_lengths(rt: &impl Print, a: usize, b: usize, c: usize, t: usize, p: usize)
-    requires { (a ≤ 6) × (b ≤ 6) × (c ≤ 6) × (t ≤ 20) × (p ≤ 20) }
-{
-    let d = example();
-    let mut group_labels = [7u16; 6];
-    let mut counts = [7u16; 6];
-    let mut means = [7.0; 6];
-    let mut pair_terms = [7.0; 20];
-    let mut weighted_squares = [7.0; 20];
-    let asked = Asked {
-        n: 4,
-        stratified: false,
-        weighted: false,
-        n_perm: 9,
-    };
+fn with_distances(rt: &impl Print, distances: &[f64]) {
+    call(rt, plain(4, distances, &TWO), 9);
+}
+
+fn with_strata(rt: &impl Print, strata: &[u16]) {
+    let strata = Some(strata);
     call(
         rt,
-        asked,
-        &d,
-        &[0, 0, 1, 1],
-        &[],
-        &[],
-        &mut group_labels[..a],
-        &mut counts[..b],
-        &mut means[..c],
-        &mut pair_terms[..t],
-        &mut weighted_squares[..p],
+        Lot {
+            strata,
+            ..plain(4, &EXAMPLE, &TWO)
+        },
+        99,
     );
 }
 
-// The first two samples are x apart.
-fn with_distance(rt: &impl Print, x: f64) {
-    let mut d = example();
-    d[1] = x;
-    d[4] = x;
-    call_four(rt, 4, &d, &[0, 0, 1, 1], false, &[], false, &[], 9);
-}
-
-// Entry k of the example is x, and its mirror stays.
-fn with_entry(rt: &impl Print, k: usize, x: f64)
-    requires { k < 16 }
-{
-    let mut d = example();
-    d[k] = x;
-    call_four(rt, 4, &d, &[0, 0, 1, 1], false, &[], false, &[], 9);
-}
-
-// The second sample weighs x.
-fn with_weight(rt: &impl Print, x: f64) {
-    let d = example();
-    call_four(
+fn with_weights(rt: &impl Print, distances: &[f64], labels: &[u16], weights: &[f64]) {
+    let weights = Some(weights);
+    call(
         rt,
-        4,
-        &d,
-        &[0, 0, 1, 1],
-        false,
-        &[],
-        true,
-        &[1.0, x, 1.0, 1.0],
+        Lot {
+            weights,
+            ..plain(4, distances, labels)
+        },
         9,
     );
 }
 
-fn with_strata(rt: &impl Print, strata: &[u16]) {
-    let d = example();
-    call_four(rt, 4, &d, &[0, 0, 1, 1], true, strata, false, &[], 99);
-}
-
 // n samples that are not there.
 fn with_none(rt: &impl Print, n: usize) {
-    call_four(rt, n, &[], &[], false, &[], false, &[], 9);
+    call(rt, plain(n, &[], &[]), 9);
 }
 
 // ---- the edges
 
 fn lengths(rt: &impl Print) {
-    with_lengths(rt, 4, 4, 4, 16, 16);
-    with_lengths(rt, 6, 5, 6, 20, 17);
-    with_lengths(rt, 3, 4, 4, 16, 16);
-    with_lengths(rt, 4, 3, 4, 16, 16);
-    with_lengths(rt, 4, 4, 3, 16, 16);
-    with_lengths(rt, 4, 4, 4, 15, 16);
-    with_lengths(rt, 4, 4, 4, 16, 15);
+    let lot = plain(4, &EXAMPLE, &TWO);
+    call_sized::<4, 4, 4, 16, 16>(rt, lot, 9);
+    call_sized::<6, 5, 6, 20, 17>(rt, lot, 9);
+    call_sized::<3, 4, 4, 16, 16>(rt, lot, 9);
+    call_sized::<4, 3, 4, 16, 16>(rt, lot, 9);
+    call_sized::<4, 4, 3, 16, 16>(rt, lot, 9);
+    call_sized::<4, 4, 4, 15, 16>(rt, lot, 9);
+    call_sized::<4, 4, 4, 16, 15>(rt, lot, 9);
 }
 
-// Labels, strata or weights of another length; weights that are not given are not looked at.
+// Labels, strata or weights of another length; none of the strata and the weights.
 fn misfits(rt: &impl Print) {
-    let d = example();
-    call_four(rt, 4, &d, &[0, 0, 1], false, &[], false, &[], 9);
-    call_four(rt, 4, &[1.0; 15], &[0, 0, 1, 1], false, &[], false, &[], 9);
+    with_labels(rt, &[0, 0, 1], 9);
+    with_distances(rt, &[1.0; 15]);
     with_strata(rt, &[0, 0, 1]);
-    call_four(
-        rt,
-        4,
-        &d,
-        &[0, 0, 1, 1],
-        false,
-        &[],
-        true,
-        &[1.0, 1.0, 1.0],
-        9,
-    );
-    call_four(rt, 4, &d, &[0, 0, 1, 1], false, &[9], false, &[-1.0], 9);
+    with_weights(rt, &EXAMPLE, &TWO, &[1.0, 1.0, 1.0]);
+    with_labels(rt, &TWO, 9);
 }
 
 // Distances: NaN, below 0, -0.0, 2^20 and the next f64.
 fn distances(rt: &impl Print) {
-    with_distance(rt, 0.0 / 0.0);
-    with_distance(rt, -5e-324);
-    with_distance(rt, -0.0);
-    with_distance(rt, 1048576.0);
-    with_distance(rt, 1048576.0000000002);
+    for x in [f64::NAN, -5e-324, -0.0, 1048576.0, 1048576.0000000002] {
+        let mut d = EXAMPLE;
+        d[1] = x;
+        d[4] = x;
+        with_distances(rt, &d);
+    }
+}
+
+// Entry k of the example is x, and its mirror stays.
+fn with_entry(rt: &impl Print, k: usize, x: f64) {
+    let mut d = EXAMPLE;
+    if let Some(entry) = d.get_mut(k) {
+        *entry = x;
+    }
+    with_distances(rt, &d);
 }
 
 // The example with one half filled, that above the diagonal.
@@ -364,31 +226,34 @@ fn mirrors(rt: &impl Print) {
     with_entry(rt, 14, 1.9999999999999998);
     with_entry(rt, 0, 5e-324);
     with_entry(rt, 15, 1.0);
-    call_four(rt, 4, &HALF, &[0, 0, 1, 1], false, &[], false, &[], 9);
+    with_distances(rt, &HALF);
     with_entry(rt, 5, -0.0);
 }
 
 // A zero whose mirror has the other sign, on either side: what two zeros give. An entry that differs from its mirror between samples that are not kept.
 fn mirrored_zeros(rt: &impl Print) {
-    let mut d = example();
-    d[1] = 0.0;
-    d[4] = -0.0;
-    call_four(rt, 4, &d, &[0, 0, 1, 1], false, &[], false, &[], 9);
-    d[1] = -0.0;
-    d[4] = 0.0;
-    call_four(rt, 4, &d, &[0, 0, 1, 1], false, &[], false, &[], 9);
+    for x in [0.0, -0.0] {
+        let mut d = EXAMPLE;
+        d[1] = x;
+        d[4] = -x;
+        with_distances(rt, &d);
+    }
     let mut star = STAR;
     star[29] = 1.0;
-    call_sixteen(rt, 6, &star, &[0, 0, 1, 1, 65535, 65535], false, &[]);
+    call_sixteen(rt, plain(6, &star, &[0, 0, 1, 1, 65535, 65535]));
 }
 
 // Weights: 2^-20 and 2^20, and their neighbours outside.
 fn weights(rt: &impl Print) {
-    with_weight(rt, 0.00000095367431640625);
-    with_weight(rt, 0.0000009536743164062499);
-    with_weight(rt, 1048576.0);
-    with_weight(rt, 1048576.0000000002);
-    with_weight(rt, 0.0 / 0.0);
+    for x in [
+        0.00000095367431640625,
+        0.0000009536743164062499,
+        1048576.0,
+        1048576.0000000002,
+        f64::NAN,
+    ] {
+        with_weights(rt, &EXAMPLE, &TWO, &[1.0, x, 1.0, 1.0]);
+    }
 }
 
 // Labels of document 01's cases, too few of them, and one left out.
@@ -398,7 +263,7 @@ fn labels(rt: &impl Print) {
     with_labels(rt, &[5, 5, 65535, 65535], 9);
     with_labels(rt, &[9, 3, 3, 9], 0);
     with_labels(rt, &[0, 0, 1, 65535], 9);
-    call_four(rt, 4, &[0.0; 16], &[0, 0, 1, 1], false, &[], false, &[], 99);
+    call(rt, plain(4, &[0.0; 16], &TWO), 99);
 }
 
 // Strata of which none, both and some inform; a sample with none stands alone.
@@ -410,120 +275,65 @@ fn strata(rt: &impl Print) {
 
 // Shuffles up to their limit.
 fn shuffles(rt: &impl Print) {
-    with_labels(rt, &[0, 0, 1, 1], 999999);
-    with_labels(rt, &[0, 0, 1, 1], 1000000);
+    with_labels(rt, &TWO, 999999);
+    with_labels(rt, &TWO, 1000000);
 }
 
 // n of 0, 1 and 2, and lengths that would wrap.
 fn sizes(rt: &impl Print) {
     with_none(rt, 0);
-    call_four(rt, 1, &[0.0], &[0], false, &[], false, &[], 9);
-    call_four(
-        rt,
-        2,
-        &[0.0, 1.0, 1.0, 0.0],
-        &[0, 0],
-        false,
-        &[],
-        false,
-        &[],
-        9,
-    );
+    call(rt, plain(1, &[0.0], &[0]), 9);
+    call(rt, plain(2, &[0.0, 1.0, 1.0, 0.0], &[0, 0]), 9);
     with_none(rt, 0x1_0000_0000);
     with_none(rt, 0x8000_0000_0000_0000);
 }
 
 // The first line wins: 1 before 2, 2 before 3, 3 before 4, 4 before 5.
 fn order(rt: &impl Print) {
-    let mut d = example();
-    call_four(
-        rt,
-        4,
-        &[1.0; 15],
-        &[0, 0, 1, 1],
-        false,
-        &[],
-        false,
-        &[],
-        1000000,
-    );
+    let mut d = EXAMPLE;
+    call(rt, plain(4, &[1.0; 15], &TWO), 1000000);
     d[3] = -1.0;
-    call_four(rt, 4, &d, &[0, 0, 1, 1], false, &[], false, &[], 1000000);
-    call_four(rt, 4, &d, &[0, 0, 1, 1], false, &[], true, &[0.0; 4], 9);
-    d[3] = 10.0;
-    call_four(rt, 4, &d, &[0, 0, 1, 2], false, &[], true, &[0.0; 4], 9);
+    call(rt, plain(4, &d, &TWO), 1000000);
+    with_weights(rt, &d, &TWO, &[0.0; 4]);
+    with_weights(rt, &EXAMPLE, &[0, 0, 1, 2], &[0.0; 4]);
 }
 
 // 1, 2 and 3 before 14, and 14 before 4 and 5.
 fn order_of_the_mirror(rt: &impl Print) {
     let mut d = HALF;
-    call_four(rt, 4, &d, &[0, 0, 1], false, &[], false, &[], 9);
-    call_four(rt, 4, &d, &[0, 0, 1, 1], false, &[], false, &[], 1000000);
-    call_four(rt, 4, &d, &[0, 0, 1, 1], false, &[], true, &[0.0; 4], 9);
-    call_four(rt, 4, &d, &[0, 0, 1, 2], false, &[], false, &[], 9);
+    call(rt, plain(4, &d, &[0, 0, 1]), 9);
+    call(rt, plain(4, &d, &TWO), 1000000);
+    with_weights(rt, &d, &TWO, &[0.0; 4]);
+    call(rt, plain(4, &d, &[0, 0, 1, 2]), 9);
     d[3] = -1.0;
-    call_four(rt, 4, &d, &[0, 0, 1, 1], false, &[], false, &[], 9);
+    with_distances(rt, &d);
 }
 
 // ---- the warnings
-
-fn apart(x: f64, y: f64) -> f64 {
-    if x < y { y - x } else { x - y }
-}
 
 // The distances of 16 samples on a line.
 fn on_a_line(places: &[f64; 16]) -> [f64; 256] {
     let mut d = [0.0; 256];
     for k in 0..256 {
-        d[k] = apart(places[k / 16], places[k % 16]);
+        d[k] = (places[k / 16] - places[k % 16]).abs();
     }
     d
 }
 
 // With outputs and work slices for 16 samples, and 99 shuffles.
-fn call_sixteen(
-    rt: &impl Print,
-    n: usize,
-    distances: &[f64],
-    labels: &[u16],
-    stratified: bool,
-    strata: &[u16],
-) {
-    let mut group_labels = [7u16; 16];
-    let mut counts = [7u16; 16];
-    let mut means = [7.0; 16];
-    let mut pair_terms = [7.0; 256];
-    let mut weighted_squares = [7.0; 256];
-    let asked = Asked {
-        n,
-        stratified,
-        weighted: false,
-        n_perm: 99,
-    };
-    call(
-        rt,
-        asked,
-        distances,
-        labels,
-        strata,
-        &[],
-        &mut group_labels,
-        &mut counts,
-        &mut means,
-        &mut pair_terms,
-        &mut weighted_squares,
-    );
+fn call_sixteen(rt: &impl Print, lot: Lot) {
+    call_sized::<16, 16, 16, 256, 256>(rt, lot, 99);
 }
 
-fn with_places(
-    rt: &impl Print,
-    places: &[f64; 16],
-    labels: &[u16],
-    stratified: bool,
-    strata: &[u16],
-) {
+fn with_places(rt: &impl Print, places: &[f64; 16], labels: &[u16], strata: Option<&[u16]>) {
     let d = on_a_line(places);
-    call_sixteen(rt, 16, &d, labels, stratified, strata);
+    call_sixteen(
+        rt,
+        Lot {
+            strata,
+            ..plain(16, &d, labels)
+        },
+    );
 }
 
 const NEAR: [f64; 16] = [
@@ -555,12 +365,12 @@ const STAR: [f64; 36] = [
 // No warning; 0: a label held once; 2: one stratum of two informs; 5: both p are below 0.05; 6, with 3: groups of 12 and 4; 4, with 3. 1 is among the
 // strata above.
 fn warnings(rt: &impl Print) {
-    with_places(rt, &NEAR, &HALVES, false, &[]);
-    with_places(rt, &NEAR, &ALONE, false, &[]);
-    with_places(rt, &NEAR, &HALVES, true, &PAIR);
-    with_places(rt, &FAR, &HALVES, false, &[]);
-    with_places(rt, &UNEVEN, &QUARTER, false, &[]);
-    call_sixteen(rt, 6, &STAR, &[0, 0, 0, 1, 1, 1], false, &[]);
+    with_places(rt, &NEAR, &HALVES, None);
+    with_places(rt, &NEAR, &ALONE, None);
+    with_places(rt, &NEAR, &HALVES, Some(&PAIR));
+    with_places(rt, &FAR, &HALVES, None);
+    with_places(rt, &UNEVEN, &QUARTER, None);
+    call_sixteen(rt, plain(6, &STAR, &[0, 0, 0, 1, 1, 1]));
 }
 
 // ---- more samples than are allowed
@@ -568,8 +378,7 @@ fn warnings(rt: &impl Print) {
 // 257 samples, with slices that fit them: the answer, and whether anything was touched.
 fn call_many(
     rt: &impl Print,
-    d: &[f64],
-    labels: &[u16],
+    lot: Lot,
     numbers: &mut [u16],
     counts: &mut [u16],
     means: &mut [f64],
@@ -577,13 +386,7 @@ fn call_many(
     weighted_squares: &mut [f64],
 ) {
     let a = permanova::test(
-        257,
-        d,
-        labels,
-        false,
-        &[],
-        false,
-        &[],
+        lot,
         42,
         9,
         numbers,
@@ -594,7 +397,9 @@ fn call_many(
     );
     show_answer(rt, a);
     show_work(rt, means);
-    show_works(rt, pair_terms, weighted_squares);
+    show_work(rt, pair_terms);
+    show_work(rt, weighted_squares);
+    put(rt, "\n");
 }
 
 fn many(rt: &impl Print) {
@@ -607,8 +412,7 @@ fn many(rt: &impl Print) {
     let mut weighted_squares = [7.0f64; 66049];
     call_many(
         rt,
-        &d,
-        &labels,
+        plain(257, &d, &labels),
         &mut numbers,
         &mut counts,
         &mut means,

@@ -1,22 +1,21 @@
 -- A place drawn is below its bound; one swap by what its parts gave, a stratum's swaps from its last position down, and the parts in turn.
-use Rattle.lists.proofs.Base.{◌≡◌, refl, sym, ap, subst, ◌∙◌, List, ℕ, zero, suc, ◌+◌, ◌-◌, ◌<◌, ◌≤◌, mod-lt, arith, length, get_or}
+use Rattle.lists.proofs.Base.{◌≡◌, refl, sym, ap, subst, ◌∙◌, List, ℕ, zero, suc, ◌+◌, ◌-◌, ◌<◌, ◌≤◌, mod-lt, arith, length, get_or, set}
 use Rattle.lists.specs.Loops.{in_turn}
 use Rattle.lists.proofs.Loops.{in_turn-none, in_turn-next, down_to-none, down_to-next, down_to-all}
 use Rattle.grouping.specs.inner.Parts.{part}
 use Rattle.splitmix.specs.SplitMix.{advance, mix}
-use Rattle.shuffle.specs.declared.{Drawn.Drawn, DrawState.DrawState}
 use Rattle.shuffle.specs.Shuffle.{Shuffling, seeded, draw_below, swapped, swap_drawn, shuffle_stratum}
 use Rattle.shuffle.specs.inner.{Shuffle.shuffling, Parted.after_shuffle_by}
 
 -- a place drawn is below its bound
-pub place-below : (s : ℕ) {bound : ℕ} {d : Drawn} → 0 < bound → d ≡ draw_below s bound → d.place < bound
+pub place-below : (s : ℕ) {bound p : ℕ} → 0 < bound → p ≡ (draw_below s bound).place → p < bound
 unfolding draw_below
-place-below s {bound} some e = subst (λ (n : ℕ). n < bound) (sym (ap (λ (d : Drawn). d.place) e)) (mod-lt (mix (advance s)) some)
+place-below s {bound} some e = subst (λ (n : ℕ). n < bound) (sym e) (mod-lt (mix (advance s)) some)
 
-pub swapped-drawn : (stratum lab lab' : List ℕ) (i : ℕ) (from : DrawState) {d : Drawn} {x y : ℕ} → d ≡ draw_below from.state (i + 1)
-    → x ≡ get_or stratum i 0 → y ≡ get_or stratum d.place 0 → lab' ≡ swapped lab x y → shuffling (record { state = d.state }) lab' ≡ swap_drawn stratum i (shuffling from lab)
-unfolding swap_drawn
-swapped-drawn stratum lab lab' i from ed ex ey el = rw (el, ey, ex, ed)
+pub swapped-drawn : (stratum lab lab' : List ℕ) (i s : ℕ) {s' p x y : ℕ} → s' ≡ (draw_below s (i + 1)).state → p ≡ (draw_below s (i + 1)).place
+    → x ≡ get_or stratum i 0 → y ≡ get_or stratum p 0 → lab' ≡ set (set lab x (get_or lab y 0)) y (get_or lab x 0) → shuffling s' lab' ≡ swap_drawn stratum i (shuffling s lab)
+unfolding swap_drawn swapped
+swapped-drawn stratum lab lab' i s es ep ex ey el = rw (el, ey, ex, ep, es)
 
 -- the swaps at position i and above are made, from `start` on
 pub record StratumShuffled (stratum : List ℕ) (start d : Shuffling) (i : ℕ) : Type 0 where
@@ -72,7 +71,7 @@ module _ {next mem : List ℕ} {s : ℕ} {start : Shuffling} where
       let all : k ≡ s = omega (arith, w.most) in subst (λ (n : ℕ). d ≡ in_turn (λ j. shuffle_stratum (part next mem j)) n start) all w.held
 
 module _ (next mem : List ℕ) (s seed t : ℕ) where
-  pub after_shuffle-again : {gs lab lab' : List ℕ} {state : ℕ} {r : DrawState} → state ≡ seeded seed t → lab ≡ gs
-      → shuffling r lab' ≡ in_turn (λ k. shuffle_stratum (part next mem k)) s (shuffling (record { state = state }) lab) → shuffling r lab' ≡ after_shuffle_by next mem s gs seed t
+  pub after_shuffle-again : {gs lab lab' : List ℕ} {state r : ℕ} → state ≡ seeded seed t → lab ≡ gs
+      → shuffling r lab' ≡ in_turn (λ k. shuffle_stratum (part next mem k)) s (shuffling state lab) → shuffling r lab' ≡ after_shuffle_by next mem s gs seed t
   unfolding after_shuffle_by
   after_shuffle-again es el e = e ∙ (λ i. in_turn (λ k. shuffle_stratum (part next mem k)) s (record { state = es i; labels = el i }))

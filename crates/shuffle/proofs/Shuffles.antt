@@ -6,13 +6,12 @@ use Rattle.lists.specs.{Ranges.table, Loops.in_turn, Loops.down_to, Numbers.memb
 use Rattle.lists.specs.inner.Numbers.{Below}
 use Rattle.lists.proofs.{Ranges.table-last, Loops.in_turn-keeps, Loops.in_turn-ext}
 use Rattle.grouping.specs.inner.Parts.{part, Grouped}
-use Rattle.shuffle.specs.declared.DrawState.{DrawState}
 use Rattle.shuffle.specs.Shuffle.{Shuffling, begun, draw_below, swapped, swap_drawn, shuffle_stratum, shuffle}
 use Rattle.shuffle.specs.inner.{Shuffle.shuffling, Parted.after_shuffle_by}
 use Rattle.shuffle.specs.Shuffled.{parts, after_shuffle}
 
 -- the labels of what a shuffle left
-pub labels-are : {r : DrawState} {lab : List ℕ} {d : Shuffling} → shuffling r lab ≡ d → lab ≡ d.labels
+pub labels-are : {r : ℕ} {lab : List ℕ} {d : Shuffling} → shuffling r lab ≡ d → lab ≡ d.labels
 labels-are e = ap (λ (d : Shuffling). d.labels) e
 
 -- m labels of g groups

@@ -4,11 +4,15 @@ use mathlib.Core.List.{List, foldl}
 use Rattle.std.specs.Int.Bits.{bit_xor}
 use Rattle.lists.specs.Loops.{down_to}
 use Rattle.splitmix.specs.SplitMix.{word, next}
-use Rattle.shuffle.specs.declared.Drawn.{Drawn}
 
 -- the state that shuffle t starts from: seed xor (t times D6E8FEB86659FD93 hexadecimal, wrapping)
 unfoldable pub seeded : ℕ → ℕ → ℕ
 seeded seed t = bit_xor seed (t * 0xd6e8_feb8_6659_fd93 % word)
+
+-- a generator's next state, and a place drawn
+pub record Drawn : Type 0 where
+  pub state : ℕ
+  pub place : ℕ
 
 -- a place below a bound: the next state, and its word mod the bound
 unfoldable pub draw_below : ℕ → ℕ → Drawn

@@ -1,7 +1,7 @@
 // SplitMix64 (sections 4 and 8 of document 01), and an f64 drawn from it.
 #![tactic(auto)]
 
-ghost use Rattle.std.specs.Prelude.{◌≡◌, ◌*◌, ◌%◌, ◌^◌};
+ghost use Rattle.std.specs.Prelude.{◌≡◌};
 ghost use Rattle.splitmix.specs.SplitMix.{advance, mix, next, uniform};
 
 // The next state, and its word.
@@ -11,32 +11,19 @@ pub struct Draw {
     pub word: u64,
 }
 
-// a * b, modulo 2^64, by halves: the upper halves' product is a multiple of 2^64.
-pub fn wrapping_mul(a: u64, b: u64) -> u64
-    ensures { result ≡ a * b % 2 ^ 64 }
-{
-    let ah = a / 4294967296;
-    let al = a % 4294967296;
-    let bh = b / 4294967296;
-    let bl = b % 4294967296;
-    let low = al * bl;
-    let high = ah * bl % 4294967296 + al * bh % 4294967296 + low / 4294967296;
-    high % 4294967296 * 4294967296 + low % 4294967296
-}
-
 // The next state.
 pub fn advance(s: u64) -> u64
     ensures { result ≡ advance s }
 {
-    std::num::wrapping_add_u64(s, 0x9e37_79b9_7f4a_7c15)
+    s.wrapping_add(0x9e37_79b9_7f4a_7c15)
 }
 
 // The word that a state gives.
 pub fn mix(s: u64) -> u64
     ensures { result ≡ mix s }
 {
-    let a = wrapping_mul(s ^ (s >> 30), 0xbf58_476d_1ce4_e5b9);
-    let b = wrapping_mul(a ^ (a >> 27), 0x94d0_49bb_1331_11eb);
+    let a = (s ^ (s >> 30)).wrapping_mul(0xbf58_476d_1ce4_e5b9);
+    let b = (a ^ (a >> 27)).wrapping_mul(0x94d0_49bb_1331_11eb);
     b ^ (b >> 31)
 }
 

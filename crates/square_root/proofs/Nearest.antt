@@ -61,7 +61,7 @@ previous n q k g l h = elim (multiple n k g) [
 
 -- ---- the whole root of n with a digit too many, s, and that digit rounded: q
 -- n is even, so an s that is odd is no exact root, and its last digit rounds up
-square-parity : (s n : ℕ) → s % 2 ≡ 1 → n % 2 ≡ 0 → s * s ≡ n → ⊥
+pub square-parity : (s n : ℕ) → s % 2 ≡ 1 → n % 2 ≡ 0 → s * s ≡ n → ⊥
 square-parity s n o e h =
     let t = s / 2 in
     let w : s ≡ 2 * t + 1 = omega arith in
@@ -184,7 +184,7 @@ four : (X : ℕ) → Scaled X → scaled X * (2 ^ halved X * 2 ^ halved X) ≡ 4
 four X s = ap (λ (x : ℕ). scaled X * x) (sym (pow-add 2 (halved X) (halved X)) ∙ ap (λ (x : ℕ). 2 ^ x) (sym (two-mul (halved X)))) ∙ s.whole
     ∙ sym (mul_left_comm 4 X (2 ^ 1074))
 
-halved-le : (z : ℕ) → z ≤ 2098 → 484 + (z + 1) / 2 ≤ 2000
+pub halved-le : (z : ℕ) → z ≤ 2098 → 484 + (z + 1) / 2 ≤ 2000
 halved-le z h = omega arith
 
 pub root_of-is : (X : ℕ) → root_of X ≡ odd 54 false (root_digits X) (halved X) 1074

@@ -1,4 +1,3 @@
 -- Section 1 of document 01: the square root, by its units, and what IEEE 754 asks of it.
 pub mod Root
 pub mod Nearest
-pub mod inner

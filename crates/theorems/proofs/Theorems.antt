@@ -53,9 +53,9 @@ use Rattle.exhaustive_hits.specs.{Assignments.columns_of, Assignments.assignment
 use Rattle.exhaustive_hits.specs.Call.{Slices, NoShorter, Called, too_short, exhaustive_lines, exhaustive_call}
 use Rattle.exhaustive_walk.specs.inner.WayStatistics.{frame_of, assignment_by}
 use Rattle.judge_frames.specs.declared.Header.{Header}
-use Rattle.judge_frames.specs.declared.Answer.TheVariants.{Read}
-use Rattle.judge_frames.specs.declared.reader.Frame.{Frame}
-use Rattle.judge_frames.specs.{Frames.read_lot, Frames.several, Frames.is_pair, Frames.pair_count, Frames.joins, Frames.Taken}
+use Rattle.std.specs.Prelude.{Option, Ok}
+use Rattle.judge_frames.specs.declared.reader.{Frame.Frame, Pair.Pair}
+use Rattle.judge_frames.specs.{Frames.read_lot, Frames.several, Frames.pair_in, Frames.pair_count, Frames.joins, Frames.Taken}
 use Rattle.judge_frames.specs.{Fits.Fits, Call.read_call, Call.called, Call.fronts}
 use Rattle.judge.specs.{Judged.lot_lines, Judge.judge_text}
 use Rattle.cases.specs.{Text.bytes, Example.input, Example.upper, Example.output, Cases.cases, Cases.Hold}
@@ -202,15 +202,15 @@ read-mirrors = Fitting.read-mirrors
 
 -- and of the lines of `exhaustive` 3, 5 and 8 are left.
 pub read-lines : (lot : Lot) (s : Slices) → Fits lot → too_short lot.n s ≡ false → first (exhaustive_lines lot s) ≡ first (lot_lines lot)
-read-lines = JudgedLots.read-lines
+read-lines lot s f = JudgedLots.read-lines lot s (record { few = f.few; well = Fitting.fits-well lot f; unweighted = f.unweighted; mirrored = Fitting.read-mirrors lot f })
 
 -- After a call of `read_lot` that read a lot, the fronts of the slices hold the lot that the text describes.
-pub read-fronts : {h : Header} {labels strata : List ℕ} {distances : List Float} (text : List ℕ) → called (Read h) labels strata distances ≡ read_call text
+pub read-fronts : {h : Header} {labels strata : List ℕ} {distances : List Float} (text : List ℕ) → called (Ok h) labels strata distances ≡ read_call text
     → read_lot text ≡ answered (fronts h labels strata distances)
 read-fronts = ReadFronts.read-fronts
 
 -- As many pairs as there are, and none twice, are all pairs: no distance off the diagonal is left at 0 for want of a frame.
-pub complete : (n : ℕ) (fs : List Frame) (t : Taken) → several (is_pair n) (pair_count n) [] fs ≡ answered t
+pub complete : (n : ℕ) (fs : List (Option Frame)) (t : Taken Pair) → several (pair_in n) (pair_count n) [] fs ≡ answered t
     → (i j : ℕ) → i < j → j < n → any (joins i j) t.taken ≡ true
 complete = AllPairs.complete
 

@@ -1,10 +1,15 @@
 -- `dapc_cholesky::factor` meets its contract. After i turns the first i rows stand there, and their pivots are tested.
-use Rattle.lists.proofs.Base.{sym, ap, subst, ◌∙◌, Bool, not, ◌+◌, ◌*◌, arith, length, length-replicate}
+use Rattle.lists.proofs.Base.{sym, ap, subst, ◌∙◌, Bool, not, cond, ◌+◌, ◌*◌, arith, length, length-replicate}
 use Rattle.float.specs.Floats.{zero⁺}
 use Rattle.lists.proofs.{Loops.in_turn-none, Truths.or-true, Truths.or-false, Filters.range-any-none}
+use Rattle.outcome.specs.Outcome.{Told, refused, passed}
 use Rattle.dapc_cholesky.proofs.Pivots.{Factoring, factoring-next, factoring-all}
 use Rattle.dapc_cholesky.proofs.factor.Goals as goal
 use Rattle.dapc_cholesky.proofs.factor.Goals.{then-not-s, else-not-s}
+
+-- what is returned, by the test of all pivots
+abbrev pivot_told : Bool → Told
+pivot_told fails = cond fails (refused 10) passed
 
 pub loop-i-init : goal.loop-i-init
 loop-i-init c = record { most = omega arith; long = ap length c.requires.1 ∙ length-replicate (c.args.p * c.args.p) zero⁺; held = c.requires.1 ∙ in_turn-none _ _; told = sym (range-any-none _ 0 0 (omega arith)) }
@@ -26,5 +31,12 @@ loop-i-preserved c =
           (factoring-next _ _ turn.l turn.invariant c.loop-i-test.true long row.ensures.0 row.ensures.1 (ap not w.if-not-s.false))
     ]
 
+pub returns-then-fails : goal.returns-then-fails
+returns-then-fails c =
+    let all = factoring-all _ _ c.loop-i.invariant c.loop-i-test.false in
+    (all.0, ap pivot_told (sym c.if-fails.true ∙ all.1))
+
 pub returns : goal.returns
-returns c = factoring-all _ _ c.loop-i.invariant c.loop-i-test.false
+returns c =
+    let all = factoring-all _ _ c.loop-i.invariant c.loop-i-test.false in
+    (all.0, ap pivot_told (sym c.if-fails.false ∙ all.1))

@@ -13,8 +13,8 @@ reduce-s-requires c =
     let long-here : length c.loop-j.l ≡ c.args.p * c.args.p = c.loop-j.invariant.1 ∙ c.requires.1 in
     (c.requires.0, long-here, c.requires.2, omega arith)
 
-pub at-d-requires : goal.at-d-requires
-at-d-requires c =
+pub cell-d-requires : goal.cell-d-requires
+cell-d-requires c =
     let long-here : length c.loop-j.l ≡ c.args.p * c.args.p = c.loop-j.invariant.1 ∙ c.requires.1 in
     (long-here, omega arith, omega arith)
 
@@ -27,7 +27,7 @@ loop-j-preserved c =
       simp length-set turn.invariant.1,
       in_turn-next _ _ _ turn.invariant.2
           (rw (ne_eqb a.i turn.j (λ e. omega arith))
-          (ap₂ (λ (s d : Float). set turn.l (a.i * a.p + turn.j) (s ⊘ d)) c.reduce-s.ensures c.at-d.ensures)),
+          (ap₂ (λ (s d : Float). set turn.l (a.i * a.p + turn.j) (s ⊘ d)) c.reduce-s.ensures c.cell-d.ensures)),
     )
 
 pub returns : goal.returns

@@ -5,23 +5,23 @@ use Rattle.lists.proofs.Loops.{in_turn-none, in_turn-next}
 use Rattle.dapc_cholesky.specs.Cholesky.{reduced}
 use Rattle.dapc_cholesky.proofs.reduce.Goals as goal
 
-pub at-s-requires : goal.at-s-requires
-at-s-requires c = (c.requires.0, c.requires.2, c.requires.3)
+pub cell-s-requires : goal.cell-s-requires
+cell-s-requires c = (c.requires.0, c.requires.2, c.requires.3)
 
 pub loop-k-init : goal.loop-k-init
-loop-k-init c = (omega arith, c.at-s.ensures ∙ in_turn-none _ _)
+loop-k-init c = (omega arith, c.cell-s.ensures ∙ in_turn-none _ _)
 
-pub at-requires : goal.at-requires
-at-requires c = (c.requires.1, c.requires.2, omega arith)
+pub cell-requires : goal.cell-requires
+cell-requires c = (c.requires.1, c.requires.2, omega arith)
 
-pub at-requires-in-loop-k : goal.at-requires-in-loop-k
-at-requires-in-loop-k c = let pre = c.requires in (pre.1, pre.3, omega arith)
+pub cell-requires-in-loop-k : goal.cell-requires-in-loop-k
+cell-requires-in-loop-k c = let pre = c.requires in (pre.1, pre.3, omega arith)
 
 pub loop-k-preserved : goal.loop-k-preserved
 loop-k-preserved c = (
   omega arith,
   in_turn-next _ _ _ c.loop-k.invariant.1
-      (ap₂ (λ (x y : Float). c.loop-k.s ⊖ x ⊗ y) c.at.ensures c.at-in-loop-k.ensures),
+      (ap₂ (λ (x y : Float). c.loop-k.s ⊖ x ⊗ y) c.cell.ensures c.cell-in-loop-k.ensures),
 )
 
 pub returns : goal.returns

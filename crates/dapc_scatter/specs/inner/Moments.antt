@@ -1,23 +1,11 @@
 -- Section 5: means and scatter together. Statements only.
-use Rattle.std.specs.Prelude.{ℕ, ◌*◌, ◌≤◌, ◌≡◌, List, length, replicate, Float}
-use Rattle.limits.specs.Limits.{most_columns, most_samples}
+use Rattle.std.specs.Prelude.{ℕ, ◌*◌, ◌≡◌, List, length, replicate, Float}
 use Rattle.float.specs.Floats.{zero⁺, zero⁻}
 use Rattle.lot.specs.Kept.{sizes}
-use Rattle.dapc_scatter.specs.Means.{grouped, mean_of, group_means}
-use Rattle.dapc_scatter.specs.inner.Means.{Numbered}
+use Rattle.dapc_scatter.specs.Means.{mean_of, group_means}
 use Rattle.dapc_scatter.specs.Ridge.{ridged}
 use Rattle.dapc_scatter.specs.Scatter.{scatter_within, scatter_between}
-use Rattle.dapc_scatter.specs.declared.moments.Dimensions.{Dimensions}
-
--- coordinates and groups have these sizes
-pub record Sized (d : Dimensions) (x : List Float) (each : List ℕ) : Type 0 where
-  pub coordinates : length x ≡ length each * d.columns
-  pub leads : d.lead ≤ d.columns
-  pub narrow : d.lead ≤ most_columns
-  pub most : d.groups ≤ 128
-  pub numbered : Numbered d.groups each
-  pub few : length each ≤ most_samples
-  pub members : d.kept ≡ length (grouped each)
+use Rattle.dapc_scatter.specs.declared.samples.Dimensions.{Dimensions}
 
 -- the four that are filled, before
 pub record Cleared (d : Dimensions) (mean : List Float) (counts : List ℕ) (sw sb : List Float) : Type 0 where

@@ -5,4 +5,7 @@ use Rattle.dapc_scores.proofs.Scoring.{scored}
 use Rattle.dapc_scores.proofs.fill_scores.Given as goal
 
 abbrev pub invariant-loop-i : goal.invariant-loop-i
-invariant-loop-i l = Filling l.n l.axes (scored l.n l.columns l.p l.axes l.x l.mean l.vs) l.initial.scores l.scores l.i × (length l.d ≡ l.p)
+invariant-loop-i l =
+    let s = l.samples in
+    let n = length s.groups.now in
+    Filling n s.sizes.axes (scored n s.sizes.columns s.sizes.lead s.sizes.axes s.x.now l.mean l.vs) l.initial.scores l.scores l.i × (length l.d ≡ s.sizes.lead)

@@ -10,8 +10,8 @@ pub returns : goal.returns
 unfolding block_step plus_times
 returns c =
     let a = c.args in (
-      c.orthonormalize.ensures ∙ ap (orthonormal a.n a.b)
+      c.orthonormalize.ensures ∙ ap (orthonormal a.a.n a.b)
           (c.add_multiple.ensures ∙ zip-table (λ u v. u ⊕ a.shift ⊗ v) (a.aq.now) (a.q.now) nan nan (c.requires.1 ∙ sym c.requires.0)
-          ∙ ap (λ (t : List Float). plus_times a.shift t (a.q.now)) c.requires.3),
+          ∙ ap (λ (t : List Float). plus_times a.shift t (a.q.now)) c.requires.2),
       c.matvec_block.ensures,
     )

@@ -9,20 +9,15 @@ as_many : (n : ℕ) {k k₀ : ℕ} (q aq : List Float) {l : List Float} → k �
 as_many n q aq e f = f ∙ ap (λ (k : ℕ). ritz n k q aq) e
 
 pub loop-t-init : goal.loop-t-init
-loop-t-init c = (refl, refl, refl, c.requires.4, refl)
-
-pub round-requires : goal.round-requires
-round-requires c =
-    let p = c.requires in
-    let inv = c.loop-t.invariant in (inv.0 ∙ p.0, inv.1 ∙ p.1, p.2, omega (arith, inv.2, p.3), inv.3)
+loop-t-init c = (c.requires.3, refl)
 
 pub returns-then-round : goal.returns-then-round
 returns-then-round c =
     let a = c.args in
     let made = c.round.ensures in (
-      rounds-end a.n (a.a.now) a.b (length (a.before.now)) a.shift c.loop-t.t c.loop-t.before c.loop-t.q
+      rounds-end _ _ a.b (length (a.before.now)) a.shift c.loop-t._t c.loop-t.before c.loop-t.q
           (omega (arith, c.loop-t-test.true)) made.0
-          (as_many a.n _ _ c.loop-t.invariant.2 made.2) (sym made.3 ∙ c.if-round.true) ∙ c.loop-t.invariant.4,
+          (as_many _ _ _ c.loop-t.auto.before made.2) (sym made.3 ∙ c.if-round.true) ∙ c.loop-t.invariant.1,
       made.1,
     )
 
@@ -30,19 +25,13 @@ pub loop-t-preserved : goal.loop-t-preserved
 loop-t-preserved c =
     let a = c.args in
     let made = c.round.ensures in (
-      c.round.auto.q ∙ c.loop-t.invariant.0,
-      c.round.auto.aq ∙ c.loop-t.invariant.1,
-      c.round.auto.before ∙ c.loop-t.invariant.2,
       made.1,
-      rounds-on a.n (a.a.now) a.b (length (a.before.now)) a.shift c.loop-t.t c.loop-t.before c.loop-t.q
+      rounds-on _ _ a.b (length (a.before.now)) a.shift c.loop-t._t c.loop-t.before c.loop-t.q
           (omega (arith, c.loop-t-test.true)) made.0
-          (as_many a.n _ _ c.loop-t.invariant.2 made.2) (sym made.3 ∙ c.if-round.false) ∙ c.loop-t.invariant.4,
+          (as_many _ _ _ c.loop-t.auto.before made.2) (sym made.3 ∙ c.if-round.false) ∙ c.loop-t.invariant.1,
     )
 
 pub returns : goal.returns
 returns c =
-    let a = c.args in (
-      rounds-none a.n (a.a.now) a.b (length (a.before.now)) a.shift c.loop-t.t c.loop-t.before c.loop-t.q
-          (omega (arith, c.loop-t-test.false)) ∙ c.loop-t.invariant.4,
-      c.loop-t.invariant.3,
-    )
+    let a = c.args in
+    (rounds-none _ _ a.b (length (a.before.now)) a.shift c.loop-t._t c.loop-t.before c.loop-t.q (omega arith) ∙ c.loop-t.invariant.1, c.loop-t.invariant.0)

@@ -1,5 +1,5 @@
 -- `eigen_block::update_ritz_values` meets its contract. The invariant: j Ritz values are found and held against those before.
-use Rattle.lists.proofs.Base.{ℕ, arith, length, Float}
+use Rattle.lists.proofs.Base.{ap, ℕ, ◌&&◌, Bool, arith, length, Float}
 use Rattle.lists.specs.Rows.{row}
 use Rattle.lists.proofs.{Rows.row-end, Writes.writing-all}
 use Rattle.eigen_vectors.specs.Vectors.{dot}
@@ -17,7 +17,7 @@ pub loop-j-preserved : goal.loop-j-preserved
 loop-j-preserved c =
     let a = c.args in
     settling-next (λ j. dot (row a.n j (a.q.now)) (row a.n j (a.aq.now))) (a.before.now) c.loop-j.invariant
-    (omega arith) c.dot_rows-r.ensures c.converged_too-s.ensures
+    (omega arith) c.dot_rows-r.ensures (ap (λ (b : Bool). c.loop-j.settled && b) c.has_settled-settled.ensures)
 
 pub returns : goal.returns
 unfolding ritz

@@ -22,7 +22,7 @@ returns-then-has_nan c =
     let done = c.diagonalise-made in
     let long = length_front a.out.now done.new.y a.n done.auto.y in
     solved-unordered a.n a.a.now done.ensures.0 done.ensures.1 a.out.now c.requires.a_len.1
-    (sym c.has_nan.ensures ∙ c.if-has_nan.true) (c.clear.ensures ∙ ap (λ (k : ℕ). replicate k zero⁺) long)
+    (sym c.has_nan.ensures ∙ c.if-has_nan.true) (c.fill.ensures.after (λ _ e. e) ∙ ap (λ (k : ℕ). replicate k zero⁺) long)
 
 pub returns : goal.returns
 returns c =

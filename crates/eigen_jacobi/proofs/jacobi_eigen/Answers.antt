@@ -1,22 +1,23 @@
 -- `eigen_jacobi::jacobi_eigen` meets its contract. By whether a line of the table holds.
-use Rattle.lists.proofs.Base.{length}
+use Rattle.lists.proofs.Base.{ap, ◌∙◌, length}
+use Rattle.outcome.proofs.Table.{told-passed, told-refused, passed-on}
+use Rattle.eigen_jacobi.specs.Call.{called}
 use Rattle.eigen_jacobi.proofs.Calls.{call-refused, call-passed, passed-fits}
 use Rattle.eigen_jacobi.proofs.jacobi_eigen.Goals as goal
 
-pub with_scratch-requires : goal.with_scratch-requires
-with_scratch-requires c =
+pub solve-requires : goal.solve-requires
+solve-requires c =
     let a = c.args in
-    let passed = c.in-Passed.ensures in
-    let fits = passed-fits a.n a.a.now (length a.out.now) (length a.rotated.now) (length a.vectors.now) passed in
+    let fits = passed-fits a.n a.a.now (length a.out.now) (length a.rotated.now) (length a.vectors.now) (told-passed c.check.ensures c.in_ok-check.was) in
     (fits.a-fits, fits.out-fits, fits.m-fits, fits.v-fits, fits.n-fits)
 
-pub returns-in-Refused : goal.returns-in-Refused
-returns-in-Refused c =
+pub returns-in_err-check : goal.returns-in_err-check
+returns-in_err-check c =
     let a = c.args in
-    call-refused a.n a.a.now a.out.now a.rotated.now a.vectors.now (c.in-Refused.ensures)
+    ap (λ r. called r a.out.now a.rotated.now a.vectors.now) (passed-on _ c.from_residual.ensures.1)
+    ∙ call-refused a.n a.a.now a.out.now a.rotated.now a.vectors.now (told-refused c.check.ensures c.in_err-check.was)
 
-pub returns-in-Passed : goal.returns-in-Passed
-returns-in-Passed c =
+pub returns : goal.returns
+returns c =
     let a = c.args in
-    call-passed a.n a.a.now a.out.now a.rotated.now a.vectors.now
-    (c.in-Passed.ensures) c.with_scratch.ensures
+    call-passed a.n a.a.now a.out.now a.rotated.now a.vectors.now (told-passed c.check.ensures c.in_ok-check.was) c.solve.ensures

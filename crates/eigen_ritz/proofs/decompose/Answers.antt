@@ -8,5 +8,5 @@ use Rattle.eigen_ritz.proofs.decompose.Goals as goal
 pub returns : goal.returns
 returns c =
     let a = c.args in
-    solved-found a.b _ a.pairs.now c.eigen.result c.eigen.ensures
+    solved-found a.b _ a.pairs.now c.eigen_within.result c.eigen_within.ensures
     ∙ ap (jacobi a.b) (c.symmetrise.ensures ∙ ap (symmetrised a.b) c.fill_projected.ensures)

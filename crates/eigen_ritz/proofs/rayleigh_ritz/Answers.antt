@@ -4,4 +4,13 @@ use Rattle.eigen_ritz.proofs.FoundPairs.{small-square}
 use Rattle.eigen_ritz.proofs.rayleigh_ritz.Goals as goal
 
 pub rayleigh_ritz_in-requires : goal.rayleigh_ritz_in-requires
-rayleigh_ritz_in-requires c = (c.requires.0, length-take-le _ _ (omega (arith, small-square c.requires.4)), c.requires.1, c.requires.2, c.requires.3, c.requires.4)
+rayleigh_ritz_in-requires c =
+    let small = small-square c.requires.4 in record {
+      pairs_len = (
+        length-take-le _ _ (omega (arith, small)),
+        length-take-le _ _ (omega (arith, small)),
+        length-take-le _ _ (omega (arith, small)),
+        length-take-le _ _ (omega (arith, small)),
+      );
+      out_len = c.requires;
+    }

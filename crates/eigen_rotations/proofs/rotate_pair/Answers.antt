@@ -19,10 +19,10 @@ pub loop-k-preserved : goal.loop-k-preserved
 loop-k-preserved c =
     let a = c.args in
     let inv = c.loop-k.invariant in
-    let x-here = writing-here (first a.c a.s a.x.now a.y.now) a.x.now nan inv.0 in
-    let y-here = writing-here (second a.c a.s a.x.now a.y.now) a.y.now nan inv.1 in (
-      writing-next _ _ inv.0 (omega arith) (ap₂ (turn_first a.c a.s) x-here y-here),
-      writing-next _ _ inv.1 (omega arith) (ap₂ (turn_second a.c a.s) x-here y-here),
+    let x-here = writing-here (first a.r.c a.r.s a.x.now a.y.now) a.x.now nan inv.0 in
+    let y-here = writing-here (second a.r.c a.r.s a.x.now a.y.now) a.y.now nan inv.1 in (
+      writing-next _ _ inv.0 (omega arith) (ap₂ (turn_first a.r.c a.r.s) x-here y-here),
+      writing-next _ _ inv.1 (omega arith) (ap₂ (turn_second a.r.c a.r.s) x-here y-here),
     )
 
 pub returns : goal.returns
@@ -31,6 +31,6 @@ returns c =
     let inv = c.loop-k.invariant in
     let same = c.requires in (
       writing-all _ _ inv.0 (omega arith) ∙ zip-table _ _ _ nan nan same,
-      writing-all _ _ inv.1 (omega arith) ∙ ap (λ (k : ℕ). table k (second a.c a.s a.x.now a.y.now)) (sym same)
-          ∙ zip-table (turn_second a.c a.s) a.x.now a.y.now nan nan same,
+      writing-all _ _ inv.1 (omega arith) ∙ ap (λ (k : ℕ). table k (second a.r.c a.r.s a.x.now a.y.now)) (sym same)
+          ∙ zip-table (turn_second a.r.c a.r.s) a.x.now a.y.now nan nan same,
     )

@@ -9,8 +9,8 @@ use Rattle.eigen_rotations.proofs.rotate_rows.Goals as goal
 pub returns : goal.returns
 returns c =
     let a = c.args in
-    let lent = part-row a.n a.q a.m.now in
+    let lent = part-row a.n a.r.q a.m.now in
     let both = c.rotate_pair.ensures in (
-      both.0 ∙ ap (zip_with (turn_first a.c a.s) a.x.now) lent,
-      put-row _ _ _ _ ∙ ap (λ (r : List Float). put_row a.n a.q r a.m.now) (both.1 ∙ ap (zip_with (turn_second a.c a.s) a.x.now) lent),
+      both.0 ∙ ap (zip_with (turn_first a.r.c a.r.s) a.x.now) lent,
+      put-row _ _ _ _ ∙ ap (λ (r : List Float). put_row a.n a.r.q r a.m.now) (both.1 ∙ ap (zip_with (turn_second a.r.c a.r.s) a.x.now) lent),
     )

@@ -27,5 +27,5 @@ returns c =
     let m-long = length_front a.m.now done.new.m (a.n * a.n) done.auto.m in
     let v-long = length_front a.v.now done.new.v (a.n * a.n) done.auto.v in
     given-leaves _ _ _ _ _ _ _ done.result done.ensures (done.auto.out ∙ length-take-le _ _ c.requires.n_in_bounds.0)
-    (c.clear.ensures ∙ ap (λ (j : ℕ). replicate j zero⁺) w-long) (c.clear-2.ensures ∙ ap (λ (j : ℕ). replicate j zero⁺) m-long)
-    (c.clear-3.ensures ∙ ap (λ (j : ℕ). replicate j zero⁺) v-long)
+    (c.fill.ensures.after (λ _ e. e) ∙ ap (λ (j : ℕ). replicate j zero⁺) w-long) (c.fill-2.ensures.after (λ _ e. e) ∙ ap (λ (j : ℕ). replicate j zero⁺) m-long)
+    (c.fill-3.ensures.after (λ _ e. e) ∙ ap (λ (j : ℕ). replicate j zero⁺) v-long)

@@ -9,7 +9,7 @@ use Rattle.eigen_top.proofs.top_pairs.Goals as goal
 pub returns-then-n-le64 : goal.returns-then-n-le64
 returns-then-n-le64 c =
     let a = c.args in
-    c.by_jacobi_in.ensures ∙ ap (λ (o : Outcome Pairs). gives a.k a.n o a.out.now) (top-few _ _ _ c.requires.n_le_most_samples.1 c.if-n-le64.true)
+    c.by_jacobi.ensures ∙ ap (λ (o : Outcome Pairs). gives a.k a.n o a.out.now) (top-few _ _ _ c.requires.n_le_most_samples.1 c.if-n-le64.true)
 
 pub by_block-requires : goal.by_block-requires
 by_block-requires c =
@@ -19,7 +19,6 @@ by_block-requires c =
         c.requires.a_len.1,
         length-take-le _ _ (omega (arith, fits, c.requires.a_len.2)),
         length-take-le _ _ (omega (arith, fits, c.requires.a_len.3)),
-        c.requires.a_len.0,
         omega arith,
         c.requires.n_le_most_samples.0,
       );

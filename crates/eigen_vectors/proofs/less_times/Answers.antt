@@ -1,17 +1,13 @@
--- `eigen_vectors::less_times` meets its contract. The invariant: the first i entries are written.
-use Rattle.lists.proofs.Base.{refl, arith, get_or, nan}
+-- `eigen_vectors::less_times` meets its contract. The closure's rule, at each entry.
+use Rattle.lists.proofs.Base.{◌∙◌, get_or, nan, rules}
 use Rattle.float.specs.Floats.{◌⊖◌, ◌⊗◌}
-use Rattle.lists.proofs.Writes.{writing-none}
+use Rattle.lists.proofs.Zips.{zip-table}
 use Rattle.eigen_vectors.specs.Vectors.{less_times}
-use Rattle.eigen_vectors.proofs.Entries.{zipping-next, zipping-all}
 use Rattle.eigen_vectors.proofs.less_times.Goals as goal
-
-pub loop-i-init : goal.loop-i-init
-loop-i-init c = let a = c.args in writing-none (λ i. get_or (a.x.now) i nan ⊖ a.d ⊗ get_or (a.y.now) i nan) (a.x.now)
-
-pub loop-i-preserved : goal.loop-i-preserved
-loop-i-preserved c = let a = c.args in zipping-next (λ u v. u ⊖ a.d ⊗ v) (a.x.now) (a.y.now) c.loop-i.invariant (omega arith) refl
 
 pub returns : goal.returns
 unfolding less_times
-returns c = let a = c.args in zipping-all (λ u v. u ⊖ a.d ⊗ v) (a.x.now) (a.y.now) c.requires c.loop-i.invariant (omega arith)
+returns c =
+    let a = c.args in
+    c.rewrite.ensures (λ i u. u ⊖ a.d ⊗ get_or a.y.now i nan) (λ i u r h k. search rules)
+    ∙ zip-table (λ u v. u ⊖ a.d ⊗ v) a.x.now a.y.now nan nan c.requires

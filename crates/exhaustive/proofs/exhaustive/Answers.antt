@@ -1,94 +1,69 @@
 -- `exhaustive::exhaustive` meets its contract. Lines 1 to 5, the design, line 8, and then the rest.
-use Rattle.lists.proofs.Base.{◌≡◌, sym, arith}
+use Rattle.lists.proofs.Base.{◌≡◌, sym, ap, ◌∙◌, arith}
 use Rattle.outcome.specs.Outcome as outcome
-use Rattle.outcome.specs.Numbers.{told}
-use Rattle.outcome.proofs.Table.{told-passed}
-use Rattle.lot.specs.Lot.{Lot, lot_of}
-use Rattle.lot_design.specs.inner.Designs.{Describes}
-use Rattle.lot_design.proofs.{Designs.designs-lot, Accepted.designable, Accepted.design-sound, Accepted.same-n}
+use Rattle.outcome.proofs.Table.{told-passed, passed-on}
+use Rattle.lot.specs.Lot.{Lot}
+use Rattle.lot.specs.Given.{lot_given}
+use Rattle.lot_design.proofs.{Designs.designs-lot, Accepted.designable, Accepted.design-sound}
 use Rattle.exhaustive_ways.specs.Ways.{way_count}
 use Rattle.exhaustive_ways.proofs.WayCounts.{few-ways}
-use Rattle.exhaustive_hits.specs.Call.{Slices, slices_of}
+use Rattle.exhaustive_hits.specs.Call.{Slices, slices_of, called}
 use Rattle.exhaustive_hits.specs.inner.Call.{early}
-use Rattle.exhaustive.specs.inner.Passing.{Passing}
-use Rattle.exhaustive.proofs.PassedLines.{accepted, passing-by}
-use Rattle.exhaustive.proofs.Calls.{short-is, early-is, call-refused, call-many, call-passed, call-by}
+use Rattle.exhaustive.proofs.PassedLines.{accepted, long, admitted}
+use Rattle.exhaustive.proofs.Calls.{short-is, early-is, call-refused, call-many, call-passed}
 use Rattle.exhaustive.proofs.exhaustive.Goals as goal
+use Rattle.exhaustive.proofs.exhaustive.Goals.{In_ok-check_lot, Else-ways-gt-MOST_WAYS}
 
-pub design_of-d-requires : goal.design_of-d-requires
-design_of-d-requires c =
-    let lot-here : Lot = let a = c.args in lot_of a.n a.distances.now a.labels.now a.stratified a.strata.now a.weighted a.weights.now in
-    let lent-here : Slices = let a = c.args in
-    slices_of a.group_labels.now a.counts.now a.means.now a.pair_terms.now a.weighted_squares.now a.coords.now a.eigenpairs.now a.vectors.now a.label_counts.now in
-    let said-here : told c.check_lot-c.result ≡ early lot-here lent-here = early-is lot-here lent-here (short-is lot-here lent-here c.too_short-short.ensures) c.check_lot-c.ensures in
-    let passed-here : early lot-here lent-here ≡ outcome.passed = sym (told-passed said-here c.in-Passed.is) in
-    designable lot-here (accepted lot-here lent-here passed-here)
+abbrev lot : In_ok-check_lot → Lot
+lot c = lot_given c.args.lot
+
+abbrev lent : In_ok-check_lot → Slices
+lent c =
+    let a = c.args in
+    slices_of a.group_labels.now a.counts.now a.means.now a.pair_terms.now a.weighted_squares.now a.coords.now a.eigenpairs.now a.vectors.now a.label_counts.now
+
+passed : (c : In_ok-check_lot) → early (lot c) (lent c) ≡ outcome.passed
+passed c = sym (told-passed (early-is (lot c) (lent c) (short-is (lot c) (lent c) c.too_short-short.ensures) c.check_lot.ensures) c.in_ok-check_lot.was)
+
+pub returns-in_err-check_lot : goal.returns-in_err-check_lot
+returns-in_err-check_lot c =
+    let a = c.args in
+    let s : Slices = slices_of a.group_labels.now a.counts.now a.means.now a.pair_terms.now a.weighted_squares.now a.coords.now a.eigenpairs.now a.vectors.now a.label_counts.now in
+    ap (λ r. called r s) (passed-on _ c.from_residual.ensures.1)
+    ∙ call-refused (lot_given a.lot) s (early-is (lot_given a.lot) s (short-is (lot_given a.lot) s c.too_short-short.ensures) c.check_lot.ensures) c.in_err-check_lot.was
+
+pub design_of-design-requires : goal.design_of-design-requires
+design_of-design-requires c = let here = (goal.at.design_of-design-requires c).In_ok-check_lot in designable (lot here) (accepted (lot here) (lent here) (passed here))
 
 pub ways_of-ways-requires : goal.ways_of-ways-requires
 ways_of-ways-requires c =
-    let lot-here : Lot = let a = c.args in lot_of a.n a.distances.now a.labels.now a.stratified a.strata.now a.weighted a.weights.now in
-    let lent-here : Slices = let a = c.args in
-    slices_of a.group_labels.now a.counts.now a.means.now a.pair_terms.now a.weighted_squares.now a.coords.now a.eigenpairs.now a.vectors.now a.label_counts.now in
-    let said-here : told c.check_lot-c.result ≡ early lot-here lent-here = early-is lot-here lent-here (short-is lot-here lent-here c.too_short-short.ensures) c.check_lot-c.ensures in
-    let passed-here : early lot-here lent-here ≡ outcome.passed = sym (told-passed said-here c.in-Passed.is) in
-    let design-here : Describes lot-here c.design_of-d.result = designs-lot lot-here c.design_of-d.ensures in
-    design-sound lot-here design-here (accepted lot-here lent-here passed-here)
+    let here = (goal.at.ways_of-ways-requires c).In_ok-check_lot in
+    design-sound (lot here) (designs-lot (lot here) c.design_of-design.ensures) (accepted (lot here) (lent here) (passed here))
 
 pub returns-then-ways-gt-MOST_WAYS : goal.returns-then-ways-gt-MOST_WAYS
 returns-then-ways-gt-MOST_WAYS c =
-    let lot-here : Lot = let a = c.args in lot_of a.n a.distances.now a.labels.now a.stratified a.strata.now a.weighted a.weights.now in
-    let lent-here : Slices = let a = c.args in
-    slices_of a.group_labels.now a.counts.now a.means.now a.pair_terms.now a.weighted_squares.now a.coords.now a.eigenpairs.now a.vectors.now a.label_counts.now in
-    let said-here : told c.check_lot-c.result ≡ early lot-here lent-here = early-is lot-here lent-here (short-is lot-here lent-here c.too_short-short.ensures) c.check_lot-c.ensures in
-    let passed-here : early lot-here lent-here ≡ outcome.passed = sym (told-passed said-here c.in-Passed.is) in
-    let design-here : Describes lot-here c.design_of-d.result = designs-lot lot-here c.design_of-d.ensures in
-    call-many lot-here lent-here passed-here (c.ways_of-ways.ensures lot-here design-here) (omega (arith, c.if-ways-gt-MOST_WAYS.true))
+    let here = (goal.at.returns-then-ways-gt-MOST_WAYS c).In_ok-check_lot in
+    call-many (lot here) (lent here) (passed here) (c.ways_of-ways.ensures (lot here) (designs-lot (lot here) c.design_of-design.ensures)) (omega (arith, c.if-ways-gt-MOST_WAYS.true))
+
+-- M, which is not past the limit
+same-ways : (c : Else-ways-gt-MOST_WAYS) → c.ways_of-ways.result ≡ way_count (lot_given c.args.lot)
+same-ways c =
+    let lot = lot_given c.args.lot in
+    few-ways (way_count lot) (c.ways_of-ways.ensures lot (designs-lot lot c.design_of-design.ensures)) (omega (arith, c.if-ways-gt-MOST_WAYS.false))
+
+pub invariant_of-admitted : goal.invariant_of-admitted
+invariant_of-admitted c =
+    let at = goal.at.invariant_of-admitted c in
+    let here = at.In_ok-check_lot in
+    record {
+      admits = admitted (lot here) (lent here) (passed here) (designs-lot (lot here) c.design_of-design.ensures) (same-ways at.Else-ways-gt-MOST_WAYS) (omega (arith, c.if-ways-gt-MOST_WAYS.false));
+    }
 
 pub ordinate_and_answer-requires : goal.ordinate_and_answer-requires
-ordinate_and_answer-requires c =
-    let lent-here : Slices = let a = c.args in
-    slices_of a.group_labels.now a.counts.now a.means.now a.pair_terms.now a.weighted_squares.now a.coords.now a.eigenpairs.now a.vectors.now a.label_counts.now in
-    let lot-here : Lot = let a = c.args in lot_of a.n a.distances.now a.labels.now a.stratified a.strata.now a.weighted a.weights.now in
-    let said-here : told c.check_lot-c.result ≡ early lot-here lent-here = early-is lot-here lent-here (short-is lot-here lent-here c.too_short-short.ensures) c.check_lot-c.ensures in
-    let passed-here : early lot-here lent-here ≡ outcome.passed = sym (told-passed said-here c.in-Passed.is) in
-    let design-here : Describes lot-here c.design_of-d.result = designs-lot lot-here c.design_of-d.ensures in
-    let same-ways-here : c.ways_of-ways.result ≡ way_count lot-here = few-ways (way_count lot-here) (c.ways_of-ways.ensures lot-here design-here)
-    (omega (arith, c.if-ways-gt-MOST_WAYS.false)) in
-    let passing-here : let a = c.args in
-    Passing (lot_of c.design_of-d.result.n a.distances.now a.labels.now a.stratified a.strata.now a.weighted a.weights.now) c.design_of-d.result c.ways_of-ways.result lent-here =
-    let a = c.args in
-    passing-by a.n a.distances.now a.labels.now a.stratified a.strata.now a.weighted a.weights.now lent-here
-    passed-here design-here same-ways-here
-    (omega (arith, c.if-ways-gt-MOST_WAYS.false)) in
-    let a = c.args in
-    record { labels = a.labels.now; stratified = a.stratified; strata = a.strata.now; passing = passing-here }
+ordinate_and_answer-requires c = let here = (goal.at.ordinate_and_answer-requires c).In_ok-check_lot in long (lot here) (lent here) (passed here)
 
-pub returns-in-Refused : goal.returns-in-Refused
-returns-in-Refused c =
-    let lot-here : Lot = let a = c.args in lot_of a.n a.distances.now a.labels.now a.stratified a.strata.now a.weighted a.weights.now in
-    let lent-here : Slices = let a = c.args in
-    slices_of a.group_labels.now a.counts.now a.means.now a.pair_terms.now a.weighted_squares.now a.coords.now a.eigenpairs.now a.vectors.now a.label_counts.now in
-    let said-here : told c.check_lot-c.result ≡ early lot-here lent-here = early-is lot-here lent-here (short-is lot-here lent-here c.too_short-short.ensures) c.check_lot-c.ensures in
-    call-refused lot-here lent-here said-here c.in-Refused.is
-
-pub returns-else-ways-gt-MOST_WAYS : goal.returns-else-ways-gt-MOST_WAYS
-returns-else-ways-gt-MOST_WAYS c =
-    let lot-here : Lot = let a = c.args in lot_of a.n a.distances.now a.labels.now a.stratified a.strata.now a.weighted a.weights.now in
-    let lent-here : Slices = let a = c.args in
-    slices_of a.group_labels.now a.counts.now a.means.now a.pair_terms.now a.weighted_squares.now a.coords.now a.eigenpairs.now a.vectors.now a.label_counts.now in
-    let said-here : told c.check_lot-c.result ≡ early lot-here lent-here = early-is lot-here lent-here (short-is lot-here lent-here c.too_short-short.ensures) c.check_lot-c.ensures in
-    let passed-here : early lot-here lent-here ≡ outcome.passed = sym (told-passed said-here c.in-Passed.is) in
-    let design-here : Describes lot-here c.design_of-d.result = designs-lot lot-here c.design_of-d.ensures in
-    let same-ways-here : c.ways_of-ways.result ≡ way_count lot-here = few-ways (way_count lot-here) (c.ways_of-ways.ensures lot-here design-here)
-    (omega (arith, c.if-ways-gt-MOST_WAYS.false)) in
-    let passing-here : let a = c.args in
-    Passing (lot_of c.design_of-d.result.n a.distances.now a.labels.now a.stratified a.strata.now a.weighted a.weights.now) c.design_of-d.result c.ways_of-ways.result lent-here =
-    let a = c.args in
-    passing-by a.n a.distances.now a.labels.now a.stratified a.strata.now a.weighted a.weights.now lent-here
-    passed-here design-here same-ways-here
-    (omega (arith, c.if-ways-gt-MOST_WAYS.false)) in
-    let a = c.args in
-    call-passed lot-here lent-here passed-here (omega (arith, same-ways-here, c.if-ways-gt-MOST_WAYS.false))
-    (call-by a.n a.distances.now a.labels.now a.stratified a.strata.now a.weighted a.weights.now lent-here
-    (same-n lot-here design-here (accepted lot-here lent-here passed-here))
-    (c.ordinate_and_answer.ensures a.labels.now a.stratified a.strata.now passing-here))
+pub returns : goal.returns
+returns c =
+    let at = goal.at.returns c in
+    let here = at.In_ok-check_lot in
+    call-passed (lot here) (lent here) (passed here) (omega (arith, same-ways at.Else-ways-gt-MOST_WAYS, c.if-ways-gt-MOST_WAYS.false)) c.ordinate_and_answer.ensures

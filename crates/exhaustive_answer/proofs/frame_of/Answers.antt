@@ -6,4 +6,4 @@ pub returns : goal.returns
 returns c =
     let a = c.args in
     frame_is a.d.n a.d.kept a.d.groups a.x.now a.total c.components_used-columns.ensures
-    c.columns_used-lead.ensures c.is_barred-barred.ensures
+    c.columns_used-lead.ensures c.is_barred.ensures

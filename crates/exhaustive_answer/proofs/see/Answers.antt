@@ -4,4 +4,4 @@ use Rattle.exhaustive_answer.proofs.see.Goals as goal
 
 pub returns : goal.returns
 unfolding seen_by
-returns c = λ i. record { location = c.statistic_of-location.ensures i; dispersion = c.statistic_of-dispersion.ensures i; assignment = c.assignment_of-assignment.ensures i }
+returns c = λ i. record { location = c.statistic_of.ensures i; dispersion = c.statistic_of-2.ensures i; assignment = c.assignment_of.ensures i }

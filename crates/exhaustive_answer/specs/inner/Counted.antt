@@ -1,11 +1,10 @@
 -- All three statistics of a way of a lot, on coordinates x of its samples, and their hits among all ways. Definitions only.
-use Rattle.std.specs.Prelude.{List, ℕ, Float}
+use Rattle.std.specs.Prelude.{List, ℕ, Float, Option}
 use Rattle.lot.specs.Lot.{Lot}
 use Rattle.lot.specs.Kept.{groups}
 use Rattle.permanova_p_values.specs.Hits.{statistic}
 use Rattle.permanova_statistics.specs.declared.observation.Observed.{Observed}
 use Rattle.exhaustive_ways.specs.Ways.{ways}
-use Rattle.exhaustive_hits.specs.declared.Assignment.{Assignment}
 use Rattle.exhaustive_hits.specs.declared.Seen.{Seen}
 use Rattle.exhaustive_hits.specs.inner.WayHits.{hits_among}
 use Rattle.exhaustive_hits.specs.declared.judgement.Counted.{Counted}
@@ -15,7 +14,7 @@ unfoldable pub statistics_of : Lot → List Float → List ℕ → Seen
 statistics_of lot x way = record { location = location_of lot way; dispersion = dispersion_of lot way; assignment = assignment_of lot x way }
 
 -- of the observed way, two of which are at hand
-unfoldable pub seen_by : Observed → Assignment → Seen
+unfoldable pub seen_by : Observed → Option ℕ → Seen
 seen_by o a = record { location = statistic o.f; dispersion = statistic o.disp_f; assignment = a }
 
 -- the observed way's, and their hits

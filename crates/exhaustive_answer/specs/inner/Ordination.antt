@@ -1,9 +1,8 @@
 -- The coordinates of n samples in a lent slice, and what the ordination tells of them. Definitions and statements only.
-use Rattle.std.specs.Prelude.{◌≡◌, List, ℕ, ◌+◌, ◌*◌, ◌≤◌, length, take, drop, Float}
+use Rattle.std.specs.Prelude.{◌≡◌, List, ℕ, ◌+◌, ◌*◌, ◌≤◌, length, take, drop, Float, Result, Ok, Err}
 use Rattle.limits.specs.Limits.{judged_components, most_samples}
-use Rattle.outcome.specs.declared.Check.{Check}
+use Rattle.outcome.specs.declared.Refusal.{Refusal}
 use Rattle.outcome.specs.Numbers.{number}
-use Rattle.outcome.specs.declared.Check.TheVariants.{Passed, Refused}
 use Rattle.outcome.specs.Outcome.{Outcome, answered, refused}
 use Rattle.ordination_coordinates.specs.Finish.{Coordinates}
 use Rattle.exhaustive_hits.specs.Assignments.{columns_of}
@@ -13,9 +12,9 @@ abbrev pub coords_in : ℕ → List Float → List Float
 coords_in n l = let k = columns_of n in take (n * k) (drop (k + k) l)
 
 -- what is told of them by a return and a slice, and by the ordination
-abbrev pub coords_told : ℕ → Check → List Float → Outcome (List Float)
-coords_told n Passed l = answered (coords_in n l)
-coords_told n (Refused r) l = refused (number r)
+abbrev pub coords_told : ℕ → Result Unit Refusal → List Float → Outcome (List Float)
+coords_told n (Ok _) l = answered (coords_in n l)
+coords_told n (Err r) l = refused (number r)
 
 unfoldable pub coords_of : Outcome Coordinates → Outcome (List Float)
 coords_of (answered c) = answered c.coords

@@ -11,5 +11,5 @@ concluded summary ways c =
       ways = ways;
       location = record { statistic = c.seen.location; hits = c.hits.location };
       dispersion = record { statistic = c.seen.dispersion; hits = c.hits.dispersion };
-      assigned = record { assignment = c.seen.assignment; hits = c.hits.assignment };
+      assigned = record { statistic = c.seen.assignment; hits = c.hits.assignment };
     }

@@ -1,7 +1,7 @@
 -- Section 6: a way's three statistics, from what is worked out once for all ways. Definitions and statements only.
 -- t are the terms, p the weighted squares and w the weights of m kept samples ks; x are the coordinates of all n, in rows of `columns`, of which `lead` lead; a way
 -- gives the kept samples their groups.
-use Rattle.std.specs.Prelude.{◌≡◌, Bool, ◌||◌, cond, List, ℕ, ◌+◌, ◌*◌, ◌≤◌, ltb, length, Float}
+use Rattle.std.specs.Prelude.{◌≡◌, Bool, ◌||◌, cond, List, ℕ, ◌+◌, ◌*◌, ◌≤◌, ltb, length, Float, Option, Some, None}
 use Rattle.limits.specs.Limits.{most_columns, most_samples}
 use Rattle.lists.specs.Filters.{any}
 use Rattle.lists.specs.inner.Numbers.{Below}
@@ -16,8 +16,6 @@ use Rattle.dapc_scatter.specs.Means.{grouped}
 use Rattle.dapc_scatter.specs.inner.Means.{Numbered}
 use Rattle.dapc_discriminant.specs.Dapc.{Scores, columns_used, axes_of, discriminate}
 use Rattle.dapc.specs.DapcLines.{bad_coordinate}
-use Rattle.exhaustive_hits.specs.declared.Assignment.{Assignment}
-use Rattle.exhaustive_hits.specs.declared.Assignment.TheVariants.{Right, Withheld}
 use Rattle.exhaustive_hits.specs.declared.Seen.{Seen}
 use Rattle.exhaustive_walk.specs.declared.way_statistics.Frame.{Frame}
 use Rattle.exhaustive_hits.specs.Assignments.{columns_of}
@@ -44,12 +42,12 @@ unfoldable pub dispersion_by : Frame → ℕ → List Float → List Float → L
 dispersion_by f m t p w way = statistic (anova_f (z_of p t w way m) way m f.groups)
 
 -- the right count of the scores
-unfoldable pub found : Outcome Scores → Assignment
-found (answered s) = Right s.right
-found (refused r) = Withheld
+unfoldable pub found : Outcome Scores → Option ℕ
+found (answered s) = Some s.right
+found (refused r) = None
 
-unfoldable pub assignment_by : Frame → List Float → List ℕ → List ℕ → Assignment
-assignment_by f x ks way = cond f.barred Withheld (found (discriminate f.n f.columns f.lead x (placed f.n ks way) f.groups))
+unfoldable pub assignment_by : Frame → List Float → List ℕ → List ℕ → Option ℕ
+assignment_by f x ks way = cond f.barred None (found (discriminate f.n f.columns f.lead x (placed f.n ks way) f.groups))
 
 -- all three
 unfoldable pub statistics_by : Frame → ℕ → List Float → List Float → List Float → List Float → List ℕ → List ℕ → Seen
@@ -74,18 +72,21 @@ pub record Weighed (m : ℕ) (t p w : List Float) : Type 0 where
   pub weighted_squares : length p ≡ m * m
   pub weights : length w ≡ m
 
--- what an assignment is worked out from, with room for its scores
-pub record Placing (f : Frame) (m : ℕ) (x : List Float) (ks : List ℕ) (scores : ℕ) : Type 0 where
+-- what an assignment is worked out from
+pub record Placing (f : Frame) (m : ℕ) (x : List Float) (ks : List ℕ) : Type 0 where
   pub framed : Framed f m
   pub coordinates : length x ≡ f.n * f.columns
   pub samples : length ks ≡ m
   pub places : Below f.n ks
-  pub room : axes_of f.groups f.lead + f.n * axes_of f.groups f.lead ≤ scores
+
+-- room for its scores
+abbrev pub HasRoom : Frame → ℕ → Type 0
+HasRoom f scores = axes_of f.groups f.lead + f.n * axes_of f.groups f.lead ≤ scores
 
 -- both: all that is worked out once
-pub record Prepared (f : Frame) (m : ℕ) (t p w x : List Float) (ks : List ℕ) (scores : ℕ) : Type 0 where
+pub record Prepared (f : Frame) (m : ℕ) (t p w x : List Float) (ks : List ℕ) : Type 0 where
   pub weighed : Weighed m t p w
-  pub placing : Placing f m x ks scores
+  pub placing : Placing f m x ks
 
 -- a way of m kept samples of n, in g groups, that can be judged
 pub record Judged (n m g : ℕ) (ks way : List ℕ) : Type 0 where

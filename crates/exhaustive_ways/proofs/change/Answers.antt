@@ -10,8 +10,8 @@ overflow_add-last c =
     let next-here : c.give_back-last.result + 1 ≤ c.args.g = omega (arith, c.give_back-last.ensures.0, given_below c.args.at c.requires c.give_back-last.ensures.1) in
     omega (arith, next-here, node-here.most)
 
-pub next_label-j-requires : goal.next_label-j-requires
-next_label-j-requires c =
+pub next_label-requires : goal.next_label-requires
+next_label-requires c =
     let node-here : let a = c.args in Node a.g a.ss.now c.give_back-last.new.counts a.way.now a.at = given-node c.args.at c.requires c.give_back-last.ensures.1 in
     let next-here : c.give_back-last.result + 1 ≤ c.args.g = omega (arith, c.give_back-last.ensures.0, given_below c.args.at c.requires c.give_back-last.ensures.1) in
     (node-here.rows, given-within c.args.at c.requires c.give_back-last.ensures.1, omega (arith, next-here))
@@ -21,14 +21,14 @@ put-requires c =
     let node-here : let a = c.args in Node a.g a.ss.now c.give_back-last.new.counts a.way.now a.at = given-node c.args.at c.requires c.give_back-last.ensures.1 in (
       node-here,
       given-within c.args.at c.requires c.give_back-last.ensures.1,
-      c.if-j-g.true,
-      c.next_label-j.ensures.some c.if-j-g.true,
+      c.in-Some.ensures.0,
+      c.in-Some.ensures.1.some c.in-Some.ensures.0,
     )
 
-pub returns-then-j-g : goal.returns-then-j-g
-returns-then-j-g c =
-    changed c.args.at c.requires c.give_back-last.ensures.1 (omega (arith, c.give_back-last.ensures.0)) c.next_label-j.ensures c.if-j-g.true
+pub returns-in-Some : goal.returns-in-Some
+returns-in-Some c =
+    changed c.args.at c.requires c.give_back-last.ensures.1 (omega (arith, c.give_back-last.ensures.0)) c.in-Some.ensures.1 c.in-Some.ensures.0
     c.put.ensures.0 c.put.ensures.1
 
 pub returns : goal.returns
-returns c = not-changed c.args.at c.requires c.give_back-last.ensures.1 (omega (arith, c.give_back-last.ensures.0)) c.next_label-j.ensures c.if-j-g.false
+returns c = not-changed c.args.at c.requires c.give_back-last.ensures.1 (omega (arith, c.give_back-last.ensures.0)) c.in_default.ensures (omega arith)

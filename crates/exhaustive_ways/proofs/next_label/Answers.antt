@@ -28,7 +28,7 @@ pub bounds-counts-row : goal.bounds-counts-row
 bounds-counts-row c = omega (arith, c.loop-i.invariant.1)
 
 pub returns-then-counts-row-gt0 : goal.returns-then-counts-row-gt0
-returns-then-counts-row-gt0 c = let l = c.loop-i.invariant in label-found l.2 l.0 c.if-counts-row-gt0.true
+returns-then-counts-row-gt0 c = let l = c.loop-i.invariant in (c.loop-i-test.true, label-found l.2 l.0 c.if-counts-row-gt0.true)
 
 pub loop-i-preserved : goal.loop-i-preserved
 loop-i-preserved c = let l = c.loop-i.invariant in (l.0, l.1, passed-more l.2 c.loop-i-test.true c.if-counts-row-gt0.false)

@@ -1,38 +1,29 @@
--- `lot_checks::other_label` meets its contract. None of the labels passed is one that two samples have, other than l.
-use Rattle.lists.proofs.Base.{◌≡◌, sym, ap, ◌∙◌, true, false, ℕ, ◌+◌, zero-add, arith, eq-eqb, ne_eqb, get_or, drop, List·get_or-eq-default}
+-- `lot_checks::other_label` meets its contract. The search is that for the first label that two samples have, other than l.
+use Rattle.std.proofs.Common.{rules, unwrap_or}
+use Rattle.std.proofs.lemmas.Iterator.{YieldsList-from_slice}
+use borrow.Author.Tests.{tests}
+use Rattle.lists.proofs.Base.{◌≡◌, sym, ap, ◌∙◌, ℕ, get_or, length, List·get_or-eq-default, arith}
+use Rattle.lists.proofs.Parts.{get_or-either}
+use Rattle.lists.proofs.Chains.{position_ran}
 use Rattle.lists.specs.Filters.{first_at}
-use Rattle.lists.proofs.{Filters.first-here, Filters.first-later, Filters.first-none, Parts.get_or-either}
 use Rattle.limits.specs.Limits.{none}
 use Rattle.lot.proofs.FewGroups.{other_than}
 use Rattle.lot_checks.proofs.other_label.Goals as goal
-use Rattle.lot_checks.proofs.other_label.Goals.{then-x-l+else-twice, else-x-l}
+use Rattle.lot_checks.proofs.other_label.Goals.{After-position-first}
 
-pub loop-i-init : goal.loop-i-init
-loop-i-init c = (omega arith, zero-add _)
+place : (c : After-position-first) → unwrap_or c.position-first.result (length c.args.labels.now) ≡ first_at (other_than c.args.labels.now c.args.l) c.args.labels.now
+place c = position_ran _ _ _ _ c.position-first.ensures.ran (YieldsList-from_slice c.args.labels.now cc) (λ x b q k. search (rules, tests))
 
-pub returns-then-twice : goal.returns-then-twice
-returns-then-twice c =
+pub returns-in-Some : goal.returns-in-Some
+returns-in-Some c =
     let labels = c.args.labels.now in
-    let i = c.loop-i.i in
-    let passes : other_than labels c.args.l (get_or labels i 0) ≡ true = rw (ne_eqb _ _ c.if-x-l.true) (sym c.twice.ensures ∙ c.if-twice.true) in
-    let at = sym (first-here (other_than labels c.args.l) labels i 0 c.loop-i-test.true passes) ∙ c.loop-i.invariant.1 in
-    get_or-either labels i 0 none c.loop-i-test.true ∙ ap (λ (k : ℕ). get_or labels k none) at
+    let at : first_at (other_than labels c.args.l) labels ≡ c.in-Some.i =
+    sym (place (goal.at.returns-in-Some c).After-position-first) ∙ ap (λ o. unwrap_or o (length labels)) c.in-Some.is in
+    get_or-either labels c.in-Some.i 0 none (search rules) ∙ ap (λ (k : ℕ). get_or labels k none) (sym at)
 
-pub loop-i-preserved : goal.loop-i-preserved
-loop-i-preserved c =
+pub returns-in-None : goal.returns-in-None
+returns-in-None c =
     let labels = c.args.labels.now in
-    let i = c.loop-i.i in
-    let later : other_than labels c.args.l (get_or labels i 0) ≡ false → i + 1 + first_at (other_than labels c.args.l)
-    (drop (i + 1) labels) ≡ first_at (other_than labels c.args.l) labels =
-    λ e. sym (first-later (other_than labels c.args.l) labels i 0 c.loop-i-test.true e) ∙ c.loop-i.invariant.1 in
-    elim c.if-x-l.branch [
-      | then-x-l+else-twice w ↦ (omega arith, later (rw (ne_eqb _ _ w.if-x-l.true) (sym w.twice.ensures ∙ w.if-twice.false)))
-      | else-x-l w ↦ (omega arith, later (rw (eq-eqb _ _ w.if-x-l.false)))
-    ]
-
-pub returns : goal.returns
-returns c =
-    let labels = c.args.labels.now in
-    let i = c.loop-i.i in
-    let end = sym (first-none (other_than labels c.args.l) labels i c.loop-i-test.false) ∙ c.loop-i.invariant.1 in
-    sym (ap (λ (k : ℕ). get_or labels k none) (sym end) ∙ List·get_or-eq-default labels none c.loop-i-test.false)
+    let at : first_at (other_than labels c.args.l) labels ≡ length labels =
+    sym (place (goal.at.returns-in-None c).After-position-first) ∙ ap (λ o. unwrap_or o (length labels)) c.in-None.is in
+    sym (ap (λ (k : ℕ). get_or labels k none) at ∙ List·get_or-eq-default labels none (omega arith))

@@ -3,6 +3,8 @@ use Rattle.lists.proofs.Base.{refl, sym, ◌∙◌, ◌≤◌, arith, rules, len
 use Rattle.lot.proofs.Samples.{kept-few}
 use Rattle.lot.specs.Lot.{Lot}
 use Rattle.lot.specs.inner.Description.{samples_of}
+use Rattle.std.specs.Prelude.{is_some}
+use Rattle.lot.specs.Given.{held_by}
 use Rattle.lot_design.proofs.Designs.{kept-many, designed}
 use Rattle.lot_design.proofs.design_of.Goals as goal
 
@@ -39,12 +41,12 @@ informative-informing-requires c =
 
 pub left_out-left-requires : goal.left_out-left-requires
 left_out-left-requires c =
-    let lot-here : Lot = let a = c.args in samples_of a.labels.now a.stratified a.given.now in
+    let lot-here : Lot = let a = c.args in samples_of a.labels.now (is_some a.strata) (held_by a.strata) in
     (search rules, kept-many lot-here c.describe-shape.ensures)
 
 pub returns : goal.returns
 returns c =
-    let lot-here : Lot = let a = c.args in samples_of a.labels.now a.stratified a.given.now in
+    let lot-here : Lot = let a = c.args in samples_of a.labels.now (is_some a.strata) (held_by a.strata) in
     let few-here : c.describe-shape.result.kept ≤ 256 = omega (arith, c.describe-shape.ensures.samples.many, kept-few c.args.labels.now, c.requires.few) in
     let strata-fit-here : c.describe-shape.result.kept ≤ length c.describe-shape.new.ss = omega (arith, few-here, c.describe-shape.auto.ss) in
-    designed lot-here c.describe-shape.ensures (length-take-le _ _ strata-fit-here) c.informative-informing.ensures c.left_out-left.ensures refl
+    designed lot-here c.describe-shape.ensures c.is_some.ensures (length-take-le _ _ strata-fit-here) c.informative-informing.ensures c.left_out-left.ensures refl

@@ -3,25 +3,20 @@ use Rattle.lists.proofs.Base.{◌≡◌, sym, ◌∙◌, ◌≤◌, arith, rules
 use Rattle.lot_design.proofs.Designs.{named-over}
 use Rattle.lot_design.proofs.fill_group_labels.Goals as goal
 
-pub slice_bounds-copy_u16-end-2 : goal.slice_bounds-copy_u16-end-2
-slice_bounds-copy_u16-end-2 c = sym (length-take-le _ _ c.requires.1)
+pub slice_bounds-copy_from_slice-end-2 : goal.slice_bounds-copy_from_slice-end-2
+slice_bounds-copy_from_slice-end-2 c = sym (length-take-le _ _ c.requires.1)
 
-pub slice_bounds-ns-end : goal.slice_bounds-ns-end
-slice_bounds-ns-end c =
-    let names-fit-here : c.args.d.groups ≤ length c.args.d.labels = let long : length c.args.d.labels ≡ 256 = search rules in omega arith in
-    names-fit-here
-
-pub slice_bounds-copy_u16-end-3 : goal.slice_bounds-copy_u16-end-3
-slice_bounds-copy_u16-end-3 c =
+pub slice_bounds-copy_from_slice-end-3 : goal.slice_bounds-copy_from_slice-end-3
+slice_bounds-copy_from_slice-end-3 c =
     let names-fit-here : c.args.d.groups ≤ length c.args.d.labels = let long : length c.args.d.labels ≡ 256 = search rules in omega arith in
     sym (length-take-le _ _ names-fit-here)
 
-pub copy_u16-requires : goal.copy_u16-requires
-copy_u16-requires c =
+pub copy_from_slice-requires : goal.copy_from_slice-requires
+copy_from_slice-requires c =
     let names-fit-here : c.args.d.groups ≤ length c.args.d.labels = let long : length c.args.d.labels ≡ 256 = search rules in omega arith in
     length-take-le _ _ c.requires.1 ∙ sym (length-take-le _ _ names-fit-here)
 
 pub returns : goal.returns
 returns c =
     let names-fit-here : c.args.d.groups ≤ length c.args.d.labels = let long : length c.args.d.labels ≡ 256 = search rules in omega arith in
-    named-over _ c.args.out.now names-fit-here c.copy_u16.ensures
+    named-over _ c.args.out.now names-fit-here c.copy_from_slice.ensures.after

@@ -45,8 +45,7 @@ pub fn place(each: &mut [u16], ks: &[u16], gs: &[u16])
     requires { (length gs.now ≡ length ks.now) × Below (length each.old) ks.now }
     ensures { each.new ≡ put ks.now gs.now each.old }
 {
-    for k in 0..ks.len() {
-        let i = lists::entry(ks, k);
-        each[i] = gs[k];
+    for (i, g) in ks.iter().zip(gs) {
+        each[*i as usize] = *g;
     }
 }

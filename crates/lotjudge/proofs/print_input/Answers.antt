@@ -1,9 +1,16 @@
--- `lotjudge::print_input` meets its contract: 12 where the reading failed, else what is found of the text.
-use Rattle.lotjudge.proofs.Inputs.{not-read, was_read}
+-- `lotjudge::print_input` meets its contract: what is found of the text, or 12 where the reading failed.
+use Rattle.std.proofs.Common.{ℕ, sym, ap, ◌∙◌}
+use Rattle.std.specs.Prelude.{Result}
+use Rattle.std.specs.declared.io.Error.{Error}
+use Rattle.judge_printing.specs.Page.{onto}
+use Rattle.judge.specs.Judge.{judge_input}
+use Rattle.lotjudge.specs.Reading.{printed_of}
 use Rattle.lotjudge.proofs.print_input.Goals as goal
 
-pub returns-then-failed : goal.returns-then-failed
-returns-then-failed c = let args = c.args in not-read args.text.now args.out.now c.if-failed.true c.print.ensures
+pub returns-in-Ok : goal.returns-in-Ok
+unfolding judge_input
+returns-in-Ok c = c.judge.ensures ∙ ap (λ (r : Result ℕ Error). onto (printed_of r c.args.buffer.now) c.args.out.now) (sym c.in-Ok.is)
 
-pub returns : goal.returns
-returns c = let args = c.args in was_read args.text.now args.out.now c.if-failed.false c.judge.ensures
+pub returns-in-Err : goal.returns-in-Err
+unfolding judge_input
+returns-in-Err c = c.print.ensures ∙ ap (λ (r : Result ℕ Error). onto (printed_of r c.args.buffer.now) c.args.out.now) (sym c.in-Err.is)

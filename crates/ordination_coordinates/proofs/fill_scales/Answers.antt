@@ -1,36 +1,12 @@
--- `ordination_coordinates::fill_scales` meets its contract. After c turns the first c scales stand there.
-use Rattle.lists.proofs.Base.{sym, ◌∙◌, arith, nan}
-use Rattle.lists.proofs.{Ranges.map-table, Writes.writing-none, Writes.writing-next, Writes.writing-table}
+-- `ordination_coordinates::fill_scales` meets its contract. The scale, at each value.
+use Rattle.lists.proofs.Base.{sym, ◌∙◌, ap, ℕ, get_or, nan, rules}
+use Rattle.lists.specs.Ranges.{table}
+use Rattle.lists.proofs.Ranges.{map-table}
 use Rattle.ordination_coordinates.specs.Finish.{scale_of, scales}
 use Rattle.ordination_coordinates.proofs.fill_scales.Goals as goal
 
-pub loop-c-init : goal.loop-c-init
-loop-c-init c = writing-none _ _
-
-pub offset_bounds-values-c : goal.offset_bounds-values-c
-offset_bounds-values-c c = omega (arith, c.loop-c.invariant.long)
-
-pub bounds-values-c : goal.bounds-values-c
-bounds-values-c c = omega (arith, c.loop-c.invariant.long)
-
-pub offset_bounds-out-c : goal.offset_bounds-out-c
-offset_bounds-out-c c = omega (arith, c.loop-c.invariant.long)
-
-pub bounds-out-c : goal.bounds-out-c
-bounds-out-c c = omega (arith, c.loop-c.invariant.long)
-
-pub overflow_step-c : goal.overflow_step-c
-overflow_step-c c = omega (arith, c.loop-c.invariant.long)
-
-pub loop-c-smaller : goal.loop-c-smaller
-loop-c-smaller c = omega (arith, c.loop-c.invariant.long)
-
-pub loop-c-preserved : goal.loop-c-preserved
-loop-c-preserved c = writing-next _ _ c.loop-c.invariant (omega arith) c.scale_of.ensures
-
-pub shape_of-out : goal.shape_of-out
-shape_of-out c = c.loop-c.invariant.long
-
 pub returns : goal.returns
 unfolding scales
-returns c = writing-table _ _ c.loop-c.invariant c.requires c.loop-c-test.false ∙ sym (map-table scale_of c.args.values.now nan)
+returns c =
+    c.rewrite.ensures (λ i r. scale_of (get_or c.args.values.now i nan)) (λ i r s h k. search rules)
+    ∙ ap (λ (n : ℕ). table n (λ i. scale_of (get_or c.args.values.now i nan))) c.requires ∙ sym (map-table scale_of c.args.values.now nan)

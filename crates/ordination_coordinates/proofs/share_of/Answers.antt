@@ -11,6 +11,6 @@ returns-then-total c =
     let a = c.args in
     by-yes (larger a.v zero⁺ ⊘ a.total) zero⁺ refl c.if-total.true (ap (λ (x : Float). x ⊘ a.total) c.max.ensures)
 
-pub returns : goal.returns
+pub returns-else-total : goal.returns-else-total
 unfolding share_of
-returns c = by-no (larger c.args.v zero⁺ ⊘ c.args.total) zero⁺ refl c.if-total.false refl
+returns-else-total c = by-no (larger c.args.v zero⁺ ⊘ c.args.total) zero⁺ refl c.if-total.false refl

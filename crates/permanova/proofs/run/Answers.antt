@@ -1,50 +1,34 @@
 -- `permanova::run` meets its contract. Weights, terms and weighted squares of the design's samples, the answer over them, and both work slices are zero.
-use Rattle.lists.proofs.Base.{refl, sym, ◌∙◌, ◌*◌, ◌≤◌, arith, length, length-take-le}
+use Rattle.lists.proofs.Base.{sym, subst, ◌∙◌, ◌*◌, ℕ, take}
+use Rattle.std.specs.Prelude.{is_some}
 use Rattle.float.specs.Floats.{zero⁺}
+use Rattle.lists.specs.Writes as writes
 use Rattle.lists.proofs.Writes.{cleared-same}
+use Rattle.lot.specs.{Lot.Lot, Lot.lot_of, Given.held_by, Given.lot_given}
+use Rattle.lot_design.specs.inner.Designs.{Describes}
+use Rattle.permanova_statistics.specs.inner.Observation.{Weighs}
 use Rattle.permanova.proofs.run.Goals as goal
+use Rattle.permanova.proofs.run.Goals.{After-weigh}
 
-pub slice_bounds-answer-end-2 : goal.slice_bounds-answer-end-2
-slice_bounds-answer-end-2 c =
-    let p-fits : c.args.d.kept * c.args.d.kept ≤ length c.weigh.new.weighted_squares =
-    let room = c.requires.weighing.weighted_squares_room in omega (arith, c.weigh.auto.weighted_squares) in
-    sym (length-take-le _ _ p-fits)
+-- the lot, with n samples
+abbrev sized : After-weigh → ℕ → Lot
+sized c n = let l = c.args.lot in lot_of n l.distances.now l.labels.now (is_some l.strata) (held_by l.strata) (is_some l.weights) (held_by l.weights)
 
-pub slice_bounds-answer-end-4 : goal.slice_bounds-answer-end-4
-slice_bounds-answer-end-4 c =
-    let t-fits : c.args.d.kept * c.args.d.kept ≤ length c.weigh.new.pair_terms =
-    let room = c.requires.weighing.pair_terms_room in omega (arith, c.weigh.auto.pair_terms) in
-    sym (length-take-le _ _ t-fits)
-
-pub slice_bounds-answer-end-5 : goal.slice_bounds-answer-end-5
-slice_bounds-answer-end-5 c =
-    let w-fits : c.args.d.kept ≤ length c.weigh.new.w = let few = c.requires.weighing.sound.few in omega (arith, c.weigh.auto.w) in
-    sym (length-take-le _ _ w-fits)
-
-pub answer-r-requires : goal.answer-r-requires
-answer-r-requires c =
-    let p-fits : c.args.d.kept * c.args.d.kept ≤ length c.weigh.new.weighted_squares =
-    let room = c.requires.weighing.weighted_squares_room in omega (arith, c.weigh.auto.weighted_squares) in
-    let t-fits : c.args.d.kept * c.args.d.kept ≤ length c.weigh.new.pair_terms =
-    let room = c.requires.weighing.pair_terms_room in omega (arith, c.weigh.auto.pair_terms) in
-    let w-fits : c.args.d.kept ≤ length c.weigh.new.w = let few = c.requires.weighing.sound.few in omega (arith, c.weigh.auto.w) in
-    let pre = c.requires in
-    record {
-      weighed = record {
-        sound = pre.weighing.sound;
-        weighted_squares = length-take-le _ _ p-fits;
-        pair_terms = length-take-le _ _ t-fits;
-        weights = length-take-le _ _ w-fits;
-      };
-      shuffles = pre.shuffles;
-      counts_room = pre.counts_room;
-      means_room = pre.means_room;
-    }
+weighs : (c : After-weigh) → let k = c.args.d.kept * c.args.d.kept in
+    Weighs (lot_given c.args.lot) c.args.d (take k c.weigh.new.weighted_squares) (take k c.weigh.new.pair_terms) (take c.args.d.kept c.weigh.new.w)
+weighs c =
+    let d = c.args.d in
+    let k = d.kept * d.kept in
+    let new = c.weigh.new in
+    let described = subst (λ (n : ℕ). Describes (sized c n) d) (sym c.requires.all) c.requires.described in
+    subst (λ (n : ℕ). Weighs (sized c n) d (take k new.weighted_squares) (take k new.pair_terms) (take d.kept new.w)) c.requires.all (c.weigh.ensures _ _ _ described)
 
 pub returns : goal.returns
-returns c labels stratified strata e =
+unfolding writes.cleared
+returns c =
+    let lot = lot_given c.args.lot in
     record {
-      answers = c.answer-r.ensures _ (record { weighs = c.weigh.ensures labels stratified strata e; weighted_as = refl });
-      pair_terms = c.clear.ensures ∙ cleared-same zero⁺ c.args.pair_terms.now c.weigh.new.pair_terms c.weigh.auto.pair_terms;
-      weighted_squares = c.clear-2.ensures ∙ cleared-same zero⁺ c.args.weighted_squares.now c.weigh.new.weighted_squares c.weigh.auto.weighted_squares;
+      answers = c.answer-r.ensures lot (record { weighs = weighs (goal.at.returns c).After-weigh; weighted_as = sym c.is_some.ensures });
+      pair_terms = c.fill.ensures.after (λ _ e. e) ∙ cleared-same zero⁺ c.args.pair_terms.now c.weigh.new.pair_terms c.weigh.auto.pair_terms;
+      weighted_squares = c.fill-2.ensures.after (λ _ e. e) ∙ cleared-same zero⁺ c.args.weighted_squares.now c.weigh.new.weighted_squares c.weigh.auto.weighted_squares;
     }

@@ -4,5 +4,5 @@ use Rattle.lists.proofs.{Writes.Writing}
 use Rattle.permanova_dispersion.specs.Dispersion.{distance_of}
 use Rattle.permanova_dispersion.proofs.distances.Given as goal
 
-abbrev pub invariant-loop-i : goal.invariant-loop-i
-invariant-loop-i l = Writing (λ k. distance_of (get_or l.initial.z k nan)) l.initial.z l.z l.i
+abbrev pub invariant-loop-x : goal.invariant-loop-x
+invariant-loop-x l = Writing (λ k. distance_of (get_or l.initial.x-items k nan)) l.initial.x-items l.x-items l.x-index

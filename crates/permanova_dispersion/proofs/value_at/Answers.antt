@@ -4,15 +4,15 @@ use Rattle.grouping.proofs.SortedParts.{part-there, part-below}
 use Rattle.permanova_dispersion.specs.inner.Parted.{value_by}
 use Rattle.permanova_dispersion.proofs.value_at.Goals as goal
 
-pub part_of-p-requires : goal.part_of-p-requires
-part_of-p-requires c =
+pub part-p-requires : goal.part-p-requires
+part-p-requires c =
     let group-below : c.entry-l.result < c.args.g = omega (arith, c.entry-l.ensures, c.requires.2 c.args.a (omega arith)) in
     part-there _ _ _ _ _ c.requires.3 group-below
 
 pub weighted_square_sum-sum-requires : goal.weighted_square_sum-sum-requires
 weighted_square_sum-sum-requires c =
     let group-below : c.entry-l.result < c.args.g = omega (arith, c.entry-l.ensures, c.requires.2 c.args.a (omega arith)) in
-    (c.requires.0, part-below _ _ _ _ _ _ c.requires.3 group-below c.part_of-p.ensures, c.requires.6)
+    (c.requires.0, part-below _ _ _ _ _ _ c.requires.3 group-below c.part-p.ensures.items, c.requires.6)
 
 pub offset_bounds-gw-l : goal.offset_bounds-gw-l
 offset_bounds-gw-l c = omega (arith, c.entry-l.ensures, c.requires.2 c.args.a (omega arith))
@@ -28,4 +28,4 @@ bounds-gi-l c = omega (arith, c.entry-l.ensures, c.requires.2 c.args.a (omega ar
 
 pub returns : goal.returns
 unfolding value_by
-returns c = rw (c.value_of.ensures, c.weighted_square_sum-sum.ensures, c.part_of-p.ensures, c.entry-l.ensures)
+returns c = rw (c.value_of.ensures, c.weighted_square_sum-sum.ensures, c.part-p.ensures.items, c.entry-l.ensures)

@@ -7,4 +7,4 @@ use Rattle.permanova_location.specs.Location.{group_within}
 use Rattle.permanova_location.proofs.within_twos.Given as goal
 
 abbrev pub invariant-loop-j : goal.invariant-loop-j
-invariant-loop-j l = (l.j ≤ l.h) × (l.s ≡ sum_from zero⁻ (table (2 * l.j) (λ k. group_within l.t l.w l.m (part l.next l.mem k))))
+invariant-loop-j l = (2 * l.j ≤ l.g) × (l.s ≡ sum_from zero⁻ (table (2 * l.j) (λ k. group_within l.t l.w l.m (part l.groups.starts l.groups.members k))))

@@ -1,18 +1,14 @@
--- `permanova_p_values::largest` meets its contract. From the last down.
-use Rattle.lists.proofs.Base.{◌-◌, max, arith, length}
-use Rattle.permanova_p_values.specs.Together.{largest}
-use Rattle.permanova_p_values.proofs.JointWarnings.{fold-none, fold_more, fold-all}
+-- `permanova_p_values::largest` meets its contract. As `max` picks it from the first on.
+use Rattle.lists.proofs.Base.{ap, sym, ◌∙◌}
+use Rattle.std.specs.Prelude.{unwrap_or}
+use Rattle.std.proofs.lemmas.Iterator.{YieldsList-from_slice}
+use Rattle.std.proofs.lemmas.Iterator.Consumers.{YieldsList-from_copied, max_from_yields_List}
+use Rattle.std.proofs.lemmas.Iterator.Adapters.{option_map_id}
+use Rattle.permanova_p_values.proofs.JointWarnings.{largest-reduce}
 use Rattle.permanova_p_values.proofs.largest.Goals as goal
 
-pub loop-k-init : goal.loop-k-init
-loop-k-init c = (omega arith, fold-none max 0 c.args.sizes.now (length c.args.sizes.now) (omega arith))
-
-pub loop-k-preserved : goal.loop-k-preserved
-loop-k-preserved c =
-    let turn = c.loop-k in
-    let args = c.args in
-    (omega arith, fold_more max 0 args.sizes.now (turn.k - 1) turn.k (omega arith) (omega arith) turn.invariant.1 c.larger_of-most.ensures)
-
 pub returns : goal.returns
-unfolding largest
-returns c = fold-all max 0 c.args.sizes.now c.loop-k.k (omega arith) c.loop-k.invariant.1
+returns c =
+    let gives = YieldsList-from_copied {s = c.copied.result} (YieldsList-from_slice c.args.sizes.now (cc)) in
+    let picks = sym (option_map_id c.max.result) ∙ max_from_yields_List _ _ c.max.ensures.ran gives in
+    c.unwrap_or.ensures ∙ ap (λ o. unwrap_or o 0) picks ∙ largest-reduce c.args.sizes.now

@@ -1,24 +1,14 @@
--- `permanova_p_values::smallest` meets its contract. From the last down.
-use Rattle.lists.proofs.Base.{◌∙◌, ◌-◌, min, arith, length}
-use Rattle.permanova_p_values.specs.Together.{largest, smallest}
-use Rattle.permanova_p_values.proofs.JointWarnings.{fold-none, fold_more, fold-all}
+-- `permanova_p_values::smallest` meets its contract. As `min` picks it from the first on.
+use Rattle.lists.proofs.Base.{ap, sym, ◌∙◌}
+use Rattle.std.specs.Prelude.{unwrap_or}
+use Rattle.std.proofs.lemmas.Iterator.{YieldsList-from_slice}
+use Rattle.std.proofs.lemmas.Iterator.Consumers.{YieldsList-from_copied, min_from_yields_List}
+use Rattle.std.proofs.lemmas.Iterator.Adapters.{option_map_id}
+use Rattle.permanova_p_values.proofs.JointWarnings.{smallest-reduce}
 use Rattle.permanova_p_values.proofs.smallest.Goals as goal
 
-pub loop-k-init : goal.loop-k-init
-loop-k-init c = (
-  omega arith,
-  c.largest-least.ensures ∙ fold-none min (largest c.args.sizes.now) c.args.sizes.now
-      (length c.args.sizes.now) (omega arith),
-)
-
-pub loop-k-preserved : goal.loop-k-preserved
-loop-k-preserved c =
-    let turn = c.loop-k in
-    let args = c.args in
-    (omega arith, fold_more min (largest args.sizes.now) args.sizes.now (turn.k - 1) turn.k (omega arith) (omega arith) turn.invariant.1 c.smaller_of-least.ensures)
-
 pub returns : goal.returns
-unfolding smallest
 returns c =
-    fold-all min (largest c.args.sizes.now) c.args.sizes.now
-    c.loop-k.k (omega arith) c.loop-k.invariant.1
+    let gives = YieldsList-from_copied {s = c.copied.result} (YieldsList-from_slice c.args.sizes.now (cc)) in
+    let picks = sym (option_map_id c.min.result) ∙ min_from_yields_List _ _ c.min.ensures.ran gives in
+    c.unwrap_or.ensures ∙ ap (λ o. unwrap_or o 0) picks ∙ smallest-reduce c.args.sizes.now

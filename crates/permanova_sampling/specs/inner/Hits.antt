@@ -4,9 +4,6 @@ use Rattle.limits.specs.Limits.{most_samples}
 use Rattle.lists.specs.inner.Numbers.{Below}
 use Rattle.grouping.specs.inner.Parts.{Parts, Grouped}
 use Rattle.lot.specs.declared.Shape.{Shape}
-use Rattle.shuffle.specs.declared.DrawState.{DrawState}
-use Rattle.shuffle.specs.Shuffle.{Shuffling}
-use Rattle.shuffle.specs.inner.Shuffle.{shuffling}
 use Rattle.lot_design.specs.declared.Design.{Design}
 use Rattle.lot_design.specs.inner.Designs.{Sound}
 
@@ -34,9 +31,9 @@ pub record Sampling (sizes : Shape) (gs sn sm : List ℕ) : Type 0 where
   pub labelled : Labelled sizes gs
   pub strata : Parts sizes.kept sizes.strata sn sm
 
--- a shuffle left this beside its labels, and the members of their groups
-pub record ShufflesLabels (sizes : Shape) (d : Shuffling) (r : DrawState) (lab next mem : List ℕ) : Type 0 where
-  pub shuffled : shuffling r lab ≡ d
+-- a shuffle left these labels, and the members of their groups
+pub record ShufflesLabels (sizes : Shape) (dealt : List ℕ) (lab next mem : List ℕ) : Type 0 where
+  pub shuffled : lab ≡ dealt
   pub assigned : Assigned sizes lab next mem
 
 -- all of it by a design

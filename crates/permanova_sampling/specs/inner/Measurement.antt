@@ -1,5 +1,5 @@
 -- What the test of a lot is made from, and what it leaves. Statements only.
-use Rattle.std.specs.Prelude.{◌≡◌, Bool, List, ℕ, ◌≤◌, Float}
+use Rattle.std.specs.Prelude.{◌≡◌, Bool, List, ℕ, ◌≤◌, Float, Option}
 use Rattle.limits.specs.Limits.{most_shuffles}
 use Rattle.lot.specs.Lot.{Lot}
 use Rattle.lot.specs.Kept.{groups}
@@ -12,7 +12,7 @@ use Rattle.permanova_statistics.specs.declared.observation.Observed.{Observed}
 use Rattle.permanova_statistics.specs.inner.Observed.{observed_of}
 use Rattle.permanova_statistics.specs.inner.Observation.{Weighed, Weighs, Listed}
 use Rattle.permanova_sampling.specs.declared.hits.Draws.{Draws}
-use Rattle.permanova_sampling.specs.declared.PValues.{PValues}
+use Rattle.permanova_p_values.specs.declared.Both.{Both}
 use Rattle.permanova_sampling.specs.declared.TestResult.{TestResult}
 use Rattle.permanova_sampling.specs.Tested.{tested}
 use Rattle.permanova_sampling.specs.inner.Tested.{p_values_of}
@@ -33,7 +33,7 @@ pub record Seen (lot : Lot) (d : Design) (t w z : List Float) (o : Observed) : T
   pub observed : o ≡ observed_of lot
 
 -- o was observed of the lot that d describes, weighted or not; its groups have these sizes, and both p are c
-pub record Concludes (lot : Lot) (seed n : ℕ) (d : Design) (weighted : Bool) (o : Observed) (counts : List ℕ) (c : PValues) : Type 0 where
+pub record Concludes (lot : Lot) (seed n : ℕ) (d : Design) (weighted : Bool) (o : Observed) (counts : List ℕ) (c : Both (Option Float)) : Type 0 where
   pub described : Describes lot d
   pub weighted_as : lot.weighted ≡ weighted
   pub observed : o ≡ observed_of lot

@@ -3,7 +3,7 @@ use Rattle.std.specs.Prelude.{◌≡◌, Bool, true, List, ℕ, ◌*◌, ◌≤�
 use Rattle.limits.specs.Limits.{most_samples}
 use Rattle.lists.specs.inner.Numbers.{Below}
 use Rattle.lists.specs.Writes.{over}
-use Rattle.grouping.specs.inner.Parts.{Grouped}
+use Rattle.grouping.specs.inner.Parts.{Parts, Grouped}
 use Rattle.lot.specs.Lot.{Lot}
 use Rattle.lot.specs.Kept.{groups, kept_count, group_count}
 use Rattle.permanova_sums.specs.Squares.{weights_of, pair_terms_of, weighted_squares_of}
@@ -77,10 +77,10 @@ pub record ObservingKept (m g : ℕ) (p t w : List Float) (gs : List ℕ) (z cou
   pub means_room : g ≤ means
 
 -- what location, dispersion and the listing ask once the groups' members are the parts of mem
-pub record Locating (m g : ℕ) (t w : List Float) (gs next mem : List ℕ) : Type 0 where
+pub record Locating (m g : ℕ) (t w : List Float) (next mem : List ℕ) : Type 0 where
   pub pair_terms : length t ≡ m * m
   pub weights : length w ≡ m
-  pub grouped : Grouped gs m g next mem
+  pub parts : Parts m g next mem
   pub some : 1 ≤ g
   pub enough : g ≤ m
   pub few : m ≤ most_samples
@@ -88,13 +88,11 @@ pub record Locating (m g : ℕ) (t w : List Float) (gs next mem : List ℕ) : Ty
 pub record Dispersing (m g : ℕ) (p t w : List Float) (gs next mem : List ℕ) (z : ℕ) : Type 0 where
   pub labelled : Labelled m g p t w gs
   pub grouped : Grouped gs m g next mem
-  pub members : length mem ≤ most_samples
   pub z_long : z ≡ m
 
-pub record Listing (m g : ℕ) (gs next mem : List ℕ) (z counts means : ℕ) : Type 0 where
+pub record Listing (m g : ℕ) (next mem : List ℕ) (z counts means : ℕ) : Type 0 where
   pub z_long : z ≡ m
-  pub grouped : Grouped gs m g next mem
-  pub members : length mem ≤ most_samples
+  pub parts : Parts m g next mem
   pub counts_room : g ≤ counts
   pub means_room : g ≤ means
 

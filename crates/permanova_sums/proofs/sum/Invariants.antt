@@ -4,5 +4,5 @@ use Rattle.float.specs.Floats.{zero⁻}
 use Rattle.lists.specs.Sums.{sum_from}
 use Rattle.permanova_sums.proofs.sum.Given as goal
 
-abbrev pub invariant-loop-i : goal.invariant-loop-i
-invariant-loop-i l = sum_from l.s (drop l.i l.w) ≡ sum_from zero⁻ l.w
+abbrev pub invariant-loop-x : goal.invariant-loop-x
+invariant-loop-x l = sum_from l.s (drop l.x-index l.w) ≡ sum_from zero⁻ l.w

@@ -1,20 +1,17 @@
--- `permanova_sums::sum_at` meets its contract. The numbers from x on, added to u, are always the whole sum.
-use Rattle.lists.proofs.Base.{refl, ap, arith}
+-- `permanova_sums::sum_at` meets its contract. The numbers of the samples still to come, added to u, are always the whole sum.
+use Rattle.lists.proofs.Base.{refl, arith}
 use Rattle.lists.proofs.Sums.{list-turn, list-end}
 use Rattle.permanova_sums.specs.PairSums.{at}
 use Rattle.permanova_sums.proofs.sum_at.Goals as goal
 
 pub offset_bounds-w-a : goal.offset_bounds-w-a
-offset_bounds-w-a c = omega (arith, c.entry-a.ensures, c.requires c.loop-x.x (omega arith))
+offset_bounds-w-a c = omega (arith, c.requires c.loop-a.a-index (omega arith))
 
 pub bounds-w-a : goal.bounds-w-a
-bounds-w-a c = omega (arith, c.entry-a.ensures, c.requires c.loop-x.x (omega arith))
+bounds-w-a c = c.requires c.loop-a.a-index (omega arith)
 
-pub loop-x-preserved : goal.loop-x-preserved
-loop-x-preserved c =
-    let turn = c.loop-x in
-    let args = c.args in
-    list-turn (at args.w.now) _ args.mem.now turn.x 0 (omega arith) (ap (at args.w.now) c.entry-a.ensures) refl turn.invariant
+pub loop-a-preserved : goal.loop-a-preserved
+loop-a-preserved c = list-turn (at c.args.w.now) _ c.args.mem.now c.loop-a.a-index 0 (omega arith) refl refl c.loop-a.invariant
 
 pub returns : goal.returns
-returns c = list-end (at c.args.w.now) _ c.args.mem.now c.loop-x.x (omega arith) c.loop-x.invariant
+returns c = list-end (at c.args.w.now) _ c.args.mem.now c.loop-a.a-index (omega arith) c.loop-a.invariant

@@ -4,4 +4,4 @@ use Rattle.shuffle.proofs.draw_below.Goals as goal
 
 pub returns : goal.returns
 unfolding draw_below
-returns c = rw c.next-d.ensures
+returns c = (rw c.next-d.ensures, rw c.next-d.ensures)

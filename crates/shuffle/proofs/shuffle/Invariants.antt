@@ -4,4 +4,4 @@ use Rattle.shuffle.proofs.Draws.{PartsShuffled}
 use Rattle.shuffle.proofs.shuffle.Given as goal
 
 abbrev pub invariant-loop-k : goal.invariant-loop-k
-invariant-loop-k l = PartsShuffled l.next l.mem l.s (shuffling l.initial.d l.initial.lab) (shuffling l.d l.lab) l.k
+invariant-loop-k l = PartsShuffled l.strata.starts l.strata.members l.s (shuffling l.initial.state l.initial.lab) (shuffling l.state l.lab) l.k

@@ -6,19 +6,14 @@ use Rattle.shuffle.proofs.Draws.{stratum-shuffled-none, stratum-shuffled-next, s
 use Rattle.shuffle.proofs.shuffle_stratum.Goals as goal
 
 pub loop-i-init : goal.loop-i-init
-loop-i-init c =
-    stratum-shuffled-none c.args.stratum.now (shuffling c.args.from c.args.lab.now)
+loop-i-init c = stratum-shuffled-none c.args.stratum.now (shuffling c.args.state.now c.args.lab.now)
 
-pub swap_drawn-d-requires : goal.swap_drawn-d-requires
-swap_drawn-d-requires c = (omega (arith, c.loop-i.invariant.most), subst (λ (n : ℕ). Below n c.args.stratum.now) (sym c.loop-i.invariant.long) c.requires)
+pub swap_drawn-requires : goal.swap_drawn-requires
+swap_drawn-requires c = (omega (arith, c.loop-i.invariant.most), subst (λ (n : ℕ). Below n c.args.stratum.now) (sym c.loop-i.invariant.long) c.requires)
 
 pub loop-i-preserved : goal.loop-i-preserved
 loop-i-preserved c =
-    stratum-shuffled-next c.args.stratum.now (shuffling c.args.from c.args.lab.now) c.loop-i.invariant (omega arith) c.swap_drawn-d.auto.lab c.swap_drawn-d.ensures
-
-pub shape_of-lab : goal.shape_of-lab
-shape_of-lab c = c.loop-i.invariant.long
+    stratum-shuffled-next c.args.stratum.now (shuffling c.args.state.now c.args.lab.now) c.loop-i.invariant (omega arith) c.swap_drawn.auto.lab c.swap_drawn.ensures
 
 pub returns : goal.returns
-returns c =
-    stratum-shuffled-all c.args.stratum.now (shuffling c.args.from c.args.lab.now) c.loop-i.invariant (omega arith)
+returns c = stratum-shuffled-all c.args.stratum.now (shuffling c.args.state.now c.args.lab.now) c.loop-i.invariant (omega arith)

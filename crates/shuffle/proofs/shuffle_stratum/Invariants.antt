@@ -4,7 +4,4 @@ use Rattle.shuffle.proofs.Draws.{StratumShuffled}
 use Rattle.shuffle.proofs.shuffle_stratum.Given as goal
 
 abbrev pub invariant-loop-i : goal.invariant-loop-i
-invariant-loop-i l = StratumShuffled l.stratum (shuffling l.initial.d l.initial.lab) (shuffling l.d l.lab) l.i
-
-abbrev pub decreases-loop-i : goal.decreases-loop-i
-decreases-loop-i l = l.i
+invariant-loop-i l = StratumShuffled l.stratum (shuffling l.initial.state l.initial.lab) (shuffling l.state l.lab) l.i

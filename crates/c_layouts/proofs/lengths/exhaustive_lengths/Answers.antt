@@ -1,17 +1,11 @@
--- `c_layouts::lengths::exhaustive_lengths` meets its contract. Up to 256 nothing wraps.
-use Rattle.lists.proofs.Base.{arith, mul-le-mul, lt-ltb, le-ltb}
-use Rattle.exhaustive_hits.specs.Call.{exhaustive_asks}
-use Rattle.c_layouts.proofs.AskedLengths.{within, beyond}
+-- `c_layouts::lengths::exhaustive_lengths` meets its contract. By n times n, of an n within its limit.
+use Rattle.lists.proofs.Base.{lt-ltb, le-ltb}
+use Rattle.outcome.proofs.Table.{passed-on}
+use Rattle.c_layouts.proofs.AskedLengths.{beyond, within, exhaustive-asked}
 use Rattle.c_layouts.proofs.lengths.exhaustive_lengths.Goals as goal
 
-pub returns-then-n-gt-MOST_SAMPLES : goal.returns-then-n-gt-MOST_SAMPLES
-returns-then-n-gt-MOST_SAMPLES c = beyond (exhaustive_asks c.args.n) c.args.lengths.now (lt-ltb 256 c.args.n c.if-n-gt-MOST_SAMPLES.true)
-
-pub overflow_mul-q : goal.overflow_mul-q
-overflow_mul-q c = omega (arith, mul-le-mul c.if-n-gt-MOST_SAMPLES.false c.if-n-gt-MOST_SAMPLES.false)
-
-pub overflow_add-lengths-2 : goal.overflow_add-lengths-2
-overflow_add-lengths-2 c = omega (arith, mul-le-mul c.if-n-gt-MOST_SAMPLES.false c.if-n-gt-MOST_SAMPLES.false)
+pub returns-in_err-q : goal.returns-in_err-q
+returns-in_err-q c = beyond _ (passed-on _ c.from_residual.ensures.1) c.in_err-q.ensures.1 (lt-ltb 256 c.args.n c.in_err-q.ensures.0)
 
 pub returns : goal.returns
-returns c = within (exhaustive_asks c.args.n) c.args.lengths.now (le-ltb 256 c.args.n c.if-n-gt-MOST_SAMPLES.false)
+returns c = within _ (le-ltb 256 c.args.n c.in_ok-q.ensures.0) (exhaustive-asked c.args.n c.in_ok-q.ensures.1)

@@ -1,17 +1,11 @@
--- `c_layouts::lengths::jacobi_lengths` meets its contract. Up to 256 nothing wraps.
-use Rattle.lists.proofs.Base.{arith, mul-le-mul, lt-ltb, le-ltb}
-use Rattle.eigen_jacobi.specs.Call.{jacobi_asks}
-use Rattle.c_layouts.proofs.AskedLengths.{within, beyond}
+-- `c_layouts::lengths::jacobi_lengths` meets its contract. By n times n, of an n within its limit.
+use Rattle.lists.proofs.Base.{lt-ltb, le-ltb}
+use Rattle.outcome.proofs.Table.{passed-on}
+use Rattle.c_layouts.proofs.AskedLengths.{beyond, within, jacobi-asked}
 use Rattle.c_layouts.proofs.lengths.jacobi_lengths.Goals as goal
 
-pub returns-then-n-gt-MOST_SAMPLES : goal.returns-then-n-gt-MOST_SAMPLES
-returns-then-n-gt-MOST_SAMPLES c = beyond (jacobi_asks c.args.n) c.args.lengths.now (lt-ltb 256 c.args.n c.if-n-gt-MOST_SAMPLES.true)
-
-pub overflow_mul-q : goal.overflow_mul-q
-overflow_mul-q c = omega (arith, mul-le-mul c.if-n-gt-MOST_SAMPLES.false c.if-n-gt-MOST_SAMPLES.false)
-
-pub overflow_add-lengths : goal.overflow_add-lengths
-overflow_add-lengths c = omega (arith, mul-le-mul c.if-n-gt-MOST_SAMPLES.false c.if-n-gt-MOST_SAMPLES.false)
+pub returns-in_err-q : goal.returns-in_err-q
+returns-in_err-q c = beyond _ (passed-on _ c.from_residual.ensures.1) c.in_err-q.ensures.1 (lt-ltb 256 c.args.n c.in_err-q.ensures.0)
 
 pub returns : goal.returns
-returns c = within (jacobi_asks c.args.n) c.args.lengths.now (le-ltb 256 c.args.n c.if-n-gt-MOST_SAMPLES.false)
+returns c = within _ (le-ltb 256 c.args.n c.in_ok-q.ensures.0) (jacobi-asked c.args.n c.in_ok-q.ensures.1)

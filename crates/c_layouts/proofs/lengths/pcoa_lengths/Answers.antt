@@ -1,30 +1,17 @@
--- `c_layouts::lengths::pcoa_lengths` meets its contract. Up to 256 nothing wraps.
-use Rattle.lists.proofs.Base.{sym, ◌∙◌, arith, mul-le-mul, min-le_right}
-use Rattle.ordination_coordinates.specs.Lines.{bad_components}
-use Rattle.c_layouts.proofs.AskedLengths.{beyond, few, pcoa-told}
+-- `c_layouts::lengths::pcoa_lengths` meets its contract. By n times n and how many components are used, of both within their limits.
+use Rattle.lists.proofs.Base.{arith, min-le_right}
+use Rattle.outcome.proofs.Table.{passed-on}
+use Rattle.c_layouts.proofs.AskedLengths.{beyond, within, many, other, pcoa-asked}
 use Rattle.c_layouts.proofs.lengths.pcoa_lengths.Goals as goal
 
-pub returns-then-is_beyond : goal.returns-then-is_beyond
-returns-then-is_beyond c = beyond _ c.args.lengths.now (sym c.is_beyond.ensures ∙ c.if-is_beyond.true)
+pub returns-in_err-q : goal.returns-in_err-q
+returns-in_err-q c = beyond _ (passed-on _ c.from_residual.ensures.1) c.in_err-q.ensures.1 (many c.args.n _ c.in_err-q.ensures.0)
 
-pub ordination-out-requires : goal.ordination-out-requires
-ordination-out-requires c =
-    let args = c.args in (
-      few args.n (bad_components args.components) c.is_beyond.ensures c.if-is_beyond.false,
-      omega (arith, c.components_used-k.ensures, min-le_right args.components args.n),
-    )
+pub returns-in_err-k : goal.returns-in_err-k
+returns-in_err-k c = beyond _ (passed-on _ c.from_residual-in_err-k.ensures.1) c.in_err-k.ensures.1 (other c.args.n _ c.in_ok-q.ensures.0 c.in_err-k.ensures.0)
 
-pub overflow_mul-q : goal.overflow_mul-q
-overflow_mul-q c =
-    let args = c.args in
-    let h = few args.n (bad_components args.components) c.is_beyond.ensures c.if-is_beyond.false in omega (arith, mul-le-mul h h)
-
-pub overflow_add-lengths : goal.overflow_add-lengths
-overflow_add-lengths c =
-    let args = c.args in
-    let h = few args.n (bad_components args.components) c.is_beyond.ensures c.if-is_beyond.false in omega (arith, mul-le-mul h h)
+pub ordination-requires : goal.ordination-requires
+ordination-requires c = (c.in_ok-q.ensures.0, omega (arith, c.in_ok-k.ensures.1, min-le_right c.args.components c.args.n))
 
 pub returns : goal.returns
-returns c =
-    pcoa-told c.args.n c.args.lengths.now c.ordination-out.ensures c.components_used-k.ensures
-    (sym c.is_beyond.ensures ∙ c.if-is_beyond.false)
+returns c = within _ (other c.args.n _ c.in_ok-q.ensures.0 c.in_ok-k.ensures.0) (pcoa-asked c.args.n c.ordination.ensures c.in_ok-k.ensures.1 c.in_ok-q.ensures.1)

@@ -5,62 +5,58 @@ use Rattle.lists.proofs.Parts.{take-replicate}
 use Rattle.lists.proofs.Fronts.{Back, back}
 use Rattle.dapc_discriminant.proofs.DiscriminantCases.{square-fits, pivot-fails, eigen-refuses, eigen-answers}
 use Rattle.dapc_discriminant.proofs.analysis.decompose.Goals as goal
+use Rattle.dapc_discriminant.proofs.analysis.decompose.Goals.{After-factor, After-eigenpairs}
+
+factor_part : (c : After-factor) → let p = c.args.samples.sizes.lead in Back (p * p) (replicate 256 zero⁺) c.factor.new.l
+factor_part c =
+    let p = c.args.samples.sizes.lead in
+    back (p * p) (replicate 256 zero⁺) c.factor.new.l (square-fits p c.args.samples.narrow) c.factor.auto.l
+
+pairs_part : (c : After-eigenpairs) → let p = c.args.samples.sizes.lead in Back (p + p * p) (replicate 272 zero⁺) c.eigenpairs.new.ev
+pairs_part c =
+    let p = c.args.samples.sizes.lead in
+    back (p + p * p) (replicate 272 zero⁺) c.eigenpairs.new.ev (omega (arith, square-fits p c.args.samples.narrow, c.args.samples.narrow)) c.eigenpairs.auto.ev
 
 pub factor-requires : goal.factor-requires
 factor-requires c =
-    let square-here : c.args.sizes.lead * c.args.sizes.lead ≤ 256 = square-fits c.args.sizes.lead c.requires.ready.narrow in
-    let p = c.args.sizes.lead in (c.requires.within, take-replicate (p * p) 256 zero⁺ square-here)
+    let p = c.args.samples.sizes.lead in (c.requires.within, take-replicate (p * p) 256 zero⁺ (square-fits p c.args.samples.narrow))
 
-pub returns-then-factor : goal.returns-then-factor
-returns-then-factor c =
+pub returns-in-Err : goal.returns-in-Err
+returns-in-Err c =
     let a = c.args in
-    pivot-fails (length a.groups.now) a.sizes a.x.now a.groups.now a.mean.now a.a.now a.sb.now a.out.now a.assigned.now
-    c.factor.ensures.0 c.factor.ensures.1 c.if-factor.true c.refuse.ensures
+    let s = a.samples in
+    pivot-fails (length s.groups.now) s.sizes s.x.now s.groups.now a.mean.now a.a.now a.sb.now a.out.now a.assigned.now c.in-Err.ensures.0 c.in-Err.ensures.1 c.refuse.ensures
 
-pub eigenpairs-r-requires : goal.eigenpairs-r-requires
-eigenpairs-r-requires c =
-    let square-here : c.args.sizes.lead * c.args.sizes.lead ≤ 256 = square-fits c.args.sizes.lead c.requires.ready.narrow in
-    let pairs-here : c.args.sizes.lead + c.args.sizes.lead * c.args.sizes.lead ≤ 272 = omega (arith, square-here, c.requires.ready.narrow) in
-    let factor-here : let p = c.args.sizes.lead in Back (p * p) (replicate 256 zero⁺) c.factor.new.l =
-    let p = c.args.sizes.lead in back (p * p) (replicate 256 zero⁺) c.factor.new.l square-here c.factor.auto.l in
-    record { pairs = length-take-le _ _ pairs-here; factor = length-take-le _ _ factor-here.fits; between = c.requires.between; narrow = c.requires.ready.narrow }
+pub eigenpairs-requires : goal.eigenpairs-requires
+eigenpairs-requires c =
+    let s = c.args.samples in
+    let p = s.sizes.lead in
+    let room : p + p * p ≤ 272 = omega (arith, square-fits p s.narrow, s.narrow) in
+    record { pairs = length-take-le _ _ room; factor = length-take-le _ _ (factor_part (goal.at.eigenpairs-requires c).After-factor).fits; between = c.requires.between; narrow = s.narrow }
 
-pub returns-in_default : goal.returns-in_default
-returns-in_default c =
-    let square-here : c.args.sizes.lead * c.args.sizes.lead ≤ 256 = square-fits c.args.sizes.lead c.requires.ready.narrow in
-    let factor-here : let p = c.args.sizes.lead in Back (p * p) (replicate 256 zero⁺) c.factor.new.l =
-    let p = c.args.sizes.lead in back (p * p) (replicate 256 zero⁺) c.factor.new.l square-here c.factor.auto.l in
+pub returns-in-Err-eigenpairs : goal.returns-in-Err-eigenpairs
+returns-in-Err-eigenpairs c =
     let a = c.args in
-    eigen-refuses (length a.groups.now) a.sizes a.x.now a.groups.now a.mean.now a.a.now a.sb.now a.out.now a.assigned.now
-    (factor-here.front ∙ c.factor.ensures.0) c.factor.ensures.1 c.if-factor.false c.eigenpairs-r.new.ev c.eigenpairs-r.ensures
-    c.in_default.is c.refuse-in_default.ensures
+    let s = a.samples in
+    eigen-refuses (length s.groups.now) s.sizes s.x.now s.groups.now a.mean.now a.a.now a.sb.now a.out.now a.assigned.now
+    ((factor_part (goal.at.returns-in-Err-eigenpairs c).After-factor).front ∙ c.in_default.ensures.0) c.in_default.ensures.1
+    c.in-Err-eigenpairs.ensures c.refuse-in-Err-eigenpairs.ensures
 
 pub allocate-requires : goal.allocate-requires
 allocate-requires c =
-    let square-here : c.args.sizes.lead * c.args.sizes.lead ≤ 256 = square-fits c.args.sizes.lead c.requires.ready.narrow in
-    let factor-here : let p = c.args.sizes.lead in Back (p * p) (replicate 256 zero⁺) c.factor.new.l =
-    let p = c.args.sizes.lead in back (p * p) (replicate 256 zero⁺) c.factor.new.l square-here c.factor.auto.l in
-    let pairs-here : c.args.sizes.lead + c.args.sizes.lead * c.args.sizes.lead ≤ 272 = omega (arith, square-here, c.requires.ready.narrow) in
-    let found-here : let p = c.args.sizes.lead in Back (p + p * p) (replicate 272 zero⁺) c.eigenpairs-r.new.ev =
-    let p = c.args.sizes.lead in back (p + p * p) (replicate 272 zero⁺) c.eigenpairs-r.new.ev pairs-here c.eigenpairs-r.auto.ev in
     let pre = c.requires in
     record {
-      ready = pre.ready;
-      pairs = length-take-le _ _ found-here.fits;
-      factor = length-take-le _ _ factor-here.fits;
+      fitting = pre.fitting;
+      pairs = length-take-le _ _ (pairs_part (goal.at.allocate-requires c).After-eigenpairs).fits;
+      factor = length-take-le _ _ (factor_part (goal.at.allocate-requires c).After-factor).fits;
       means = pre.means;
       counted = pre.counted;
     }
 
 pub returns : goal.returns
 returns c =
-    let square-here : c.args.sizes.lead * c.args.sizes.lead ≤ 256 = square-fits c.args.sizes.lead c.requires.ready.narrow in
-    let factor-here : let p = c.args.sizes.lead in Back (p * p) (replicate 256 zero⁺) c.factor.new.l =
-    let p = c.args.sizes.lead in back (p * p) (replicate 256 zero⁺) c.factor.new.l square-here c.factor.auto.l in
-    let pairs-here : c.args.sizes.lead + c.args.sizes.lead * c.args.sizes.lead ≤ 272 = omega (arith, square-here, c.requires.ready.narrow) in
-    let found-here : let p = c.args.sizes.lead in Back (p + p * p) (replicate 272 zero⁺) c.eigenpairs-r.new.ev =
-    let p = c.args.sizes.lead in back (p + p * p) (replicate 272 zero⁺) c.eigenpairs-r.new.ev pairs-here c.eigenpairs-r.auto.ev in
     let a = c.args in
-    eigen-answers (length a.groups.now) a.sizes a.x.now a.groups.now a.mean.now a.a.now a.sb.now a.out.now a.assigned.now
-    (factor-here.front ∙ c.factor.ensures.0) c.factor.ensures.1 c.if-factor.false c.eigenpairs-r.new.ev c.eigenpairs-r.ensures
-    c.in-Sweeps.is found-here.front c.allocate.ensures
+    let s = a.samples in
+    eigen-answers (length s.groups.now) s.sizes s.x.now s.groups.now a.mean.now a.a.now a.sb.now a.out.now a.assigned.now
+    ((factor_part (goal.at.returns c).After-factor).front ∙ c.in_default.ensures.0) c.in_default.ensures.1
+    c.eigenpairs.new.ev c.in_default-eigenpairs.ensures (pairs_part (goal.at.returns c).After-eigenpairs).front c.allocate.ensures

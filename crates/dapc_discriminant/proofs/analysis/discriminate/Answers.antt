@@ -1,11 +1,10 @@
 -- `dapc_discriminant::analysis::discriminate` meets its contract. The axes are counted first, then means and scatter are filled.
-use Rattle.lists.proofs.Base.{sym, ap, subst, ◌∙◌, ℕ, ◌*◌, ◌≤◌, length, replicate, length-take-le}
+use Rattle.lists.proofs.Base.{sym, ap, subst, ◌∙◌, ℕ, ◌+◌, ◌*◌, ◌≤◌, length, replicate, length-take-le}
 use Rattle.float.specs.Floats.{zero⁺, zero⁻}
 use Rattle.lists.proofs.Parts.{take-replicate}
 use Rattle.lists.proofs.Fronts.{Back, back}
-use Rattle.dapc_scatter.specs.declared.moments.Dimensions.{Dimensions}
+use Rattle.dapc_scatter.specs.declared.samples.Dimensions.{Dimensions}
 use Rattle.dapc_discriminant.specs.{Outputs.leaves, Dapc.discriminate}
-use Rattle.dapc_discriminant.specs.inner.Outputs.{Ready}
 use Rattle.dapc_discriminant.proofs.DiscriminantCases.{square-fits, separated-is}
 use Rattle.dapc_discriminant.proofs.analysis.discriminate.Goals as goal
 
@@ -13,10 +12,8 @@ pub fill-requires : goal.fill-requires
 fill-requires c =
     let square-here : c.args.p * c.args.p ≤ 256 = square-fits c.args.p c.requires.0.narrow in
     let r = c.requires.0 in
-    let none = take-replicate (c.args.p * c.args.p) 256 zero⁺ square-here in (
-      record { coordinates = r.coordinates; leads = r.leads; narrow = r.narrow; most = r.most; numbered = r.numbered; few = r.few; members = c.requires.1 },
-      record { means = take-replicate c.args.p 16 zero⁻ r.narrow; counted = take-replicate {A = ℕ} c.args.g 128 0 r.most; within = none; between = none },
-    )
+    let none = take-replicate (c.args.p * c.args.p) 256 zero⁺ square-here in
+    record { means = take-replicate c.args.p 16 zero⁻ r.narrow; counted = take-replicate {A = ℕ} c.args.g 128 0 r.most; within = none; between = none }
 
 pub decompose-requires : goal.decompose-requires
 decompose-requires c =
@@ -27,7 +24,11 @@ decompose-requires c =
     let between-here : let p = c.args.p in Back (p * p) (replicate 256 zero⁺) c.fill.new.sb = back (c.args.p * c.args.p) (replicate 256 zero⁺) c.fill.new.sb square-here c.fill.auto.sb in
     let a = c.args in
     record {
-      ready = subst (λ (k : ℕ). Ready a.columns a.p k a.g a.x.now a.groups.now (length a.out.now) (length a.assigned.now)) (sym c.axes_of-axes.ensures) c.requires.0;
+      fitting = record {
+        axial = c.axes_of-axes.ensures;
+        room = subst (λ (k : ℕ). k + length a.groups.now * k ≤ length a.out.now) (sym c.axes_of-axes.ensures) c.requires.0.room;
+        places = c.requires.0.places;
+      };
       means = length-take-le _ _ mean-here.fits;
       counted = counts-here.front ∙ c.fill.ensures.counted;
       within = length-take-le _ _ within-here.fits;

@@ -17,14 +17,14 @@ whiten-requires c =
     let square-here : c.args.p * c.args.p ≤ 256 = square-fits c.args.p c.requires.narrow in
     let none = take-replicate (c.args.p * c.args.p) 256 zero⁺ square-here in (none, none, c.requires.factor, c.requires.between)
 
-pub eigen-requires : goal.eigen-requires
-eigen-requires c =
+pub eigen_within-requires : goal.eigen_within-requires
+eigen_within-requires c =
     let square-here : c.args.p * c.args.p ≤ 256 = square-fits c.args.p c.requires.narrow in
     let white-here : Back (c.args.p * c.args.p) zeros c.whiten.new.m = back (c.args.p * c.args.p) zeros c.whiten.new.m square-here c.whiten.auto.m in
     let half-here : Back (c.args.p * c.args.p) zeros c.whiten.new.half = back (c.args.p * c.args.p) zeros c.whiten.new.half square-here c.whiten.auto.half in
     let narrow = c.requires.narrow in record {
       a_len = (length-take-le _ _ white-here.fits, c.requires.pairs, length-take-le _ _ half-here.fits, length-take-le _ _ square-here);
-      row_len = (length-take-le _ _ narrow, length-take-le _ _ narrow, omega arith);
+      n_in_bounds = (narrow, omega arith);
     }
 
 pub returns : goal.returns
@@ -32,4 +32,4 @@ unfolding solution
 returns c =
     let square-here : c.args.p * c.args.p ≤ 256 = square-fits c.args.p c.requires.narrow in
     let white-here : Back (c.args.p * c.args.p) zeros c.whiten.new.m = back (c.args.p * c.args.p) zeros c.whiten.new.m square-here c.whiten.auto.m in
-    ap (λ (s : Solved). s.found) c.eigen.ensures ∙ ap (jacobi c.args.p) (white-here.front ∙ c.whiten.ensures)
+    ap (λ (s : Solved). s.found) c.eigen_within.ensures ∙ ap (jacobi c.args.p) (white-here.front ∙ c.whiten.ensures)

@@ -1,33 +1,48 @@
 -- `dapc_scores::nearest_centroid::assign` meets its contract. After i turns the first i samples are assigned and counted.
-use Rattle.lists.proofs.Base.{◌*◌, ◌+◌, ◌≤◌, ap, ◌∙◌, arith, length}
+use Rattle.lists.proofs.Base.{◌≡◌, ◌*◌, ◌+◌, ◌≤◌, refl, sym, ap, ◌∙◌, Bool, true, false, cond, List, ℕ, arith, length}
+use mir.Val.{bool_byte}
 use Rattle.lists.proofs.Rows.{row-end, length_part}
+use Rattle.outcome.specs.Outcome.{Outcome, answered, refused}
+use Rattle.dapc_scores.specs.Assigned.{right_of}
 use Rattle.dapc_scores.proofs.Assigning.{assigning-none, assigning-next, assigning-pass, assigning-all}
-use Rattle.dapc_scores.specs.declared.nearest_centroid.Tally.{Tally}
 use Rattle.dapc_scores.proofs.nearest_centroid.assign.Goals as goal
-use Rattle.dapc_scores.proofs.nearest_centroid.assign.Goals.{then-j-eq-NONE, else-j-eq-NONE}
+use Rattle.dapc_scores.proofs.nearest_centroid.assign.Goals.{in-None, in-Some}
+
+-- one more, or none
+one-more : (b : Bool) → bool_byte b ≡ cond b 1 0
+one-more true = refl
+one-more false = refl
 
 pub loop-i-init : goal.loop-i-init
 loop-i-init c = assigning-none _ _ _ _ _ _
 
 pub nearest-b-requires : goal.nearest-b-requires
 nearest-b-requires c =
-    let row_fits-here : let a = c.args in c.loop-i.i * a.axes + a.axes ≤ length a.scores.now = omega (arith, row-end c.args.axes _ _ c.loop-i-test.true) in
-    (length_part c.args.axes c.loop-i.i c.args.scores.now row_fits-here, c.requires.2, c.requires.3)
-
-pub note-t-requires : goal.note-t-requires
-note-t-requires c = omega (arith, c.loop-i.invariant.few)
+    let a = c.args in
+    let axes = a.samples.sizes.axes in
+    let fits : c.loop-i.i * axes + axes ≤ length a.scores.now = omega (arith, row-end axes _ _ c.loop-i-test.true) in
+    (length_part axes c.loop-i.i a.scores.now fits, c.requires.2, omega arith)
 
 pub loop-i-preserved : goal.loop-i-preserved
 loop-i-preserved c =
     let turn = c.loop-i in
-    let e = c.entry-j.ensures in
-    elim c.if-j-eq-NONE.branch [
-      | then-j-eq-NONE w ↦ assigning-pass _ _ _ _ _ _ c.requires.0 turn.found turn.invariant c.loop-i-test.true e w.if-j-eq-NONE.true w.found-is
-          (ap (λ (t : Tally). t.right) w.t-is) (ap (λ (t : Tally). t.unordered) w.t-is)
-      | else-j-eq-NONE w ↦ assigning-next _ _ _ _ _ _ c.requires.0 turn.found turn.invariant c.loop-i-test.true e w.if-j-eq-NONE.false
-          w.nearest-b.ensures.0 w.nearest-b.ensures.2 w.found-is
-          (ap (λ (t : Tally). t.right) w.t-is ∙ w.note-t.ensures.0) (ap (λ (t : Tally). t.unordered) w.t-is ∙ w.note-t.ensures.1)
+    let more = c.loop-i-test.true in
+    elim c.match-group.branch [
+      | in-None w ↦ assigning-pass _ _ _ _ _ _ c.requires.0 turn.found turn.invariant more refl w.in-None.ensures w.found-is w.right-is w.unordered-is
+      | in-Some w ↦ assigning-next _ _ _ _ _ _ c.requires.0 turn.found turn.invariant more w.in-Some.ensures.0 (λ q. omega (arith, w.in-Some.ensures.1))
+          w.nearest-b.ensures.0 w.nearest-b.ensures.2 w.found-is (w.right-is ∙ ap (λ (k : ℕ). turn.right + k) (w.from-right.ensures ∙ one-more _)) w.unordered-is
     ]
 
+-- what is returned, by whether a distance is a NaN
+abbrev by_test : List ℕ → List ℕ → Bool → Outcome ℕ
+by_test groups found b = cond b (refused 11) (answered (right_of groups found))
+
+pub returns-then-unordered : goal.returns-then-unordered
+returns-then-unordered c =
+    let all = assigning-all _ _ _ _ _ _ c.loop-i.found c.requires.0 c.loop-i.invariant c.loop-i-test.false in
+    (all.0, ap (by_test c.args.samples.groups.now c.loop-i.found) (sym c.if-unordered.true ∙ all.2))
+
 pub returns : goal.returns
-returns c = assigning-all _ _ _ _ _ _ c.loop-i.found c.requires.0 c.loop-i.invariant c.loop-i-test.false
+returns c =
+    let all = assigning-all _ _ _ _ _ _ c.loop-i.found c.requires.0 c.loop-i.invariant c.loop-i-test.false in
+    (all.0, ap answered all.1 ∙ ap (by_test c.args.samples.groups.now c.loop-i.found) (sym c.if-unordered.false ∙ all.2))

@@ -1,25 +1,21 @@
 -- `dapc_scores::nearest_centroid::gap_between` meets its contract. What is left of the sum stays the same.
-use Rattle.lists.proofs.Base.{refl, sym, ◌∙◌, List, ℕ, arith, get_or, Float, nan}
-use Rattle.float.specs.Floats.{◌⊖◌, ◌⊗◌, zero⁻}
-use Rattle.lists.proofs.Sums.{sum-turn, sum-end, sum-table}
-use Rattle.dapc_scores.proofs.Nearing.{gap_row}
+use Rattle.lists.proofs.Base.{arith, nan}
+use Rattle.std.proofs.lemmas.List.{length_push}
+use Rattle.std.proofs.lemmas.Slice.Zip.{zip_turn, zip_end}
+use Rattle.dapc_scores.proofs.Nearing.{summing-none, summing-turn, summing-all}
 use Rattle.dapc_scores.proofs.nearest_centroid.gap_between.Goals as goal
 
--- the square of how far x is from y in column k
-abbrev square : List Float → List Float → ℕ → Float
-square x y k = (get_or x k nan ⊖ get_or y k nan) ⊗ (get_or x k nan ⊖ get_or y k nan)
-
 pub loop-a-init : goal.loop-a-init
-loop-a-init c =
-    let terms-here : ℕ → Float = square c.args.x.now c.args.y.now in
-    (omega arith, sym (sum-table zero⁻ _ terms-here))
+loop-a-init c = summing-none c.args.x.now c.args.y.now
 
 pub loop-a-preserved : goal.loop-a-preserved
 loop-a-preserved c =
-    let terms-here : ℕ → Float = square c.args.x.now c.args.y.now in
-    (omega arith, sum-turn terms-here _ _ _ c.loop-a-test.true refl refl c.loop-a.invariant.1)
+    let a = c.args in
+    let t = zip_turn a.x.now a.y.now c.loop-a.yielded c.into_iter-a-iterator.result c.loop-a.a-iterator c.next.new.self _ (cc) (cc) c.loop-a.yielded_by _ c.in-Some.is c.next.ensures.steps in
+    summing-turn a.x.now a.y.now (omega (arith, t.0)) (t.2 nan) (t.3 nan) (length_push c.loop-a.yielded _) c.loop-a.invariant
 
 pub returns : goal.returns
 returns c =
-    let terms-here : ℕ → Float = square c.args.x.now c.args.y.now in
-    sum-end terms-here _ _ _ c.loop-a-test.false c.loop-a.invariant.1 ∙ gap_row c.args.x.now c.args.y.now
+    let a = c.args in
+    let t = zip_end a.x.now a.y.now c.loop-a.yielded c.into_iter-a-iterator.result c.loop-a.a-iterator c.next.new.self _ (cc) (cc) c.loop-a.yielded_by c.in-None.is c.next.ensures.steps in
+    summing-all a.x.now a.y.now (omega (arith, t, c.requires)) c.loop-a.invariant

@@ -1,6 +1,5 @@
 -- `dapc_scores::nearest_centroid::nearest` meets its contract. After j turns the best of the first j is known.
 use Rattle.lists.proofs.Base.{◌≡◌, ◌*◌, ◌+◌, ◌≤◌, sym, ◌∙◌, arith, length, take, length-take-le}
-use Rattle.float.proofs.Nan.{nan-ne}
 use Rattle.lists.proofs.Rows.{row-end, length_part}
 use Rattle.dapc_scores.specs.Assigned.{gaps}
 use Rattle.dapc_scores.proofs.Nearing.{nearing-first, nearing-next, nearing-all, gap-first, gap-part}
@@ -13,7 +12,7 @@ gap_between-first-requires c =
 
 pub loop-j-init : goal.loop-j-init
 loop-j-init c =
-    nearing-first _ _ c.requires.2 (c.gap_between-first.ensures ∙ gap-first c.args.axes c.args.row.now c.args.cen.now c.requires.0) (nan-ne c.gap_between-first.result)
+    nearing-first _ _ c.requires.2 (c.gap_between-first.ensures ∙ gap-first c.args.axes c.args.row.now c.args.cen.now c.requires.0) c.is_nan.ensures.value
 
 pub gap_between-d-requires : goal.gap_between-d-requires
 gap_between-d-requires c =

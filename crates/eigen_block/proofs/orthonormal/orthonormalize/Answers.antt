@@ -11,7 +11,7 @@ pub orthonormalize_column-requires : goal.orthonormalize_column-requires
 orthonormalize_column-requires c =
     let a = c.args in
     let e = row-end a.n c.loop-j.j a.b c.loop-j-test.true in
-    (omega (arith, e, c.loop-j.invariant.long-q), omega (arith, e, c.loop-j.invariant.long-z))
+    (omega (arith, e), omega (arith, e))
 
 pub loop-j-preserved : goal.loop-j-preserved
 loop-j-preserved c =

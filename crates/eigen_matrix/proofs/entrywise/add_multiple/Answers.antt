@@ -1,16 +1,7 @@
--- `eigen_matrix::entrywise::add_multiple` meets its contract. After c turns the first c entries are written, and the others stand as they were.
-use Rattle.lists.proofs.Base.{ap, get_or, Float, nan}
+-- `eigen_matrix::entrywise::add_multiple` meets its contract. The closure's rule, at each entry.
+use Rattle.lists.proofs.Base.{get_or, nan, rules}
 use Rattle.float.specs.Floats.{◌⊕◌, ◌⊗◌}
-use Rattle.lists.proofs.Writes.{writing-none, writing-next, writing-here, writing-all}
 use Rattle.eigen_matrix.proofs.entrywise.add_multiple.Goals as goal
 
-pub loop-c-init : goal.loop-c-init
-loop-c-init c = writing-none _ _
-
-pub loop-c-preserved : goal.loop-c-preserved
-loop-c-preserved c =
-    writing-next _ _ c.loop-c.invariant c.loop-c-test.true
-    (ap (λ (v : Float). v ⊕ c.args.s ⊗ get_or c.args.other.now c.loop-c.c nan) (writing-here _ _ nan c.loop-c.invariant))
-
 pub returns : goal.returns
-returns c = writing-all _ _ c.loop-c.invariant c.loop-c-test.false
+returns c = c.rewrite.ensures (λ i r. r ⊕ c.args.s ⊗ get_or c.args.other.now i nan) (λ i r s h k. search rules)

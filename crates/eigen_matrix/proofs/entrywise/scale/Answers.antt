@@ -1,13 +1,7 @@
--- `eigen_matrix::entrywise::scale` meets its contract. After c turns the first c entries are written, and the others stand as they were.
-use Rattle.lists.proofs.Base.{refl}
-use Rattle.lists.proofs.Writes.{writing-none, writing-next, writing-all}
+-- `eigen_matrix::entrywise::scale` meets its contract. The closure's rule, at each entry.
+use Rattle.lists.proofs.Base.{get_or, nan, rules}
+use Rattle.float.specs.Floats.{◌⊗◌}
 use Rattle.eigen_matrix.proofs.entrywise.scale.Goals as goal
 
-pub loop-c-init : goal.loop-c-init
-loop-c-init c = writing-none _ _
-
-pub loop-c-preserved : goal.loop-c-preserved
-loop-c-preserved c = writing-next _ _ c.loop-c.invariant c.loop-c-test.true (refl)
-
 pub returns : goal.returns
-returns c = writing-all _ _ c.loop-c.invariant c.loop-c-test.false
+returns c = c.rewrite.ensures (λ i r. c.args.w ⊗ get_or c.args.d.now i nan) (λ i r s h k. search rules)

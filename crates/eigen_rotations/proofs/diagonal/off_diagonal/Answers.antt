@@ -1,36 +1,22 @@
 -- `eigen_rotations::diagonal::off_diagonal` meets its contract. After i turns the first i rows are added.
-use Rattle.lists.proofs.Base.{◌≡◌, ap, ◌∙◌, List, ◌+◌, ◌*◌, ◌≤◌, arith, length, Float}
+use Rattle.lists.proofs.Base.{◌≡◌, ap, ◌∙◌, List, arith, Float}
 use Rattle.lists.specs.{Sums.sum_from, Rows.row}
 use Rattle.lists.proofs.{Rows.row-end, Rows.part-row, Sums.sum-rows-none, Sums.sum-rows-next}
 use Rattle.eigen_rotations.specs.Sweeps.{squares_but, off_diagonal}
 use Rattle.eigen_rotations.proofs.diagonal.off_diagonal.Goals as goal
 
 pub loop-i-init : goal.loop-i-init
-loop-i-init c = (omega arith, sum-rows-none _ _)
-
-pub slice_bounds-off_in_row-count : goal.slice_bounds-off_in_row-count
-slice_bounds-off_in_row-count c =
-    let within-here : c.loop-i.i * c.args.n + c.args.n ≤ length c.args.m.now = omega (arith, row-end c.args.n _ _ c.loop-i-test.true) in
-    omega (arith, within-here)
-
-pub slice_bounds-off_in_row-start : goal.slice_bounds-off_in_row-start
-slice_bounds-off_in_row-start c =
-    let within-here : c.loop-i.i * c.args.n + c.args.n ≤ length c.args.m.now = omega (arith, row-end c.args.n _ _ c.loop-i-test.true) in
-    omega (arith, within-here)
+loop-i-init c = sum-rows-none _ _
 
 pub slice_bounds-off_in_row-end : goal.slice_bounds-off_in_row-end
-slice_bounds-off_in_row-end c =
-    let within-here : c.loop-i.i * c.args.n + c.args.n ≤ length c.args.m.now = omega (arith, row-end c.args.n _ _ c.loop-i-test.true) in
-    omega (arith, within-here)
+slice_bounds-off_in_row-end c = omega (arith, row-end c.args.n _ _ c.loop-i-test.true)
 
 pub loop-i-preserved : goal.loop-i-preserved
 loop-i-preserved c =
-    let at = c.loop-i in (
-      omega arith,
-      sum-rows-next _ (λ k. squares_but k (row c.args.n k c.args.m.now)) at.i at.invariant.1
-          (c.off_in_row-t.ensures ∙ ap (λ (l : List Float). sum_from at.t (squares_but at.i l)) (part-row _ _ _)),
-    )
+    let at = c.loop-i in
+    sum-rows-next _ (λ k. squares_but k (row c.args.n k c.args.m.now)) at.i at.invariant
+    (c.off_in_row-t.ensures ∙ ap (λ (l : List Float). sum_from at.t (squares_but at.i l)) (part-row _ _ _))
 
 pub returns : goal.returns
 unfolding off_diagonal
-returns c = let all : c.loop-i.i ≡ c.args.n = omega arith in rw all at c.loop-i.invariant.1
+returns c = let all : c.loop-i.i ≡ c.args.n = omega arith in rw all at c.loop-i.invariant

@@ -1,10 +1,9 @@
 -- `eigen_rotations::sweep::sweep_held` meets its contract. At q the rotations with p + 1 up to q - 1 are made.
-use Rattle.lists.proofs.Base.{◌≡◌, ◌+◌, ◌≤◌, length}
+use Rattle.lists.proofs.Base.{◌≡◌, ◌+◌}
 use Rattle.lists.specs.Loops.{from_to}
-use Rattle.eigen_rotations.specs.{Rotation.rotate}
+use Rattle.eigen_rotations.specs.Rotation.{rotate}
 use Rattle.eigen_rotations.specs.inner.Rotation.{held}
 use Rattle.eigen_rotations.proofs.sweep.sweep_held.Given as goal
 
 abbrev pub invariant-loop-q : goal.invariant-loop-q
-invariant-loop-q l = (l.p + 1 ≤ l.q) × (l.q ≤ l.n) × (length l.m ≡ length l.initial.m) × (length l.v ≡ length l.initial.v) × (length l.x ≡ length l.initial.x) × (length l.y ≡ length l.initial.y)
-    × (held l.n l.p l.m l.v l.x l.y ≡ from_to (rotate l.n l.p) (l.p + 1) l.q (held l.n l.p l.initial.m l.initial.v l.initial.x l.initial.y))
+invariant-loop-q l = held l.n l.p l.m l.v l.x l.y ≡ from_to (rotate l.n l.p) (l.p + 1) l.q (held l.n l.p l.initial.m l.initial.v l.initial.x l.initial.y)

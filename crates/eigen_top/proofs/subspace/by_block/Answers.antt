@@ -9,5 +9,5 @@ use Rattle.eigen_top.proofs.subspace.by_block.Goals as goal
 pub returns : goal.returns
 returns c =
     let a = c.args in
-    c.rayleigh_ritz.ensures ∙ ap (λ (o : Outcome Pairs). gives a.k a.n o a.out.now)
+    c.rayleigh_ritz.ensures ∙ ap (λ (o : Outcome Pairs). gives a.k a.a.n o a.out.now)
     (block-pairs _ _ _ _ c.last_block.ensures.0 c.last_block.ensures.1)

@@ -9,8 +9,7 @@ iterate-requires c =
     let a = c.args in (
       c.prepare-shift.auto.q ∙ c.requires.q_len.0,
       c.matvec_block.auto.z ∙ c.prepare-shift.auto.z ∙ c.requires.q_len.1,
-      c.requires.a_len.0,
-      omega (arith, ap length c.requires.q_len.2 ∙ length-replicate a.k zero⁺, c.requires.a_len.2),
+      omega (arith, ap length c.requires.q_len.2 ∙ length-replicate a.k zero⁺, c.requires.b_room.1),
       c.matvec_block.ensures,
     )
 

@@ -10,9 +10,9 @@ find_last_block-requires c =
       q_len = (
         c.requires.0,
         c.requires.1,
-        take-replicate _ 16 zero⁺ c.requires.6,
-        length-take-le _ _ (omega (arith, c.requires.5)),
-        length-take-le _ _ (omega (arith, c.requires.5)),
+        take-replicate _ 16 zero⁺ c.requires.5,
+        length-take-le _ _ (omega (arith, c.requires.4)),
+        length-take-le _ _ (omega (arith, c.requires.4)),
       );
-      a_len = (c.requires.2, c.requires.3, c.requires.4);
+      b_room = (c.requires.2, c.requires.3);
     }

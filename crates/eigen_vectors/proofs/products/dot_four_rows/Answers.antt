@@ -3,10 +3,9 @@ use Rattle.lists.proofs.Base.{◌≡◌, List, ℕ, ◌+◌, ◌-◌, ◌*◌, t
 use Rattle.lists.specs.Rows.{row}
 use Rattle.lists.proofs.Rows.{part-row}
 use Rattle.eigen_vectors.specs.inner.Vectors.{dot_four}
-use Rattle.eigen_vectors.specs.declared.Four.{Four}
 use Rattle.eigen_vectors.proofs.products.dot_four_rows.Goals as goal
 
-parts-rows : (n i : ℕ) (a x : List Float) {f : Four}
+parts-rows : (n i : ℕ) (a x : List Float) {f : List Float}
     → f ≡ dot_four (take (i * n + n - i * n) (drop (i * n) a)) (take ((i + 1) * n + n - (i + 1) * n) (drop ((i + 1) * n) a))
     (take ((i + 2) * n + n - (i + 2) * n) (drop ((i + 2) * n) a)) (take ((i + 3) * n + n - (i + 3) * n) (drop ((i + 3) * n) a)) x
     → f ≡ dot_four (row n i a) (row n (i + 1) a) (row n (i + 2) a) (row n (i + 3) a) x

@@ -1,26 +1,24 @@
--- `eigen_vectors::products::matvec` meets its contract. The invariant: the first i entries are written.
-use Rattle.lists.proofs.Base.{arith}
+-- `eigen_vectors::products::matvec` meets its contract. The invariant: the first 4 k entries are written.
+use Rattle.lists.proofs.Base.{◌∙◌, ℕ, arith, Float}
 use Rattle.lists.specs.Rows.{row}
-use Rattle.lists.proofs.{Rows.row-end, Writes.writing-none, Writes.writing-table}
+use Rattle.lists.proofs.{Writes.writing-none, Writes.writing-table}
 use Rattle.eigen_vectors.specs.{Vectors.dot, Products.times}
-use Rattle.eigen_vectors.proofs.ProductsEntries.{writing-from}
+use Rattle.eigen_vectors.proofs.ProductsEntries.{writing-four, writing-from}
 use Rattle.eigen_vectors.proofs.products.matvec.Goals as goal
 
-pub loop-i-init : goal.loop-i-init
-loop-i-init c = let a = c.args in writing-none (λ i. dot (row a.n i (a.a.now)) (a.x.now)) (a.y.now)
+pub loop-k-init : goal.loop-k-init
+loop-k-init c = writing-none _ _
 
-pub matvec_from-i-requires : goal.matvec_from-i-requires
-matvec_from-i-requires c =
-    let e = row-end c.args.n c.loop-i.i c.args.n c.loop-i-test.true in
-    let p = c.requires in (omega (arith, c.loop-i.invariant.long, p.0), p.1, p.2, omega arith, omega (arith, e, p.1))
-
-pub loop-i-preserved : goal.loop-i-preserved
-loop-i-preserved c =
+pub loop-k-preserved : goal.loop-k-preserved
+loop-k-preserved c =
     let a = c.args in
-    let m = c.matvec_from-i in
-    writing-from (λ i. dot (row a.n i (a.a.now)) (a.x.now)) (a.y.now) c.loop-i.invariant
-    (omega (arith, m.ensures.0)) (omega (arith, m.ensures.1, c.requires.0)) m.ensures.2
+    writing-four (λ i. dot (row a.a.n i a.a.entries.now) a.x.now) a.y.now c.loop-k.invariant (omega arith) (omega (arith, c.requires.0))
+    (c.copy_from_slice.ensures.after ∙ c.dot_four_rows.ensures)
 
 pub returns : goal.returns
 unfolding times
-returns c = let a = c.args in writing-table (λ i. dot (row a.n i (a.a.now)) (a.x.now)) (a.y.now) c.loop-i.invariant c.requires.0 (omega arith)
+returns c =
+    let a = c.args in
+    let f : ℕ → Float = λ i. dot (row a.a.n i a.a.entries.now) a.x.now in
+    let written = writing-from f a.y.now c.loop-k.invariant (omega arith) (omega arith) (omega (arith, c.requires.0)) c.last_products.ensures in
+    writing-table f a.y.now written c.requires.0 (omega arith)

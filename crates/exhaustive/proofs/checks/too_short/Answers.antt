@@ -1,39 +1,25 @@
--- `exhaustive::checks::too_short` meets its contract. The slices in turn; from 2 ^ 32 on n times n is above every length.
-use Rattle.lists.proofs.Base.{◌*◌, mul-le-mul, arith, lt-ltb}
-use Rattle.outcome.proofs.Lengths.{short-at, short-rest, short-last}
+-- `exhaustive::checks::too_short` meets its contract. Where n times n does not fit, it is above every length.
+use Rattle.lists.proofs.Base.{◌≡◌, ◌+◌, ◌*◌, ◌≤◌, ◌<◌, ℕ, mul-le-mul, arith, lt-ltb, get_or}
+use native.Mathlib.Decide.{dec_le}
+use Rattle.outcome.proofs.Lengths.{short-at}
 use Rattle.exhaustive.proofs.checks.too_short.Goals as goal
 
-pub returns-then-n-ge4294967296 : goal.returns-then-n-ge4294967296
-returns-then-n-ge4294967296 c =
-    let past = mul-le-mul {n₁ = 4294967296} {m₁ = 4294967296} {n₂ = c.args.n} {m₂ = c.args.n} c.if-n-ge4294967296.true c.if-n-ge4294967296.true in
-    short-at _ _ 3 (omega arith) (omega arith) (lt-ltb c.args.pair_terms (c.args.n * c.args.n) (omega arith))
+sum-fits : (n : ℕ) → n * n < 18446744073709551616 → n + n * n < 18446744073709551616
+sum-fits n h =
+    elim (dec_le 4294967296 n) [
+      | yes m ↦ absurd (omega (arith, mul-le-mul m m))
+      | no m ↦ let few : n ≤ 4294967295 = omega arith in omega (arith, mul-le-mul few few)
+    ]
 
-pub returns-then-group_labels-n : goal.returns-then-group_labels-n
-returns-then-group_labels-n c = short-at _ _ 0 (omega arith) (omega arith) (lt-ltb _ _ c.if-group_labels-n.true)
+pub returns-in_default : goal.returns-in_default
+returns-in_default c =
+    let n = c.args.n in
+    short-at c.args.lent.now _ 3 (omega arith) (omega arith) (lt-ltb (get_or c.args.lent.now 3 0) (n * n) (omega (arith, c.in_default.ensures, c.fits-lent 3)))
 
-pub returns-then-counts-n : goal.returns-then-counts-n
-returns-then-counts-n c = short-at _ _ 1 (omega arith) (omega arith) (lt-ltb _ _ c.if-counts-n.true)
-
-pub returns-then-means-n : goal.returns-then-means-n
-returns-then-means-n c = short-at _ _ 2 (omega arith) (omega arith) (lt-ltb _ _ c.if-means-n.true)
-
-pub returns-then-pair_terms-q : goal.returns-then-pair_terms-q
-returns-then-pair_terms-q c = short-at _ _ 3 (omega arith) (omega arith) (lt-ltb _ _ c.if-pair_terms-q.true)
-
-pub returns-then-weighted_squares-q : goal.returns-then-weighted_squares-q
-returns-then-weighted_squares-q c = short-at _ _ 4 (omega arith) (omega arith) (lt-ltb _ _ c.if-weighted_squares-q.true)
-
-pub returns-then-coords-n : goal.returns-then-coords-n
-returns-then-coords-n c = short-at _ _ 5 (omega arith) (omega arith) (lt-ltb _ _ c.if-coords-n.true)
-
-pub returns-then-eigenpairs-n : goal.returns-then-eigenpairs-n
-returns-then-eigenpairs-n c = short-at _ _ 6 (omega arith) (omega arith) (lt-ltb _ _ c.if-eigenpairs-n.true)
-
-pub returns-then-vectors-q : goal.returns-then-vectors-q
-returns-then-vectors-q c = short-at _ _ 7 (omega arith) (omega arith) (lt-ltb _ _ c.if-vectors-q.true)
+pub overflow_add-n : goal.overflow_add-n
+overflow_add-n c =
+    let e : c.in-Some.q ≡ c.args.n * c.args.n = c.in-Some.ensures.1 in
+    record { fits = omega (arith, sum-fits c.args.n c.in-Some.ensures.0) }
 
 pub returns : goal.returns
-returns c =
-    short-rest _ _ c.if-group_labels-n.false (short-rest _ _ c.if-counts-n.false (short-rest _ _ c.if-means-n.false (short-rest _ _ c.if-pair_terms-q.false
-    (short-rest _ _ c.if-weighted_squares-q.false (short-rest _ _ c.if-coords-n.false (short-rest _ _ c.if-eigenpairs-n.false
-    (short-rest _ _ c.if-vectors-q.false (short-last _ _))))))))
+returns c = let e : c.in-Some.q ≡ c.args.n * c.args.n = c.in-Some.ensures.1 in rw e at c.is_short.ensures

@@ -12,32 +12,32 @@ use Rattle.exhaustive_walk.proofs.way_statistics.assignment_of.Goals.{Else-f, Af
 abbrev room : List ℕ
 room = replicate 256 none
 
-room-long : (c : Else-f) → length (take c.args.f.n room) ≡ c.args.f.n
-room-long c = length-take-le c.args.f.n room c.requires.0.framed.few
+room-long : (c : Else-f) → length (take c.args.b.frame.n room) ≡ c.args.b.frame.n
+room-long c = length-take-le c.args.b.frame.n room c.args.b.prepared.placing.framed.few
 
 -- the groups of all samples
 abbrev each : After-place → List ℕ
-each c = c.place.new.each ++ drop c.args.f.n room
+each c = c.place.new.each ++ drop c.args.b.frame.n room
 
-fits : (c : After-place) → c.args.f.n ≤ length (each c)
-fits c = placed-fits c.args.f.n c.requires.0.framed.few c.args.ks.now c.args.way.now c.place.ensures c.place.auto.each
+fits : (c : After-place) → c.args.b.frame.n ≤ length (each c)
+fits c = placed-fits c.args.b.frame.n c.args.b.prepared.placing.framed.few c.args.b.samples.now c.args.way.now c.place.ensures c.place.auto.each
 
-long : (c : After-place) → length (take c.args.f.n (each c)) ≡ c.args.f.n
-long c = length-take-le c.args.f.n (each c) (fits c)
+long : (c : After-place) → length (take c.args.b.frame.n (each c)) ≡ c.args.b.frame.n
+long c = length-take-le c.args.b.frame.n (each c) (fits c)
 
-front : (c : After-place) → take c.args.f.n (each c) ≡ placed c.args.f.n c.args.ks.now c.args.way.now
-front c = placed-front c.args.f.n c.requires.0.framed.few c.args.ks.now c.args.way.now c.place.ensures c.place.auto.each
+front : (c : After-place) → take c.args.b.frame.n (each c) ≡ placed c.args.b.frame.n c.args.b.samples.now c.args.way.now
+front c = placed-front c.args.b.frame.n c.args.b.prepared.placing.framed.few c.args.b.samples.now c.args.way.now c.place.ensures c.place.auto.each
 
 pub returns-then-f : goal.returns-then-f
-returns-then-f c = let a = c.args in assignment-barred a.f a.x.now a.ks.now a.way.now c.if-f.true
+returns-then-f c = let b = c.args.b in assignment-barred b.frame b.coords.now b.samples.now c.args.way.now c.if-f.true
 
 pub slice_bounds-place-end : goal.slice_bounds-place-end
 slice_bounds-place-end c = sym (room-long (goal.at.slice_bounds-place-end c).Else-f)
 
 pub place-requires : goal.place-requires
 place-requires c = (
-  c.requires.1.all ∙ sym c.requires.0.samples,
-  subst (λ (k : ℕ). Below k c.args.ks.now) (sym (room-long (goal.at.place-requires c).Else-f)) c.requires.0.places,
+  c.requires.judged.all ∙ sym c.args.b.prepared.placing.samples,
+  subst (λ (k : ℕ). Below k c.args.b.samples.now) (sym (room-long (goal.at.place-requires c).Else-f)) c.args.b.prepared.placing.places,
 )
 
 pub slice_bounds-each-end-2 : goal.slice_bounds-each-end-2
@@ -47,10 +47,10 @@ pub slice_bounds-discriminate-end-2 : goal.slice_bounds-discriminate-end-2
 slice_bounds-discriminate-end-2 c = sym (long (goal.at.slice_bounds-discriminate-end-2 c).After-place)
 
 pub discriminate-r-requires : goal.discriminate-r-requires
-discriminate-r-requires c = let p = (goal.at.discriminate-r-requires c).After-place in way-ready c.requires.0 c.requires.1 (front p) (long p)
+discriminate-r-requires c = let p = (goal.at.discriminate-r-requires c).After-place in way-ready c.args.b.prepared.placing c.requires.room c.requires.judged (front p) (long p)
 
 pub returns : goal.returns
 returns c =
     let p = (goal.at.returns c).After-place in
-    way-found c.requires.0 c.requires.1 (front p) (long p) c.if-f.false
+    way-found c.args.b.prepared.placing c.requires.room c.requires.judged (front p) (long p) c.if-f.false
     (found-by _ _ _ _ _ _ c.discriminate-r.result c.right_of.ensures c.discriminate-r.ensures)

@@ -1,17 +1,16 @@
--- `judge_frames::lines::line_end` meets its contract. The place that is looked for is the same at every turn.
-use Rattle.lists.proofs.Base.{refl, sym, ◌∙◌, arith, eq-eqb, ne_eqb}
-use Rattle.lists.proofs.Filters.{first-here, first-later, first-none}
+-- `judge_frames::lines::line_end` meets its contract: `position` finds the first line feed.
+use Rattle.lists.proofs.Base.{ℕ, ◌+◌, ◌-◌, ◌≡◌, ap, ◌∙◌, rules, length, take, drop, take_all, length-drop, arith}
+use Rattle.lists.specs.Filters.{first_at}
+use Rattle.std.proofs.Common.{tests}
+use Rattle.std.proofs.lemmas.Iterator.{YieldsList-from_slice}
+use Rattle.std.proofs.lemmas.Iterator.Search.{position_from_yields_List}
 use Rattle.judge_frames.specs.TextLines.{feed}
+use Rattle.judge_frames.proofs.TextLines.{first_feed}
 use Rattle.judge_frames.proofs.lines.line_end.Goals as goal
 
-pub loop-i-init : goal.loop-i-init
-loop-i-init c = (c.requires, refl)
-
-pub returns-then-text-i-eq-LINE_FEED : goal.returns-then-text-i-eq-LINE_FEED
-returns-then-text-i-eq-LINE_FEED c = sym (first-here feed _ _ 0 c.loop-i-test.true (eq-eqb _ 10 c.if-text-i-eq-LINE_FEED.true)) ∙ c.loop-i.invariant.1
-
-pub loop-i-preserved : goal.loop-i-preserved
-loop-i-preserved c = (omega arith, sym (first-later feed _ _ 0 c.loop-i-test.true (ne_eqb _ 10 c.if-text-i-eq-LINE_FEED.false)) ∙ c.loop-i.invariant.1)
-
 pub returns : goal.returns
-returns c = sym (first-none feed _ _ c.loop-i-test.false) ∙ c.loop-i.invariant.1
+returns c =
+    let rest = take (length c.args.text.now - c.args.at) (drop c.args.at c.args.text.now) in
+    let all : rest ≡ drop c.args.at c.args.text.now = take_all _ _ (omega (arith, length-drop c.args.at c.args.text.now)) in
+    let p = position_from_yields_List feed _ _ _ c.position-feed.ensures.ran (YieldsList-from_slice rest c.iter.ensures.rest) (λ x b q k. search (rules, tests)) in
+    ap (λ (k : ℕ). c.args.at + k) (c.unwrap_or.ensures ∙ first_feed rest p ∙ ap (first_at feed) all)

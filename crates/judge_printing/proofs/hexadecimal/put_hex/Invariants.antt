@@ -1,10 +1,7 @@
 -- `judge_printing::hexadecimal::put_hex` meets its contract. What is written with the digits that are left is the same at every turn.
-use Rattle.lists.proofs.Base.{◌≤◌, ◌+◌, ◌-◌, ◌≡◌, length, sets}
+use Rattle.lists.proofs.Base.{◌+◌, ◌-◌, ◌≡◌, sets}
 use Rattle.judge_printing.specs.Hex.{hex}
 use Rattle.judge_printing.proofs.hexadecimal.put_hex.Given as goal
 
 abbrev pub invariant-loop-i : goal.invariant-loop-i
-invariant-loop-i l = (l.i ≤ l.count) × (length l.out ≡ length l.initial.out) × (sets l.out (l.at + l.i) (hex (l.count - l.i) l.v) ≡ sets l.initial.out l.at (hex l.count l.v))
-
-abbrev pub decreases-loop-i : goal.decreases-loop-i
-decreases-loop-i l = l.count - l.i
+invariant-loop-i l = sets l.out (l.at + l.i) (hex (l.count - l.i) l.v) ≡ sets l.initial.out l.at (hex l.count l.v)

@@ -7,6 +7,6 @@ pub returns-then-components-eq0 : goal.returns-then-components-eq0
 unfolding bad_components
 returns-then-components-eq0 c = rw (eq-eqb _ _ c.if-components-eq0.true)
 
-pub returns : goal.returns
+pub returns-else-components-eq0 : goal.returns-else-components-eq0
 unfolding bad_components
-returns c = rw (ne_eqb _ _ c.if-components-eq0.false)
+returns-else-components-eq0 c = rw (ne_eqb _ _ c.if-components-eq0.false)

@@ -6,13 +6,13 @@ use Rattle.lists.proofs.Sums.{floats-turn, floats-end}
 use Rattle.ordination_coordinates.specs.Centred.{mean}
 use Rattle.ordination_coordinates.proofs.gower.mean.Goals as goal
 
-pub loop-i-init : goal.loop-i-init
-loop-i-init c = (omega arith, refl)
+pub loop-x-init : goal.loop-x-init
+loop-x-init c = refl
 
-pub loop-i-preserved : goal.loop-i-preserved
-loop-i-preserved c =
-    let turn = c.loop-i in
-    (omega arith, floats-turn turn.s c.args.l.now turn.i nan c.loop-i-test.true refl refl turn.invariant.1)
+pub loop-x-preserved : goal.loop-x-preserved
+loop-x-preserved c =
+    let turn = c.loop-x in
+    floats-turn turn.s c.args.l.now turn.x-index nan c.loop-x-test.true refl refl turn.invariant
 
 pub int_to_float-result : goal.int_to_float-result
 unfolding in_float
@@ -21,6 +21,6 @@ int_to_float-result c = le→leb c.args.n (2 ^ 53) (omega arith)
 pub returns : goal.returns
 unfolding mean
 returns c =
-    let turn = c.loop-i in
+    let turn = c.loop-x in
     let a = c.args in
-    ap (λ (x : Float). x ⊘ num a.n) (floats-end turn.s a.l.now turn.i c.loop-i-test.false turn.invariant.1)
+    ap (λ (x : Float). x ⊘ num a.n) (floats-end turn.s a.l.now turn.x-index c.loop-x-test.false turn.invariant)

@@ -4,12 +4,12 @@ use Rattle.lists.proofs.Loops.{in_turn-none, in_turn-next}
 use Rattle.ordination_coordinates.specs.Signs.{largest}
 use Rattle.ordination_coordinates.proofs.signs.largest.Goals as goal
 
-pub loop-i-init : goal.loop-i-init
-loop-i-init c = (omega arith, in_turn-none _ _)
+pub loop-x-init : goal.loop-x-init
+loop-x-init c = in_turn-none _ _
 
-pub loop-i-preserved : goal.loop-i-preserved
-loop-i-preserved c = (omega arith, in_turn-next _ _ _ c.loop-i.invariant.1 c.stronger-m.ensures)
+pub loop-x-preserved : goal.loop-x-preserved
+loop-x-preserved c = in_turn-next _ _ _ c.loop-x.invariant c.stronger-m.ensures
 
 pub returns : goal.returns
 unfolding largest
-returns c = let e : c.loop-i.i ≡ length c.args.v.now = omega arith in rw e at c.loop-i.invariant.1
+returns c = let e : c.loop-x.x-index ≡ length c.args.v.now = omega arith in rw e at c.loop-x.invariant

@@ -1,9 +1,9 @@
 -- `ordination_coordinates::signs::largest` meets its contract. After i turns m is the largest of the first i.
-use Rattle.lists.proofs.Base.{◌≡◌, ◌≤◌, length, get_or, nan}
+use Rattle.lists.proofs.Base.{◌≡◌, get_or, nan}
 use Rattle.float.specs.Floats.{zero⁺}
 use Rattle.lists.specs.Loops.{in_turn}
 use Rattle.ordination_coordinates.specs.Signs.{stronger}
 use Rattle.ordination_coordinates.proofs.signs.largest.Given as goal
 
-abbrev pub invariant-loop-i : goal.invariant-loop-i
-invariant-loop-i l = (l.i ≤ length l.v) × (l.m ≡ in_turn (λ k x. stronger x (get_or l.v k nan)) l.i zero⁺)
+abbrev pub invariant-loop-x : goal.invariant-loop-x
+invariant-loop-x l = l.m ≡ in_turn (λ k x. stronger x (get_or l.v k nan)) l.x-index zero⁺

@@ -8,6 +8,6 @@ pub returns-then-abs : goal.returns-then-abs
 unfolding stronger
 returns-then-abs c = by-yes c.args.x c.args.m (ap₂ lt (sym c.abs.ensures) (sym c.abs-2.ensures)) c.if-abs.true refl
 
-pub returns : goal.returns
+pub returns-else-abs : goal.returns-else-abs
 unfolding stronger
-returns c = by-no c.args.x c.args.m (ap₂ lt (sym c.abs.ensures) (sym c.abs-2.ensures)) c.if-abs.false refl
+returns-else-abs c = by-no c.args.x c.args.m (ap₂ lt (sym c.abs.ensures) (sym c.abs-2.ensures)) c.if-abs.false refl

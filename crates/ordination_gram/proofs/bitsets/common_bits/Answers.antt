@@ -1,29 +1,16 @@
--- `ordination_gram::bitsets::common_bits` meets its contract: what is left, and s, make up the whole.
-use Rattle.lists.proofs.Base.{◌≤◌, arith, get_or}
-use lib.Bits.{bit_and, and_lt}
-use lib.Count.{ones, ones-le}
-use Rattle.ordination_gram.proofs.SharedColumns.{common-next, common-end}
+-- `ordination_gram::bitsets::common_bits` meets its contract: the bits that two words share, summed.
+use Rattle.lists.proofs.Base.{◌∙◌, sym, arith}
+use Rattle.std.proofs.Common.{rules, zip}
+use Rattle.std.proofs.lemmas.Iterator.{YieldsList-from_slice, YieldsList-from_zip, YieldsList-from_map}
+use Rattle.std.proofs.lemmas.Iterator.Consumers.{sum_by_from_yields_List}
+use Rattle.ordination_gram.proofs.SharedColumns.{shared_bits, common-sum, common-most}
 use Rattle.ordination_gram.proofs.bitsets.common_bits.Goals as goal
-use Rattle.ordination_gram.proofs.bitsets.common_bits.Goals.{After-shared_slice_known-in-loop-k-1}
-
--- two words share at most 64 bits
-few : (c : After-shared_slice_known-in-loop-k-1) → let k = c.loop-k.k in let args = c.args in ones (bit_and (get_or args.x.now k 0) (get_or args.y.now k 0)) ≤ 64
-few c =
-    let k = c.loop-k.k in
-    ones-le 64 _ (and_lt 64 _ _ (c.type_inv.x k).fits (c.type_inv.y k).fits)
-
-pub loop-k-init : goal.loop-k-init
-loop-k-init c = (omega arith, omega arith, omega arith)
-
-pub overflow_cast-s : goal.overflow_cast-s
-overflow_cast-s c = omega (arith, few (goal.at.overflow_cast-s c).After-shared_slice_known-in-loop-k-1)
-
-pub overflow_add-s : goal.overflow_add-s
-overflow_add-s c = omega (arith, few (goal.at.overflow_add-s c).After-shared_slice_known-in-loop-k-1)
-
-pub loop-k-preserved : goal.loop-k-preserved
-loop-k-preserved c =
-    (omega arith, omega (arith, few (goal.at.loop-k-preserved c).After-shared_slice_known-in-loop-k-1), omega (arith, common-next c.args.x.now c.args.y.now c.loop-k.k (omega arith) (omega arith)))
 
 pub returns : goal.returns
-returns c = (omega (arith, common-end c.args.x.now c.args.y.now c.loop-k.k (omega arith)), omega arith)
+returns c =
+    let x = c.args.x.now in
+    let y = c.args.y.now in
+    let total = sum_by_from_yields_List shared_bits (zip x y) _ _ c.sum.ensures.ran
+    (YieldsList-from_map _ shared_bits (YieldsList-from_zip (YieldsList-from_slice x cc) (YieldsList-from_slice y cc)) c.map.ensures.closure (λ p r q k. search rules))
+    ∙ sym (common-sum x y) in
+    (total, omega (arith, total, common-most x y (λ i. (c.type_inv.x i).fits) (λ i. (c.type_inv.y i).fits)))

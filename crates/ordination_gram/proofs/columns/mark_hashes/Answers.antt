@@ -1,49 +1,50 @@
--- `ordination_gram::columns::mark_hashes` meets its contract: after i turns the row has the columns of the first i members, and s the sum of their means.
-use Rattle.lists.proofs.Base.{◌≡◌, refl, ◌∙◌, List, map, ℕ, arith, length, length-map}
+-- `ordination_gram::columns::mark_hashes` meets its contract: the row has the columns of the members passed, and s the sum of their means.
+use Rattle.lists.proofs.Base.{refl, sym, ◌∙◌, ◌<◌, map, arith, length, length-map}
 use Rattle.ordination_hashes.specs.inner.Columns.{column_of}
+use Rattle.ordination_hashes.proofs.Lookup.{column-some, column-none}
 use Rattle.ordination_gram.proofs.Marks.{marking-none, marking-in, marking-out, marking-all, column-at}
 use Rattle.ordination_gram.proofs.columns.mark_hashes.Goals as goal
-use Rattle.ordination_gram.proofs.columns.mark_hashes.Goals.{At-loop-i}
+use Rattle.ordination_gram.proofs.columns.mark_hashes.Goals.{In-Some, in-Some, in_default}
 
--- the set's columns
-abbrev columns : (c : At-loop-i) → List ℕ
-columns c = let a = c.args in map (column_of a.chosen.now) a.set.now
+-- a column that is found is one of them
+found : (c : In-Some) → c.in-Some.c < length c.args.columns.now.means.now
+found c = omega (arith, (column-some _ c.args.columns.now.hashes.now (sym c.in-Some.is ∙ c.find.ensures)).0, c.args.columns.now.paired)
 
-long : (c : At-loop-i) → length (columns c) ≡ length c.args.set.now
-long c = let a = c.args in length-map a.set.now (column_of a.chosen.now)
-
-pub loop-i-init : goal.loop-i-init
-loop-i-init c = (refl, marking-none c.args.means.now (map (column_of c.args.chosen.now) c.args.set.now) (length c.args.row.now) c.requires.2)
-
-pub column_of-c-requires : goal.column_of-c-requires
-column_of-c-requires c = c.requires.0
+pub loop-h-init : goal.loop-h-init
+loop-h-init c = (refl, marking-none c.args.columns.now.means.now _ (length c.args.row.now) c.requires.1)
 
 pub mark_bit-requires : goal.mark_bit-requires
-mark_bit-requires c = omega (arith, c.requires.1, c.loop-i.invariant.0)
+mark_bit-requires c = omega (arith, found (goal.at.mark_bit-requires c).In-Some, c.requires.0, c.loop-h.invariant.0)
 
-pub loop-i-preserved-then-c-means : goal.loop-i-preserved-then-c-means
-loop-i-preserved-then-c-means c =
-    let bit = c.mark_bit in
+pub offset_bounds-columns-c : goal.offset_bounds-columns-c
+offset_bounds-columns-c c = omega (arith, found (goal.at.offset_bounds-columns-c c).In-Some)
+
+pub bounds-columns-c : goal.bounds-columns-c
+bounds-columns-c c = found (goal.at.bounds-columns-c c).In-Some
+
+pub loop-h-preserved : goal.loop-h-preserved
+loop-h-preserved c =
     let a = c.args in
-    let size = long (goal.at.loop-i-preserved-then-c-means c).At-loop-i in (
-      bit.auto.row ∙ c.loop-i.invariant.0,
-      marking-in a.means.now (columns (goal.at.loop-i-preserved-then-c-means c).At-loop-i) (length a.row.now) c.loop-i.invariant.1 (omega arith)
-          (c.column_of-c.ensures ∙ column-at a.chosen.now a.set.now c.loop-i.i (omega arith)) c.if-c-means.true c.requires.1 bit.ensures refl,
-    )
-
-pub loop-i-preserved : goal.loop-i-preserved
-loop-i-preserved c =
-    let a = c.args in
-    let size = long (goal.at.loop-i-preserved c).At-loop-i in (
-      c.loop-i.invariant.0,
-      marking-out a.means.now (columns (goal.at.loop-i-preserved c).At-loop-i) (length a.row.now) c.loop-i.invariant.1 (omega arith)
-          (c.column_of-c.ensures ∙ column-at a.chosen.now a.set.now c.loop-i.i (omega arith)) c.if-c-means.false,
-    )
-
-pub shape_of-row : goal.shape_of-row
-shape_of-row c = c.loop-i.invariant.0
+    let k = a.columns.now in
+    let columns = map (column_of k.hashes.now) a.set.now in
+    let long = length-map a.set.now (column_of k.hashes.now) in
+    elim c.match-find.branch [
+      | in-Some w ↦ (
+        c.match-find.auto.row ∙ c.loop-h.invariant.0,
+        let at = column-some _ k.hashes.now (sym w.in-Some.is ∙ c.find.ensures) in
+            marking-in k.means.now columns (length a.row.now) c.loop-h.invariant.1 (omega arith)
+            (sym at.1 ∙ column-at k.hashes.now a.set.now c.loop-h.h-index (omega arith)) (omega (arith, at.0, k.paired)) c.requires.0 (w.row-is ∙ w.mark_bit.ensures) w.s-is,
+      )
+      | in_default w ↦ (
+        c.match-find.auto.row ∙ c.loop-h.invariant.0,
+        let none-here = column-none _ k.hashes.now (sym w.in_default.is ∙ c.find.ensures) in
+            rw (w.row-is, w.s-is) (marking-out k.means.now columns (length a.row.now) c.loop-h.invariant.1 (omega arith)
+            (sym none-here ∙ column-at k.hashes.now a.set.now c.loop-h.h-index (omega arith)) (omega (arith, k.paired, k.few))),
+      )
+    ]
 
 pub returns : goal.returns
 returns c =
     let a = c.args in
-    let size = long (goal.at.returns c).At-loop-i in marking-all a.means.now (columns (goal.at.returns c).At-loop-i) (length a.row.now) c.loop-i.invariant.1 (omega arith)
+    let long = length-map a.set.now (column_of a.columns.now.hashes.now) in
+    marking-all a.columns.now.means.now (map (column_of a.columns.now.hashes.now) a.set.now) (length a.row.now) c.loop-h.invariant.1 (omega arith)

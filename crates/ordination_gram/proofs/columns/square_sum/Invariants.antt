@@ -5,5 +5,5 @@ use Rattle.lists.specs.Sums.{sum_from}
 use Rattle.ordination_gram.specs.inner.Columns.{square}
 use Rattle.ordination_gram.proofs.columns.square_sum.Given as goal
 
-abbrev pub invariant-loop-i : goal.invariant-loop-i
-invariant-loop-i l = sum_from l.s (map square (drop l.i l.means)) ≡ sum_from zero⁻ (map square l.means)
+abbrev pub invariant-loop-x : goal.invariant-loop-x
+invariant-loop-x l = sum_from l.s (map square (drop l.x-index l.means)) ≡ sum_from zero⁻ (map square l.means)

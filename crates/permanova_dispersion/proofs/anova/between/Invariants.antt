@@ -8,5 +8,5 @@ use Rattle.grouping.specs.inner.Parts.{part}
 use Rattle.permanova_dispersion.proofs.anova.between.Given as goal
 
 abbrev pub invariant-loop-k : goal.invariant-loop-k
-invariant-loop-k l = sum_from l.s (map (λ k. share (part l.next l.mem k) (at l.means k) l.grand) (range l.k l.g))
-    ≡ sum_from zero⁻ (table l.g (λ k. share (part l.next l.mem k) (at l.means k) l.grand))
+invariant-loop-k l = sum_from l.s (map (λ k. share (part l.groups.starts l.groups.members k) (at l.means k) l.grand) (range l.k l.g))
+    ≡ sum_from zero⁻ (table l.g (λ k. share (part l.groups.starts l.groups.members k) (at l.means k) l.grand))

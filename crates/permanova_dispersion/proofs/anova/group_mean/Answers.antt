@@ -7,8 +7,8 @@ pub sum_at-requires : goal.sum_at-requires
 sum_at-requires c = c.requires.0
 
 pub quotient-requires : goal.quotient-requires
-quotient-requires c = omega (arith, c.at_least_one.ensures)
+quotient-requires c = omega (arith, c.max.ensures)
 
 pub returns : goal.returns
 unfolding group_mean
-returns c = rw (c.quotient.ensures, c.sum_at.ensures, c.at_least_one.ensures)
+returns c = rw (c.quotient.ensures, c.sum_at.ensures, c.max.ensures)

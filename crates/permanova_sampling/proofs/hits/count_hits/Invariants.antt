@@ -4,4 +4,6 @@ use Rattle.permanova_sampling.proofs.ShuffleHits.{Counting}
 use Rattle.permanova_sampling.proofs.hits.count_hits.Given as goal
 
 abbrev pub invariant-loop-i : goal.invariant-loop-i
-invariant-loop-i l = Counting l.t l.w l.z l.sizes (record { location = l.first; dispersion = l.second; total = l.total }) (shuffled_by l.sn l.sm l.sizes.strata l.gs l.seed) l.n l.lab l.a l.b l.i
+invariant-loop-i l =
+    Counting l.over.pair_terms.now l.over.weights.now l.over.z.now l.sizes l.seen l.over.total
+    (shuffled_by l.strata.starts l.strata.members l.sizes.strata l.gs l.draws.seed) l.draws.many l.lab l.hits l.i

@@ -8,7 +8,7 @@ anova_about-f-requires c =
     let pre = c.requires in
     let lot = pre.0.labelled in
     record {
-      z_len = (pre.1, lot.labels, lot.groups, pre.0.members, search rules);
+      z_len = (pre.1, lot.labels, lot.groups, pre.0.members);
       g_in_bounds = (search rules, lot.some, lot.enough, lot.few);
       grand_value = pre.2;
     }

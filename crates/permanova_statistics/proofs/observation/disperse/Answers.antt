@@ -17,7 +17,7 @@ anova_f-f-requires c =
     let p = c.requires in
     let l = p.labelled in
     record {
-      z_len = (c.fill_z-negative.auto.z ∙ p.z_long, l.labels, l.groups, p.grouped, p.members);
+      z_len = (c.fill_z-negative.auto.z ∙ p.z_long, l.labels, l.groups, p.grouped);
       g_in_bounds = (omega (arith, l.enough, l.few), l.some, l.enough, l.few);
     }
 

@@ -1,5 +1,7 @@
 -- `permanova_statistics::observation::weigh` meets its contract. The design's samples are weighed into the fronts of three slices.
 use Rattle.lists.proofs.Base.{◌≡◌, sym, ◌∙◌, ℕ, ◌*◌, ◌≤◌, arith, rules, length, length-take-le}
+use Rattle.std.specs.Prelude.{is_some}
+use Rattle.lot.specs.Given.{held_by}
 use Rattle.lists.proofs.Fronts.{Back, back}
 use Rattle.permanova_statistics.proofs.ObservedLots.{weighs}
 use Rattle.permanova_statistics.proofs.observation.weigh.Goals as goal
@@ -44,4 +46,4 @@ returns c labels stratified strata e =
     let t-back : Back square a.pair_terms.now c.weigh_kept.new.t = back square a.pair_terms.now _ c.requires.pair_terms_room c.weigh_kept.auto.t in
     let p-back : Back square a.weighted_squares.now c.weigh_kept.new.p = back square a.weighted_squares.now _ c.requires.weighted_squares_room c.weigh_kept.auto.p in
     let told = c.weigh_kept.ensures in
-    weighs a.d a.distances.now labels stratified strata a.weighted a.weights.now e (w-back.front ∙ told.0) (t-back.front ∙ told.1) (p-back.front ∙ told.2)
+    weighs a.d a.distances.now labels stratified strata (is_some a.weights) (held_by a.weights) e (w-back.front ∙ told.0) (t-back.front ∙ told.1) (p-back.front ∙ told.2)

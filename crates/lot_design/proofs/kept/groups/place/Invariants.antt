@@ -1,8 +1,8 @@
--- `lot_design::kept::groups::place` meets its contract. After k turns the first k groups are put.
-use Rattle.lists.proofs.Base.{◌≡◌, ◌≤◌, length}
+-- `lot_design::kept::groups::place` meets its contract. The groups of the samples passed are put.
+use Rattle.lists.proofs.Base.{◌≡◌, length}
 use Rattle.lists.specs.Loops.{in_turn}
 use Rattle.lot_design.proofs.LoopTurns.{turned}
 use Rattle.lot_design.proofs.kept.groups.place.Given as goal
 
-abbrev pub invariant-loop-k : goal.invariant-loop-k
-invariant-loop-k l = (l.k ≤ length l.ks) × (length l.each ≡ length l.initial.each) × (l.each ≡ in_turn (turned l.ks l.gs) l.k l.initial.each)
+abbrev pub invariant-loop-i : goal.invariant-loop-i
+invariant-loop-i l = (length l.each ≡ length l.initial.each) × (l.each ≡ in_turn (turned l.ks l.gs) (length l.yielded) l.initial.each)

@@ -1,8 +1,0 @@
--- `eigen_matrix::entrywise::subtract` meets its contract. After c turns the first c entries are written, and the others stand as they were.
-use Rattle.lists.proofs.Base.{get_or, nan}
-use Rattle.float.specs.Floats.{◌⊖◌}
-use Rattle.lists.proofs.Writes.{Writing}
-use Rattle.eigen_matrix.proofs.entrywise.subtract.Given as goal
-
-abbrev pub invariant-loop-c : goal.invariant-loop-c
-invariant-loop-c l = Writing (λ k. get_or l.a k nan ⊖ get_or l.b k nan) l.initial.row l.row l.c

@@ -1,1 +1,0 @@
--- `eigen_vectors::products::put_four` meets its contract. Four writes.

@@ -1,2 +1,0 @@
--- Laws of words.
-pub mod Products
