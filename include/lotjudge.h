@@ -8,11 +8,11 @@
  *              nothing. Nothing that is written may overlap anything else that is passed. A bool is 0 or 1.
  *   floats     the floating-point environment is the default one: round to nearest, no flush to zero. A program linked with -Ofast or
  *              -ffast-math may flush subnormal numbers; a distance of -2^-1074 is then judged, where it is refused by 3 otherwise.
- *   stack      is part of no proof. Measured on the largest inputs (`oracle stack`, oracle/README.md), in KB of 1,024 bytes: test 21,
- *              exhaustive 72, jacobi_eigen 4, top_eigs 20, pcoa 54, gram_matrix and hash_pca 57, dapc 34, judge 116, every other function
+ *   stack      is part of no proof. Measured on the largest inputs (`oracle stack`, oracle/README.md), in KB of 1,024 bytes: test 22,
+ *              exhaustive 73, jacobi_eigen 4, top_eigs 20, pcoa 54, gram_matrix and hash_pca 59, dapc 34, judge 118, every other function
  *              below 1. A thread takes some 6 KB for itself: give it 128 KB.
- * Calls are reentrant: there are no variables between calls, no heap, no locks and no input or output. Of other libraries only memcpy and
- * memset are called.
+ * Calls are reentrant: there are no variables between calls, no heap, no locks and no input or output. Of other libraries only memcpy,
+ * memmove and memset are called.
  *
  * REFUSALS, the first that applies, in the order in which they stand here:
  *   1  a length does not fit n, offsets are not as told below, or an output or work slice is short
