@@ -4,12 +4,18 @@
 ghost use Rattle.std.specs.Prelude.{◌≡◌, ◌<◌, length};
 ghost use Rattle.lists.specs.Numbers.{how_many};
 
-// How many samples have the label l.
+// How many samples have the label l. A count of 16 bits in step with the labels: `filter(..).count()`, which counts in 64, made `dapc` of 256 samples twice as long.
 pub fn how_many(labels: &[u16], l: u16) -> u16
     requires { length labels.now < 65536 }
     ensures { result ≡ how_many l labels.now }
 {
-    labels.iter().filter(|x| **x == l).count() as u16
+    let mut count: u16 = 0;
+    for i in 0..labels.len() {
+        if l == labels[i] {
+            count += 1;
+        }
+    }
+    count
 }
 
 // What the tests are given of n samples: n by n distances row by row, a label for each, and for each a stratum and a weight where they are given.

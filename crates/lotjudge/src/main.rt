@@ -13,7 +13,8 @@ ghost use Rattle.lotjudge.specs.Reading.{printed_of};
 use outcome::Refusal;
 use std::io;
 
-// Reads until the buffer is full, the input ends or a read fails; the answer is the number of bytes. A read that failed is not the end, and is not tried again.
+// Reads until the buffer is full, the input ends or a read fails; the answer is the number of bytes. A read that failed is not the end, and is not tried again. Each turn
+// goes on by as many bytes as were read: no index is counted.
 fn read_input<R: io::Read>(from: &mut R, buffer: &mut [u8]) -> io::Result<usize>
     ensures within { IfOk result (λ n. IsPrefixLen n buffer.new) }
     ensures whole { IfOk result (λ n. n < length buffer.new → IsAtEnd (R.remaining from.new)) }

@@ -7,7 +7,7 @@ ghost use Rattle.limits.specs.Limits.{most_shuffles};
 ghost use Rattle.float.specs.Floats.{0·5};
 ghost use Rattle.lists.specs.Filters.{any};
 ghost use Rattle.permanova_p_values.specs.Hits as hits;
-ghost use Rattle.permanova_p_values.specs.PValues.{p_value, given, p_of};
+ghost use Rattle.permanova_p_values.specs.PValues.{p_value};
 ghost use Rattle.permanova_p_values.specs.WarningBits.{bit, warning_bits};
 ghost use Rattle.permanova_p_values.specs.Together.{largest, smallest, alarmed, together};
 
@@ -92,20 +92,6 @@ pub fn p_value_of(none: bool, seen: Statistic, hits: usize, n: u64) -> Option<f6
         Statistic::Finite(_) if !none => Some((1 + hits) as f64 / (1 + n) as f64),
         _ => None,
     }
-}
-
-// Whether there is a p.
-pub fn is_given(c: Option<f64>) -> u64
-    ensures { result ≡ given c }
-{
-    u64::from(c.is_some())
-}
-
-// A p, 0 where there is none.
-pub fn p_of(c: Option<f64>) -> f64
-    ensures { result ≡ p_of c }
-{
-    c.unwrap_or(0.0)
 }
 
 // ---- warnings: bits 0 to 4

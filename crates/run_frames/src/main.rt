@@ -90,7 +90,7 @@ fn show_judged(rt: &impl Print, text: &[u8]) {
     judge_on(rt, text, &mut out);
 }
 
-// All texts of a file, each between its name and a bar, and a sharp; what is left of one where either is missing.
+// All texts of a file, each between its name and a bar, and a sharp; what is left of one where either is missing. Each turn goes on by a text: no index is counted.
 fn replay_all(rt: &impl Print, input: &[u8]) {
     let mut rest = input;
     while !rest.is_empty() {
@@ -113,7 +113,7 @@ fn cut(s: &[u8], byte: u8) -> (&[u8], &[u8])
     }
 }
 
-// Reads until the buffer is full, the file ends or a read fails; the answer is the number of bytes.
+// Reads until the buffer is full, the file ends or a read fails; the answer is the number of bytes. Each turn goes on by what was read.
 fn read_full<R: Read>(file: &mut R, buffer: &mut [u8]) -> usize
     ensures { result ≤ length buffer.new }
 {

@@ -84,7 +84,7 @@ fn powers(rt: &impl Print) {
     }
 }
 
-// The squares of numbers of up to 26 digits, times even powers of two, each between its neighbours.
+// The squares of numbers of up to 26 digits, times even powers of two, each between its neighbours. The numbers grow by an eighth: no index is counted.
 fn squares(rt: &impl Print) {
     let mut n: u64 = 1;
     while n < 0x400_0000 {
