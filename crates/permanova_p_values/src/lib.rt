@@ -37,15 +37,15 @@ pub fn statistic_of(f: f64) -> Statistic
     }
 }
 
-// Whether the F of a shuffle is a hit of the observed statistic.
+// Whether the F of a shuffle is a hit of the observed statistic. `let .. else`, here and below, is the form that document 01 names.
 #[tactic(auto, unfolding(crate::specs::Hits::shuffle_hit))]
 pub fn shuffle_hit(observed: Statistic, f: f64) -> bool
     ensures { result ≡ hits.shuffle_hit observed f }
 {
-    match observed {
-        Statistic::Finite(x) => float::as_large(x, f),
-        Statistic::Unbounded => false,
-    }
+    let Statistic::Finite(x) = observed else {
+        return false;
+    };
+    float::as_large(x, f)
 }
 
 // Whether the statistic of a way is a hit of the observed one.
@@ -53,11 +53,13 @@ pub fn shuffle_hit(observed: Statistic, f: f64) -> bool
 pub fn hit(observed: Statistic, found: Statistic) -> bool
     ensures { result ≡ hits.hit observed found }
 {
-    match (observed, found) {
-        (_, Statistic::Unbounded) => true,
-        (Statistic::Unbounded, Statistic::Finite(_)) => false,
-        (Statistic::Finite(x), Statistic::Finite(f)) => float::as_large(x, f),
-    }
+    let Statistic::Finite(f) = found else {
+        return true;
+    };
+    let Statistic::Finite(x) = observed else {
+        return false;
+    };
+    float::as_large(x, f)
 }
 
 // 1 for a finite F, 0 for an unbounded one: the C arrays' number.
