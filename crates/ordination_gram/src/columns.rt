@@ -1,12 +1,13 @@
 // The centred matrix of sets of hashes by their columns: from the sets' bits, their sums of means and the sum of squared means.
 ghost use Rattle.std.specs.Prelude.{◌≡◌, map, ◌++◌, ◌+◌, ◌*◌, ◌<◌, ◌≤◌, min, max, length, get_or, take, set, replicate};
 ghost use Rattle.std.specs.Float.{nan};
-ghost use Rattle.limits.specs.Limits.{selected_words};
+ghost use Rattle.limits.specs.Limits.{most_selected, selected_words};
 ghost use Rattle.lists.specs.Ranges.{range, table, rows, grid};
 ghost use Rattle.lists.specs.Loops.{in_turn};
 ghost use Rattle.lists.specs.Sums.{sum⁻};
 ghost use Rattle.lists.specs.Writes.{over, cleared};
 ghost use Rattle.ordination_hashes.specs.inner.Columns.{column_of};
+ghost use Rattle.ordination_hashes.specs.inner.Stretches.{Climbs};
 ghost use Rattle.ordination_sets.specs.Sets.{set_at};
 ghost use Rattle.ordination_sets.specs.inner.Offsets.{Offsets};
 ghost use Rattle.ordination_gram.specs.inner.Bits.{packed, present};
@@ -28,15 +29,17 @@ fn square_sum(means: &[f64]) -> f64
 
 // The bits of a set's columns, in a row of zeros, and the sum of their means.
 fn mark_hashes(row: &mut [u64], set: &[u64], columns: &Columns) -> f64
-    requires { (length columns.now.means.now ≤ length row.old * 64) × (row.old ≡ replicate (length row.old) 0) }
+    requires { (length columns.now.means.now ≤ length row.old * 64) × (row.old ≡ replicate (length row.old) 0) × (length columns.now.means.now ≤ most_selected) }
     ensures { (result ≡ column_sum columns.now.means.now (map (column_of columns.now.hashes.now) set.now))
         × (row.new ≡ packed (length row.old) (present (length columns.now.means.now) (map (column_of columns.now.hashes.now) set.now))) }
 {
     let mut s = -0.0;
     for &h in set {
         if let Some(c) = columns.find(h) {
-            bitsets::mark_bit(row, c);
-            s += columns.means[c];
+            if c < columns.means.len() {
+                bitsets::mark_bit(row, c);
+                s += columns.means[c];
+            }
         }
     }
     s
@@ -44,7 +47,7 @@ fn mark_hashes(row: &mut [u64], set: &[u64], columns: &Columns) -> f64
 
 // The same, in any row.
 fn mark_set(row: &mut [u64], set: &[u64], columns: &Columns) -> f64
-    requires { length columns.now.means.now ≤ length row.old * 64 }
+    requires { (length columns.now.means.now ≤ length row.old * 64) × (length columns.now.means.now ≤ most_selected) }
     ensures { (result ≡ column_sum columns.now.means.now (map (column_of columns.now.hashes.now) set.now))
         × (row.new ≡ packed (length row.old) (present (length columns.now.means.now) (map (column_of columns.now.hashes.now) set.now))) }
 {
@@ -62,7 +65,7 @@ fn mark_sets(
     w: usize,
     columns: &Columns,
 )
-    requires { Offsets n offsets.now (length hashes.now) × (n * w ≤ length words.old) × (n ≤ length sums.old) × (length columns.now.means.now ≤ w * 64) }
+    requires { Offsets n offsets.now (length hashes.now) × (n * w ≤ length words.old) × (n ≤ length sums.old) × (length columns.now.means.now ≤ w * 64) × (length columns.now.means.now ≤ most_selected) }
     ensures { (words.new
         ≡ over (rows n (λ i. packed w (present (length columns.now.means.now) (set_at (map (column_of columns.now.hashes.now) hashes.now) offsets.now i)))) words.old)
         × (sums.new
@@ -117,25 +120,29 @@ fn fill(out: &mut [f64], n: usize, words: &[u64], w: usize, sums: &[f64], t: f64
     }
 }
 
-// The matrix of sets of hashes, in front of `out`, by their columns. `words` lends a row of bits for each set, and is cleared; `sums` lends a number for each.
+// The matrix of sets of hashes, in front of `out`, by their columns among the chosen ones, which go upward. `words` lends a row of bits for each set, and is
+// cleared; `sums` lends a number for each. The hints of the columns are 2 KiB of stack.
 pub fn fill_gram(
     out: &mut [f64],
     words: &mut [u64],
     sums: &mut [f64],
     hashes: &[u64],
-    columns: &Columns,
+    chosen: &[u64],
+    means: &[f64],
     offsets: &[usize],
     n: usize,
 )
-    requires offsets { Offsets n offsets.now (length hashes.now) }
+    requires offsets { Offsets n offsets.now (length hashes.now) × (length means.now ≤ most_selected) × Climbs chosen.now }
     requires n_in_bounds { (n * n ≤ length out.old) × (n * selected_words ≤ length words.old) × (n ≤ length sums.old) }
     ensures { (out.new
-        ≡ over (column_gram n (map (column_of columns.now.hashes.now) hashes.now) offsets.now columns.now.means.now) out.old)
+        ≡ over (column_gram n (map (column_of chosen.now) hashes.now) offsets.now means.now) out.old)
         × (words.new ≡ cleared 0 words.old) }
 {
-    let w = columns.means.len().div_ceil(64);
-    mark_sets(words, sums, hashes, offsets, n, w, columns);
-    let t = square_sum(columns.means);
+    let mut starts = [0; 1025];
+    let columns = Columns::new(chosen, means, &mut starts);
+    let w = means.len().div_ceil(64);
+    mark_sets(words, sums, hashes, offsets, n, w, &columns);
+    let t = square_sum(means);
     fill(out, n, words, w, sums, t);
     words.fill(0);
 }

@@ -11,7 +11,6 @@ ghost use Rattle.limits.specs.Limits.{most_samples, most_selected, selected_word
 ghost use Rattle.ordination_gram.specs.Call.{gram_call, called};
 ghost use Rattle.ordination_gram.specs.inner.Call.{Checked, matrix_call};
 
-use ordination_hashes::columns::Columns;
 use outcome::Refusal;
 
 // Lines 1, 2, 6, 13 and 7. `short` says that a slice of the operation is short, `beyond` that another of its arguments is beyond its limit. `chosen` and
@@ -54,8 +53,16 @@ fn matrix_in(
         ≡ matrix_call n hashes.now offsets.now short beyond b.old words.old }
 {
     let m = check_gram(chosen, means, hashes, offsets, n, short, beyond)?;
-    let columns = Columns::new(&chosen[..m], &means[..m]);
-    columns::fill_gram(b, words, sums, hashes, &columns, offsets, n);
+    columns::fill_gram(
+        b,
+        words,
+        sums,
+        hashes,
+        &chosen[..m],
+        &means[..m],
+        offsets,
+        n,
+    );
     Ok(m)
 }
 

@@ -1,20 +1,17 @@
 // The columns of the matrix, and a hash looked up among them.
-ghost use Rattle.std.specs.Prelude.{◌≡◌, ◌-◌, ◌<◌, ◌≤◌, true, length, slice_index, Option};
-ghost use Rattle.limits.specs.Limits.{most_selected};
+ghost use Rattle.std.specs.Prelude.{◌≡◌, ◌-◌, ◌<◌, ◌≤◌, true, false, length, slice_index, Option};
 ghost use Rattle.ordination_hashes.specs.inner.Columns.{column_at};
-ghost use Rattle.ordination_hashes.specs.inner.Stretches.{Climbs};
+ghost use Rattle.ordination_hashes.specs.inner.Stretches.{Climbs, Cut};
 
-// The selected hashes, which go upward, each with its mean: a column for each. Two slices, since the search reads hashes alone. `starts` and `shift` are hints where
-// to look: a part is told by ten bits of a hash, from bit `shift` on, and entry p of `starts` is how many hashes come before part p. No proof says so, and none needs it.
+// Hashes that go upward, and the means of the columns. Two slices, since the search reads hashes alone. `starts`, which is lent, and `shift` are hints where to look:
+// a part is told by ten bits of a hash, from bit `shift` on, and entry p of `starts` is how many hashes come before part p. No proof says so, and none needs it.
 #[derive(Drop)]
 pub struct Columns<'a> {
     pub hashes: &'a [u64],
     pub means: &'a [f64],
-    starts: [u16; 1025],
+    starts: &'a [u16; 1025],
     shift: u32,
     pub ghost climbs: { Climbs hashes.now },
-    pub ghost paired: { length means.now ≡ length hashes.now },
-    pub ghost few: { length hashes.now ≤ most_selected },
 }
 
 // The part of a hash.
@@ -51,23 +48,49 @@ fn fill_starts(starts: &mut [u16; 1025], hashes: &[u64], shift: u32) {
     }
 }
 
-// Whether h would stand between the hash before place i and the one there, and is neither.
-fn is_gap(hashes: &[u64], i: usize, h: u64) -> bool
-    requires { i ≤ length hashes.now }
-    ensures { result ≡ true → (0 < i → slice_index hashes.now (i - 1) < h) × (i < length hashes.now → h < slice_index hashes.now i) }
+// Whether the hashes before place `from` are below h, and those from place `to` on are not.
+fn encloses(hashes: &[u64], from: usize, to: usize, h: u64) -> bool
+    ensures { result ≡ true → (from ≤ to) × (to ≤ length hashes.now)
+        × (0 < from → slice_index hashes.now (from - 1) < h) × (to < length hashes.now → h ≤ slice_index hashes.now to) }
 {
-    (i == 0 || hashes[i - 1] < h) && (i == hashes.len() || h < hashes[i])
+    from <= to
+        && to <= hashes.len()
+        && (from == 0 || hashes[from - 1] < h)
+        && (to == hashes.len() || h <= hashes[to])
+}
+
+// k, or 0.
+fn only_if(b: bool, k: usize) -> usize
+    ensures { (b ≡ true → result ≡ k) × (b ≡ false → result ≡ 0) }
+{
+    if b { k } else { 0 }
+}
+
+// How many of the hashes, which go upward, are below h. It is looked for from one place up to another. Each turn halves what is left, whichever half it is, with no
+// branch: `partition_point` has one, and takes a third more time where it is not foreseen.
+fn below(hashes: &[u64], from: usize, to: usize, h: u64) -> usize
+    requires climbs { Climbs hashes.now × (from ≤ to) × (to ≤ length hashes.now) }
+    requires from_bound { (0 < from → slice_index hashes.now (from - 1) < h) × (to < length hashes.now → h ≤ slice_index hashes.now to) }
+    ensures { Cut h hashes.now result }
+{
+    let mut lo = from;
+    let mut left = to - from;
+    while left > 0 {
+        let half = left - left / 2;
+        lo += only_if(hashes[lo + half - 1] < h, half);
+        left /= 2;
+    }
+    lo
 }
 
 impl<'a> Columns<'a> {
-    // The columns of these hashes.
-    pub fn new(hashes: &'a [u64], means: &'a [f64]) -> Columns<'a>
-        requires { Climbs hashes.now × (length means.now ≡ length hashes.now) × (length hashes.now ≤ most_selected) }
+    // The columns of these hashes. `starts` lends room for the hints.
+    pub fn new(hashes: &'a [u64], means: &'a [f64], starts: &'a mut [u16; 1025]) -> Columns<'a>
+        requires { Climbs hashes.now }
         ensures { (result.hashes.now ≡ hashes.now) × (result.means.now ≡ means.now) }
     {
         let shift = shift_of(hashes);
-        let mut starts = [0; 1025];
-        fill_starts(&mut starts, hashes, shift);
+        fill_starts(starts, hashes, shift);
         Columns {
             hashes,
             means,
@@ -76,16 +99,17 @@ impl<'a> Columns<'a> {
         }
     }
 
-    // Where h would stand, by the hints; any place, where they mislead.
-    fn guess(&self, h: u64) -> usize
-        ensures { result ≤ length self.now.hashes.now }
+    // How many of the hashes are below h, by the hints: where they mislead, among all.
+    fn place(&self, h: u64) -> usize
+        ensures { Cut h self.now.hashes.now result }
     {
         let p = part_of(h, self.shift);
         let from = usize::from(self.starts[p]);
         let to = usize::from(self.starts[p + 1]);
-        match self.hashes.get(from..to) {
-            Some(part) => from + part.partition_point(|x| *x < h),
-            None => 0,
+        if encloses(self.hashes, from, to, h) {
+            below(self.hashes, from, to, h)
+        } else {
+            below(self.hashes, 0, self.hashes.len(), h)
         }
     }
 
@@ -93,13 +117,11 @@ impl<'a> Columns<'a> {
     pub fn find(&self, h: u64) -> Option<usize>
         ensures { result ≡ column_at self.now.hashes.now h }
     {
-        let i = self.guess(h);
+        let i = self.place(h);
         if i < self.hashes.len() && self.hashes[i] == h {
-            return Some(i);
+            Some(i)
+        } else {
+            None
         }
-        if is_gap(self.hashes, i, h) {
-            return None;
-        }
-        self.hashes.binary_search(&h).ok()
     }
 }

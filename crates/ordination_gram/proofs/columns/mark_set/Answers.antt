@@ -7,7 +7,7 @@ use Rattle.ordination_gram.proofs.columns.mark_set.Goals as goal
 pub mark_hashes-requires : goal.mark_hashes-requires
 mark_hashes-requires c =
     let fill = c.fill.ensures in
-    (omega (arith, c.requires, fill.len), fill.after (λ _ e. e) ∙ ap (λ (k : ℕ). replicate k 0) (sym fill.len))
+    (omega (arith, c.requires.0, fill.len), fill.after (λ _ e. e) ∙ ap (λ (k : ℕ). replicate k 0) (sym fill.len), c.requires.1)
 
 pub returns : goal.returns
 returns c =

@@ -79,7 +79,7 @@ pub slice_bounds-mark_set-end-in-loop-i : goal.slice_bounds-mark_set-end-in-loop
 slice_bounds-mark_set-end-in-loop-i c = omega (arith, inside (goal.at.slice_bounds-mark_set-end-in-loop-i c).In-loop-i)
 
 pub mark_set-requires : goal.mark_set-requires
-mark_set-requires c = let long = length_part c.args.w c.loop-i.i c.loop-i.words (fits (goal.at.mark_set-requires c).In-loop-i) in omega (arith, c.requires.3)
+mark_set-requires c = let long = length_part c.args.w c.loop-i.i c.loop-i.words (fits (goal.at.mark_set-requires c).In-loop-i) in (omega (arith, c.requires.3), c.requires.4)
 
 pub offset_bounds-sums-i : goal.offset_bounds-sums-i
 offset_bounds-sums-i c = omega (arith, inside (goal.at.offset_bounds-sums-i c).In-loop-i, c.requires.2, c.loop-i.invariant.3.long)
