@@ -28,8 +28,8 @@ grouped-few each =
     omega (arith, length-filter p (range 0 (length each)), count_if-below p (range 0 (length each)), length-range 0 (length each))
 
 module _ (s : Samples) where
-  pub kept-few : s.sizes.kept ≤ 256
-  kept-few = omega (arith, s.members, s.few, grouped-few s.groups.now)
+  pub kept-few : s.sizes.kept ≡ length (grouped s.groups.now) → s.sizes.kept ≤ 256
+  kept-few members = omega (arith, s.few, grouped-few s.groups.now)
 
   -- the groups' means fit their room
   pub means-fit : s.sizes.groups * s.sizes.lead ≤ 2048

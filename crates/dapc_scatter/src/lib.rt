@@ -14,10 +14,11 @@ ghost use Rattle.lists.specs.Sums.{sum_from};
 ghost use Rattle.lists.specs.Rows.{entry};
 ghost use Rattle.lot.specs.Kept.{sizes};
 ghost use Rattle.dapc_scatter.specs.Means.{grouped};
+ghost use Rattle.dapc_scatter.specs.inner.Means.{Numbered};
 ghost use Rattle.dapc_scatter.specs.Ridge.{ridged};
 ghost use Rattle.dapc_scatter.specs.Scatter.{off, group_off, scatter_within, scatter_between};
 
-use crate::samples::Samples;
+use crate::samples::Leading;
 use eigen_matrix::entrywise;
 
 // ---- scatter
@@ -33,19 +34,18 @@ fn add_outer(m: &mut [f64], p: usize, s: &[f64], d: &[f64])
 }
 
 // Within groups: the products of how far each sample is from its group's mean are added to sw. `d` takes how far.
-fn add_within(sw: &mut [f64], d: &mut [f64], samples: Samples, mu: &[f64])
-    requires { (length sw.old ≡ samples.sizes.lead * samples.sizes.lead) × (length d.old ≡ samples.sizes.lead) × (length mu.now ≡ samples.sizes.groups * samples.sizes.lead) }
-    ensures { let s = samples.entry in sw.new ≡ grid s.sizes.lead s.sizes.lead (λ a b. sum_from (entry s.sizes.lead sw.old a b)
-        (map (λ i. off s.sizes.columns s.sizes.lead s.x.now s.groups.now mu.now i a ⊗ off s.sizes.columns s.sizes.lead s.x.now s.groups.now mu.now i b)
-        (grouped s.groups.now))) }
+fn add_within(sw: &mut [f64], d: &mut [f64], leading: Leading, g: usize, mu: &[f64])
+    requires { (length sw.old ≡ leading.lead * leading.lead) × (length d.old ≡ leading.lead) × (length mu.now ≡ g * leading.lead) × Numbered g leading.groups.now }
+    ensures { let s = leading.entry in sw.new ≡ grid s.lead s.lead (λ a b. sum_from (entry s.lead sw.old a b)
+        (map (λ i. off s.columns s.lead s.x.now s.groups.now mu.now i a ⊗ off s.columns s.lead s.x.now s.groups.now mu.now i b) (grouped s.groups.now))) }
 {
-    let p = samples.sizes.lead;
-    let columns = samples.sizes.columns;
-    for i in 0..samples.groups.len() {
-        if let Some(j) = samples.group(i) {
+    let p = leading.lead;
+    let columns = leading.columns;
+    for i in 0..leading.groups.len() {
+        if let Some(j) = leading.group(i) {
             entrywise::subtract(
                 d,
-                &samples.x[i * columns..i * columns + p],
+                &leading.x[i * columns..i * columns + p],
                 &mu[j * p..j * p + p],
             );
             let e = &d[..];
@@ -83,20 +83,22 @@ pub fn fill_scatter(
     sb: &mut [f64],
     d: &mut [f64],
     s: &mut [f64],
-    samples: Samples,
+    leading: Leading,
+    g: usize,
     mu: &[f64],
     mean: &[f64],
     counts: &[u16],
 )
-    requires sw_value { (sw.old ≡ replicate (samples.sizes.lead * samples.sizes.lead) zero⁺) × (sb.old ≡ replicate (samples.sizes.lead * samples.sizes.lead) zero⁺)
-        × (length d.old ≡ samples.sizes.lead) × (length s.old ≡ samples.sizes.lead) }
-    requires mu_len { (length mu.now ≡ samples.sizes.groups * samples.sizes.lead) × (length mean.now ≡ samples.sizes.lead)
-        × (counts.now ≡ sizes samples.groups.now (length samples.groups.now) samples.sizes.groups) }
-    ensures { let s = samples.entry in (sw.new ≡ ridged s.sizes.lead (scatter_within s.sizes.columns s.sizes.lead s.x.now s.groups.now mu.now))
-        × (sb.new ≡ scatter_between s.sizes.lead s.sizes.groups s.groups.now mu.now mean.now) }
+    requires sw_value { (sw.old ≡ replicate (leading.lead * leading.lead) zero⁺) × (sb.old ≡ replicate (leading.lead * leading.lead) zero⁺)
+        × (length d.old ≡ leading.lead) × (length s.old ≡ leading.lead) }
+    requires numbered { (leading.lead ≤ 16) × Numbered g leading.groups.now }
+    requires mu_len { (length mu.now ≡ g * leading.lead) × (length mean.now ≡ leading.lead)
+        × (counts.now ≡ sizes leading.groups.now (length leading.groups.now) g) }
+    ensures { let l = leading.entry in (sw.new ≡ ridged l.lead (scatter_within l.columns l.lead l.x.now l.groups.now mu.now))
+        × (sb.new ≡ scatter_between l.lead g l.groups.now mu.now mean.now) }
 {
-    let p = samples.sizes.lead;
-    add_within(sw, d, samples, mu);
+    let p = leading.lead;
+    add_within(sw, d, leading, g, mu);
     ridge::add_ridge(sw, p);
     add_between(sb, d, s, p, counts, mu, mean);
 }

@@ -7,29 +7,29 @@ use Rattle.dapc_scatter.proofs.fill_scatter.Goals as goal
 
 pub add_within-requires : goal.add_within-requires
 add_within-requires c =
-    let p = c.args.samples.sizes.lead in
-    (ap length c.requires.sw_value.0 ∙ length-replicate (p * p) zero⁺, c.requires.sw_value.2, c.requires.mu_len.0)
+    let p = c.args.leading.lead in
+    (ap length c.requires.sw_value.0 ∙ length-replicate (p * p) zero⁺, c.requires.sw_value.2, c.requires.mu_len.0, c.requires.numbered.1)
 
 pub add_ridge-requires : goal.add_ridge-requires
 add_ridge-requires c =
-    let s = c.args.samples in
-    (c.add_within.auto.sw ∙ ap length c.requires.sw_value.0 ∙ length-replicate (s.sizes.lead * s.sizes.lead) zero⁺, s.narrow)
+    let s = c.args.leading in
+    (c.add_within.auto.sw ∙ ap length c.requires.sw_value.0 ∙ length-replicate (s.lead * s.lead) zero⁺, c.requires.numbered.0)
 
 pub add_between-requires : goal.add_between-requires
 add_between-requires c =
-    let s = c.args.samples in
-    let p = s.sizes.lead in (
+    let s = c.args.leading in
+    let p = s.lead in (
       ap length c.requires.sw_value.1 ∙ length-replicate (p * p) zero⁺,
       c.add_within.auto.d ∙ c.requires.sw_value.2,
       c.requires.sw_value.3,
-      c.requires.mu_len.0 ∙ ap (λ (k : ℕ). k * p) (sym (ap length c.requires.mu_len.2 ∙ length-sizes s.groups.now (length s.groups.now) s.sizes.groups)),
+      c.requires.mu_len.0 ∙ ap (λ (k : ℕ). k * p) (sym (ap length c.requires.mu_len.2 ∙ length-sizes s.groups.now (length s.groups.now) c.args.g)),
       c.requires.mu_len.1,
     )
 
 pub returns : goal.returns
 returns c =
-    let s = c.args.samples in
+    let s = c.args.leading in
     let mu = c.args.mu.now in (
-      c.add_ridge.ensures ∙ ap (ridged s.sizes.lead) (within-is s.sizes.lead s.sizes.columns s.x.now s.groups.now mu c.requires.sw_value.0 c.add_within.ensures),
-      between_is s.sizes.lead s.sizes.groups s.groups.now mu c.args.mean.now c.requires.sw_value.1 c.requires.mu_len.2 c.add_between.ensures,
+      c.add_ridge.ensures ∙ ap (ridged s.lead) (within-is s.lead s.columns s.x.now s.groups.now mu c.requires.sw_value.0 c.add_within.ensures),
+      between_is s.lead c.args.g s.groups.now mu c.args.mean.now c.requires.sw_value.1 c.requires.mu_len.2 c.add_between.ensures,
     )

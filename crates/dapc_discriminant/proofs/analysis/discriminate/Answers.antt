@@ -12,8 +12,10 @@ pub fill-requires : goal.fill-requires
 fill-requires c =
     let square-here : c.args.p * c.args.p ≤ 256 = square-fits c.args.p c.requires.0.narrow in
     let r = c.requires.0 in
-    let none = take-replicate (c.args.p * c.args.p) 256 zero⁺ square-here in
-    record { means = take-replicate c.args.p 16 zero⁻ r.narrow; counted = take-replicate {A = ℕ} c.args.g 128 0 r.most; within = none; between = none }
+    let none = take-replicate (c.args.p * c.args.p) 256 zero⁺ square-here in (
+      record { means = take-replicate c.args.p 16 zero⁻ r.narrow; counted = take-replicate {A = ℕ} c.args.g 128 0 r.most; within = none; between = none },
+      c.requires.1,
+    )
 
 pub decompose-requires : goal.decompose-requires
 decompose-requires c =

@@ -10,21 +10,21 @@ loop-i-init c = adding-none _ _ _ _ _ _ (omega arith)
 
 pub add-requires : goal.add-requires
 add-requires c =
-    let s = c.args.samples in
-    let fits : c.loop-i.i * s.sizes.columns + s.sizes.lead ≤ length s.x.now = omega (arith, row-end s.sizes.columns _ _ c.loop-i-test.true) in
-    omega (arith, length_front s.sizes.columns c.loop-i.i s.sizes.lead s.x.now fits, c.loop-i.invariant.long)
+    let s = c.args.leading in
+    let fits : c.loop-i.i * s.columns + s.lead ≤ length s.x.now = omega (arith, row-end s.columns _ _ c.loop-i-test.true) in
+    omega (arith, length_front s.columns c.loop-i.i s.lead s.x.now fits, c.loop-i.invariant.long)
 
 pub loop-i-preserved : goal.loop-i-preserved
 loop-i-preserved c =
     let turn = c.loop-i in
-    let s = c.args.samples in
+    let s = c.args.leading in
     let told = c.group.ensures in
     elim c.if-is_some.branch [
-      | then-is_some w ↦ all-turn s.sizes.lead s.sizes.columns s.x.now s.groups.now _ turn.sum turn.invariant c.loop-i-test.true refl
-          (λ q. omega (arith, group-some _ _ _ told (sym c.is_some.ensures ∙ w.if-is_some.true))) (w.sum-is ∙ w.add.ensures)
-      | else-is_some w ↦ all_pass s.sizes.lead s.sizes.columns s.x.now s.groups.now _ turn.sum turn.invariant c.loop-i-test.true refl
+      | then-is_some w ↦ all-turn s.lead s.columns s.x.now s.groups.now _ turn.sum turn.invariant c.loop-i-test.true refl
+          (λ q. group-some _ _ _ told (λ j h. h.1 (h.0 ∙ q)) (sym c.is_some.ensures ∙ w.if-is_some.true)) (w.sum-is ∙ w.add.ensures)
+      | else-is_some w ↦ all_pass s.lead s.columns s.x.now s.groups.now _ turn.sum turn.invariant c.loop-i-test.true refl
           (group-none _ _ _ told (sym c.is_some.ensures ∙ w.if-is_some.false)) w.sum-is
     ]
 
 pub returns : goal.returns
-returns c = let s = c.args.samples in all_end s.sizes.lead s.sizes.columns s.x.now s.groups.now _ c.loop-i.invariant c.loop-i-test.false
+returns c = let s = c.args.leading in all_end s.lead s.columns s.x.now s.groups.now _ c.loop-i.invariant c.loop-i-test.false

@@ -3,4 +3,4 @@ use Rattle.dapc_scatter.proofs.{MeanSums.AllAdded}
 use Rattle.dapc_scatter.proofs.means.add_grouped.Given as goal
 
 abbrev pub invariant-loop-i : goal.invariant-loop-i
-invariant-loop-i l = AllAdded l.samples.sizes.lead l.samples.sizes.columns l.samples.x.now l.samples.groups.now l.initial.sum l.sum l.i
+invariant-loop-i l = AllAdded l.leading.lead l.leading.columns l.leading.x.now l.leading.groups.now l.initial.sum l.sum l.i

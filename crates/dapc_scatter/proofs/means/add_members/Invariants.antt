@@ -3,4 +3,4 @@ use Rattle.dapc_scatter.proofs.MeanSums.{GroupsAdded}
 use Rattle.dapc_scatter.proofs.means.add_members.Given as goal
 
 abbrev pub invariant-loop-i : goal.invariant-loop-i
-invariant-loop-i l = GroupsAdded l.samples.sizes.lead l.samples.sizes.columns l.samples.x.now l.samples.groups.now l.initial.mu l.samples.sizes.groups l.mu l.i
+invariant-loop-i l = GroupsAdded l.leading.lead l.leading.columns l.leading.x.now l.leading.groups.now l.initial.mu l.g l.mu l.i

@@ -3,7 +3,7 @@ use Rattle.lists.proofs.Base.{ap, ◌∙◌, List, ℕ, ◌*◌, length, replica
 use Rattle.float.specs.Floats.{zero⁺, zero⁻}
 use Rattle.lists.proofs.Parts.{take-replicate}
 use Rattle.lists.proofs.Fronts.{Back, back}
-use Rattle.dapc_scatter.proofs.MomentsRoom.{filled_is, means-fit}
+use Rattle.dapc_scatter.proofs.MomentsRoom.{filled_is, kept-few, means-fit}
 use Rattle.dapc_scatter.proofs.moments.fill.Goals as goal
 
 -- the groups' means stand at the front of an array of zeros
@@ -11,20 +11,22 @@ abbrev zeros : List Float
 zeros = replicate 2048 zero⁺
 
 pub fill_mean-requires : goal.fill_mean-requires
-fill_mean-requires c = c.requires.means
+fill_mean-requires c = (c.requires.0.means, c.requires.1, kept-few c.args.samples c.requires.1)
 
 pub fill_group_means-requires : goal.fill_group_means-requires
 fill_group_means-requires c =
-    let many : ℕ = c.args.samples.sizes.groups * c.args.samples.sizes.lead in
-    (take-replicate many 2048 zero⁺ (means-fit c.args.samples), c.requires.counted)
+    let s = c.args.samples in
+    let many : ℕ = s.sizes.groups * s.sizes.lead in
+    (take-replicate many 2048 zero⁺ (means-fit s), c.requires.0.counted, s.most, s.numbered, s.few)
 
 pub fill_scatter-requires : goal.fill_scatter-requires
 fill_scatter-requires c =
     let s = c.args.samples in
     let many : ℕ = s.sizes.groups * s.sizes.lead in
     let means : Back many zeros c.fill_group_means.new.mu = back many zeros c.fill_group_means.new.mu (means-fit s) c.fill_group_means.auto.mu in
-    let mean-long = c.fill_mean.auto.mean ∙ ap length c.requires.means ∙ length-replicate s.sizes.lead zero⁻ in record {
-      sw_value = (c.requires.within, c.requires.between, length-take-le _ _ s.narrow, length-take-le _ _ s.narrow);
+    let mean-long = c.fill_mean.auto.mean ∙ ap length c.requires.0.means ∙ length-replicate s.sizes.lead zero⁻ in record {
+      sw_value = (c.requires.0.within, c.requires.0.between, length-take-le _ _ s.narrow, length-take-le _ _ s.narrow);
+      numbered = (s.narrow, s.numbered);
       mu_len = (length-take-le _ _ means.fits, mean-long, c.fill_group_means.ensures.1);
     }
 
