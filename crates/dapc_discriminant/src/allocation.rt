@@ -47,8 +47,10 @@ fn assign_groups(
     let axes = samples.sizes.axes;
     let e = axes + n * axes;
     dapc_scores::fill_centroids(cen, &out[axes..e], samples, counts);
-    match nearest_centroid::assign(&mut assigned[..n], &out[axes..e], cen, samples) {
-        Ok(right) => Ok(Separation {
+    let tally = nearest_centroid::assign(&mut assigned[..n], &out[axes..e], cen, samples);
+    let right = tally.right;
+    match tally.ordered {
+        Ok(()) => Ok(Separation {
             columns: samples.sizes.lead,
             axes,
             right,

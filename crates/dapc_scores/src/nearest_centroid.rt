@@ -1,8 +1,8 @@
 // Section 5: the nearest centroid of each sample, and how many samples were found to be in their own group.
 ghost use Rattle.std.specs.Prelude.{◌≡◌, ◌||◌, cond, ◌+◌, ◌*◌, ◌<◌, ◌≤◌, eqb, length};
 ghost use Rattle.std.specs.Float.Ieee.{lt, is_nan};
-ghost use Rattle.outcome.specs.Outcome.{answered, refused};
-ghost use Rattle.outcome.specs.Numbers.{outcome_of};
+ghost use Rattle.outcome.specs.Outcome.{passed, refused};
+ghost use Rattle.outcome.specs.Numbers.{told};
 ghost use Rattle.lists.specs.Filters.{any};
 ghost use Rattle.lists.specs.Rows.{entry};
 ghost use Rattle.dapc_scores.specs.Assigned.{gap, gaps, nearest_of, assigned_of, unordered, right_of};
@@ -65,18 +65,21 @@ fn nearest(row: &[f64], cen: &[f64], axes: usize, g: usize) -> Best
     b
 }
 
-// The nearest group of each sample that has a group goes to `found`, and none of the others. How many samples were found to be in their own group is
-// returned; refused, with all of `found` written, where a distance is a NaN.
-pub fn assign(
-    found: &mut [u16],
-    scores: &[f64],
-    cen: &[f64],
-    samples: Samples,
-) -> Result<usize, Refusal>
+// How many samples were found to be in their own group, and a refusal where a distance is a NaN.
+#[derive(Clone, Copy)]
+pub struct Tally {
+    pub right: usize,
+    pub ordered: Result<(), Refusal>,
+}
+
+// The nearest group of each sample that has a group goes to `found`, and none of the others. All of `found` is written and counted where a distance is a
+// NaN too.
+pub fn assign(found: &mut [u16], scores: &[f64], cen: &[f64], samples: Samples) -> Tally
     requires { (length found.old ≡ length samples.groups.now) × (length scores.now ≡ length samples.groups.now * samples.sizes.axes)
         × (length cen.now ≡ samples.sizes.groups * samples.sizes.axes) }
     ensures { let s = samples.entry in (found.new ≡ assigned_of (length s.groups.now) s.sizes.axes s.sizes.groups s.groups.now scores.now cen.now)
-        × (outcome_of result ≡ cond (unordered s.sizes.axes s.sizes.groups s.groups.now scores.now cen.now) (refused 11) (answered (right_of s.groups.now found.new))) }
+        × (result.right ≡ right_of s.groups.now found.new)
+        × (told result.ordered ≡ cond (unordered s.sizes.axes s.sizes.groups s.groups.now scores.now cen.now) (refused 11) passed) }
 {
     let axes = samples.sizes.axes;
     let mut right = 0;
@@ -94,8 +97,10 @@ pub fn assign(
             }
         }
     }
-    if unordered {
-        return Err(Refusal::Unordered);
-    }
-    Ok(right)
+    let ordered = if unordered {
+        Err(Refusal::Unordered)
+    } else {
+        Ok(())
+    };
+    Tally { right, ordered }
 }

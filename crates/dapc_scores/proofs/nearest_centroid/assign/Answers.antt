@@ -1,9 +1,8 @@
 -- `dapc_scores::nearest_centroid::assign` meets its contract. After i turns the first i samples are assigned and counted.
-use Rattle.lists.proofs.Base.{◌≡◌, ◌*◌, ◌+◌, ◌≤◌, refl, sym, ap, ◌∙◌, Bool, true, false, cond, List, ℕ, arith, length}
+use Rattle.lists.proofs.Base.{◌≡◌, ◌*◌, ◌+◌, ◌≤◌, refl, sym, ap, ◌∙◌, Bool, true, false, cond, ℕ, arith, length}
 use mir.Val.{bool_byte}
 use Rattle.lists.proofs.Rows.{row-end, length_part}
-use Rattle.outcome.specs.Outcome.{Outcome, answered, refused}
-use Rattle.dapc_scores.specs.Assigned.{right_of}
+use Rattle.outcome.specs.Outcome.{Told, passed, refused}
 use Rattle.dapc_scores.proofs.Assigning.{assigning-none, assigning-next, assigning-pass, assigning-all}
 use Rattle.dapc_scores.proofs.nearest_centroid.assign.Goals as goal
 use Rattle.dapc_scores.proofs.nearest_centroid.assign.Goals.{in-None, in-Some}
@@ -33,16 +32,16 @@ loop-i-preserved c =
           w.nearest-b.ensures.0 w.nearest-b.ensures.2 w.found-is (w.right-is ∙ ap (λ (k : ℕ). turn.right + k) (w.from-right.ensures ∙ one-more _)) w.unordered-is
     ]
 
--- what is returned, by whether a distance is a NaN
-abbrev by_test : List ℕ → List ℕ → Bool → Outcome ℕ
-by_test groups found b = cond b (refused 11) (answered (right_of groups found))
+-- what is told, by whether a distance is a NaN
+abbrev by_test : Bool → Told
+by_test b = cond b (refused 11) passed
 
 pub returns-then-unordered : goal.returns-then-unordered
 returns-then-unordered c =
     let all = assigning-all _ _ _ _ _ _ c.loop-i.found c.requires.0 c.loop-i.invariant c.loop-i-test.false in
-    (all.0, ap (by_test c.args.samples.groups.now c.loop-i.found) (sym c.if-unordered.true ∙ all.2))
+    (all.0, all.1, ap by_test (sym c.if-unordered.true ∙ all.2))
 
-pub returns : goal.returns
-returns c =
+pub returns-else-unordered : goal.returns-else-unordered
+returns-else-unordered c =
     let all = assigning-all _ _ _ _ _ _ c.loop-i.found c.requires.0 c.loop-i.invariant c.loop-i-test.false in
-    (all.0, ap answered all.1 ∙ ap (by_test c.args.samples.groups.now c.loop-i.found) (sym c.if-unordered.false ∙ all.2))
+    (all.0, all.1, ap by_test (sym c.if-unordered.false ∙ all.2))
