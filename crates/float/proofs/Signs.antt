@@ -1,19 +1,20 @@
--- What the tests of `float::max` and `axis_sign` say of their arguments.
-use mathlib.Core.Path.{◌≡◌, refl, sym, ap, ap₂, ◌∙◌}
-use Prim.Native.Nat.{ℕ, zero, suc, ◌+◌, ◌*◌}
+-- What the tests of `float::max` and `axis_sign` say of their arguments; and the sign of a pattern.
+use mathlib.Core.Path.{◌≡◌, refl, sym, ap, ap₂, ◌∙◌, subst}
+use Prim.Native.Nat.{ℕ, zero, suc, ◌+◌, ◌*◌, ◌/◌, ◌%◌}
 use native.Mathlib.Nat.{not-le_of_lt, zero-lt-suc, zero-mul, mul-one, mul-pos}
 use native.Mathlib.Omega.{arith}
 use mathlib.Core.Logic.{inl, inr, ◌↔◌}
-use mathlib.Core.Bool.{Bool, true, false, ◌&&◌, cond, true≢false, false≢true}
+use mathlib.Core.Bool.{Bool, true, false, not, ◌&&◌, cond, true≢false, false≢true}
 use mathlib.Core.List.{[], ◌∷◌, map}
 use lib.IntN.{ℤ}
-use lib.Dec.{T, lt→ltb}
+use lib.Dec.{T, leb, eqb, lt→ltb}
 use mir.Val.{bool_byte}
-use lib.Ieee.{Float, nan, inf, fin, Format, binary64, up, down, fits, odd, size, neg, add, sub, mul, lt, eq, le, ne, of_int, of_bits}
+use lib.Ieee.{Float, nan, inf, fin, Format, binary64, up, down, fits, is_nan, odd, size, neg, add, sub, mul, lt, eq, le, ne, of_int, prec, low, hid, ones, top, of_fields, of_bits, to_bits}
+use lib.Ieee.Bits.{of_bits-to_bits}
 use lib.Ieee.Compare.{differs_from_itself, nan_differs}
 use lib.Ieee.Fits.{up_pos, down_pos}
 use lib.Ieee.Exact.{HasValue}
-use Rattle.float.specs.{Floats.zero⁺, Floats.zero⁻, Floats.1·0, Floats.-1·0, Floats.2·0, Floats.◌⊖◌, Floats.◌⊗◌, Floats.num, Value.SignedLe}
+use Rattle.float.specs.{Floats.zero⁺, Floats.zero⁻, Floats.1·0, Floats.-1·0, Floats.2·0, Floats.◌⊖◌, Floats.◌⊗◌, Floats.num, Value.sign, Value.SignedLe}
 use Rattle.float.specs.Order.{larger, below_zero}
 use Rattle.float.proofs.{Tests.fails, Tests.same_test, Tests.either_way, Signed.SignedEq}
 use Rattle.float.proofs.Value.{first-zero, unique, zero_of, zero-fits}
@@ -118,6 +119,30 @@ max-rest (fin s m e) (fin t n d) h l k =
     same : (b : Bool) (v : Float) → cond b v v ≡ v
     same true v = refl
     same false v = refl
+
+-- ---- the highest bit of the pattern is the sign
+sign-odd : (d : ℕ) (s : Bool) (q k l : ℕ) → sign (odd d s q k l) ≡ s
+unfolding odd
+sign-odd d s zero k l = refl
+sign-odd d s (suc q) k l = refl
+
+sign-fields : (f : Format) (s : Bool) (x t : ℕ) → T (not (is_nan (of_fields f s x t))) → sign (of_fields f s x t) ≡ s
+unfolding of_fields is_nan
+sign-fields f s zero t h = sign-odd (prec f) s t 0 (low f)
+sign-fields f s (suc x) t h = go (eqb (suc x) (ones f)) (eqb t 0) h
+  where
+    go : (a b : Bool) → T (not (is_nan (cond a (cond b (inf s) nan) (odd (prec f) s (hid f + t) x (low f))))) → sign (cond a (cond b (inf s) nan) (odd (prec f) s (hid f + t) x (low f))) ≡ s
+    go true true h = refl
+    go true false h = absurd h
+    go false b h = sign-odd (prec f) s (hid f + t) x (low f)
+
+pub sign-bits : (f : Format) (x : Float) → T (fits f x) → T (not (is_nan x)) → leb (top f) (to_bits f x) ≡ sign x
+unfolding of_bits
+sign-bits f x p h =
+    let b = to_bits f x in
+    let e : of_bits f b ≡ x = of_bits-to_bits f x p in
+    let number : T (not (is_nan (of_bits f b))) = subst (λ (z : Float). T (not (is_nan z))) (sym e) h in
+    sym (sign-fields f (leb (top f) b) (b % top f / hid f) (b % hid f) number) ∙ ap sign e
 
 -- ---- `axis_sign`
 -- the comparison with zero tells what is below zero

@@ -8,7 +8,7 @@ use native.Mathlib.Nat as Nat
 use native.Mathlib.Omega.{arith}
 use lib.Dec.{T, ltb, ltb→lt, nltb→le}
 use lib.Pow.{pow_pos}
-use lib.Ieee.{Float, nan, inf, fin, Format, up, down, round, sum, add, sub, neg, le, fits, is_nan}
+use lib.Ieee.{Float, nan, inf, fin, Format, up, down, round, sum, add, sub, neg, eq, le, fits, is_nan}
 use lib.Ieee.Fits.{down_pos}
 use lib.Ieee.Exact.{HasValue}
 use lib.Ieee.Scale.{finite, round_same}
@@ -16,7 +16,7 @@ use Rattle.float.specs.Value.{gain, SignedLe, sign}
 use Rattle.float.proofs.{Nan.finite-no-nan, Signed.signed-scale}
 use Rattle.float.proofs.Value.{depth, units_at, value-at, crossed-left, crossed-right, zero_of}
 use Rattle.float.proofs.Order.{le-at, right-number, bottom, top, le_refl, neg-le}
-use Rattle.float.proofs.Rounding.{round-le, round-own}
+use Rattle.float.proofs.Rounding.{round-le, round-own, round-zero}
 
 -- ---- by the fractions that the operands equal
 ltb-scale : (a b k : ℕ) → 0 < k → ltb (a * k) (b * k) ≡ ltb a b
@@ -202,3 +202,27 @@ pub sub-le : (f : Format) (x w : Float) → T (fits f x) → T (finite x) → T 
 unfolding sub
 sub-le f x w p q h = subst (λ (z : Float). T (le (add f x (neg w)) z)) (add-neg-zero f x p)
     (add-le f x x (neg w) (zero_of true) q q (le_refl x (finite-no-nan x q)) (unfold neg in neg-le (zero_of false) w h))
+
+-- x - x is 0 where x is finite, and a NaN elsewhere
+opposites : (r : Bool) (q : ℕ) (s : Bool) (a : ℕ) → IsSum r q s a (not s) a → q ≡ 0
+opposites true q true a h = omega arith
+opposites true q false a h = omega arith
+opposites false q true a h = omega arith
+opposites false q false a h = omega arith
+
+zero-equals : (r : Bool) → eq (zero_of r) (zero_of false) ≡ true
+unfolding eq
+zero-equals true = refl
+zero-equals false = refl
+
+pub finite-test : (f : Format) (x : Float) → eq (sub f x x) (zero_of false) ≡ finite x
+unfolding sub neg
+finite-test f nan = unfold add eq in refl
+finite-test f (inf true) = unfold add eq in refl
+finite-test f (inf false) = unfold add eq in refl
+finite-test f (fin s m e) =
+    let a = m * up e in
+    let c = down e in
+    let z = sum_is f s a (not s) a c in
+    ap (λ (u : Float). eq u (zero_of false)) (add_at f (fin s m e) (fin (not s) m e) s a (not s) a c (down_pos e) (refl, refl) (refl, refl)
+    ∙ z.2 ∙ ap (λ (q : ℕ). round f z.0 q c) (opposites z.0 z.1 s a z.3) ∙ round-zero f z.0 c (down_pos e)) ∙ zero-equals z.0

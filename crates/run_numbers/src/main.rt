@@ -1,6 +1,7 @@
 // Writes the root of each of some 1,200 bit patterns, a line each: the pattern and the root's, or `nan`; then the published vectors of SplitMix64.
 // The lines of the roots in the file `stdout` are the machine's own: a C program read the first word of each line as the
-// bits of a double and wrote the bits of `sqrt` of it, which is compiled to the instruction sqrtsd.
+// bits of a double and wrote the bits of `sqrt` of it, which is compiled to the instruction sqrtsd. Ours is that operation of the language today; two
+// compilers make the program.
 // A write that fails is passed over.
 #![tactic(auto)]
 
@@ -10,7 +11,7 @@ use replay::Bits;
 
 // Zeros, the ends of the subnormals and of the normals, the neighbours of powers of two, the infinities,
 // a NaN, negative numbers; values whose roots lie nearest to halfway between two f64; and four whose roots
-// are found digit by digit.
+// a table and a Newton step do not give.
 const PATTERNS: [u64; 43] = [
     0x0000_0000_0000_0000,
     0x8000_0000_0000_0000,

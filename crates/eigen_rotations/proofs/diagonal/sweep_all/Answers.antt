@@ -2,7 +2,7 @@
 use Rattle.lists.proofs.Base.{sym, ap, ◌∙◌, arith, Float, lt}
 use Rattle.float.specs.Floats.{1e-22}
 use Rattle.eigen_rotations.specs.{Sweeps.sweeps_from}
-use Rattle.eigen_rotations.proofs.Sweeping.{sweeps-end, sweeps-on, sweeps-none}
+use Rattle.eigen_rotations.proofs.Sweeping.{sweeps-end, sweeps-on, sweeps-all}
 use Rattle.eigen_rotations.proofs.diagonal.sweep_all.Goals as goal
 
 pub returns-then-off_diagonal : goal.returns-then-off_diagonal
@@ -16,4 +16,4 @@ loop-made-preserved c =
     ∙ c.loop-made.invariant
 
 pub returns : goal.returns
-returns c = sweeps-none _ _ _ (omega arith) ∙ c.loop-made.invariant
+returns c = sweeps-all _ _ _ (omega arith) ∙ c.loop-made.invariant
