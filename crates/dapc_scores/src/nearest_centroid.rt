@@ -16,8 +16,9 @@ fn gap_between(x: &[f64], y: &[f64]) -> f64
     ensures { result ≡ gap (length x.now) x.now y.now 0 0 }
 {
     let mut s = -0.0;
-    for (a, b) in x.iter().zip(y) {
-        let d = a - b;
+    // By an index: rows are short, and with a zip `dapc` of many groups takes a third longer.
+    for k in 0..x.len() {
+        let d = x[k] - y[k];
         s = s + d * d;
     }
     s

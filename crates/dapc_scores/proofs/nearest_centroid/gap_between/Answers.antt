@@ -1,21 +1,13 @@
 -- `dapc_scores::nearest_centroid::gap_between` meets its contract. What is left of the sum stays the same.
-use Rattle.lists.proofs.Base.{arith, nan}
-use Rattle.std.proofs.lemmas.List.{length_push}
-use Rattle.std.proofs.lemmas.Slice.Zip.{zip_turn, zip_end}
+use Rattle.lists.proofs.Base.{refl, arith}
 use Rattle.dapc_scores.proofs.Nearing.{summing-none, summing-turn, summing-all}
 use Rattle.dapc_scores.proofs.nearest_centroid.gap_between.Goals as goal
 
-pub loop-a-init : goal.loop-a-init
-loop-a-init c = summing-none c.args.x.now c.args.y.now
+pub loop-k-init : goal.loop-k-init
+loop-k-init c = (omega arith, summing-none c.args.x.now c.args.y.now)
 
-pub loop-a-preserved : goal.loop-a-preserved
-loop-a-preserved c =
-    let a = c.args in
-    let t = zip_turn a.x.now a.y.now c.loop-a.yielded c.into_iter-a-iterator.result c.loop-a.a-iterator c.next.new.self _ (cc) (cc) c.loop-a.yielded_by _ c.in-Some.is c.next.ensures.steps in
-    summing-turn a.x.now a.y.now (omega (arith, t.0)) (t.2 nan) (t.3 nan) (length_push c.loop-a.yielded _) c.loop-a.invariant
+pub loop-k-preserved : goal.loop-k-preserved
+loop-k-preserved c = (omega arith, summing-turn c.args.x.now c.args.y.now c.loop-k-test.true refl refl refl c.loop-k.invariant.1)
 
 pub returns : goal.returns
-returns c =
-    let a = c.args in
-    let t = zip_end a.x.now a.y.now c.loop-a.yielded c.into_iter-a-iterator.result c.loop-a.a-iterator c.next.new.self _ (cc) (cc) c.loop-a.yielded_by c.in-None.is c.next.ensures.steps in
-    summing-all a.x.now a.y.now (omega (arith, t, c.requires)) c.loop-a.invariant
+returns c = summing-all c.args.x.now c.args.y.now c.loop-k-test.false c.loop-k.invariant.1
