@@ -11,8 +11,8 @@
  *   stack      is part of no proof. Measured on the largest inputs (`oracle stack`, oracle/README.md), in KB of 1,024 bytes: test 22,
  *              exhaustive 73, jacobi_eigen 4, top_eigs 20, pcoa 54, gram_matrix and hash_pca 59, dapc 34, judge 118, every other function
  *              below 1. A thread takes some 6 KB for itself: give it 128 KB.
- * Calls are reentrant: there are no variables between calls, no heap, no locks and no input or output. Of other libraries only memcpy,
- * memmove and memset are called.
+ * Calls are reentrant: there are no variables between calls, no heap, no locks and no input or output. Of other libraries only memcpy and
+ * memset are called.
  *
  * REFUSALS, the first that applies, in the order in which they stand here:
  *   1  a length does not fit n, offsets are not as told below, or an output or work slice is short

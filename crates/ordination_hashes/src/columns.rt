@@ -66,8 +66,8 @@ fn only_if(b: bool, k: usize) -> usize
     if b { k } else { 0 }
 }
 
-// How many of the hashes, which go upward, are below h. It is looked for from one place up to another. Each turn halves what is left, whichever half it is, with no
-// branch: `partition_point` has one, and takes a third more time where it is not foreseen.
+// How many of the hashes, which go upward, are below h. It is looked for from one place up to another. Each turn halves what is left, whichever half it is.
+// `partition_point` in its place took up to a third more time a hash.
 fn below(hashes: &[u64], from: usize, to: usize, h: u64) -> usize
     requires climbs { Climbs hashes.now × (from ≤ to) × (to ≤ length hashes.now) }
     requires from_bound { (0 < from → slice_index hashes.now (from - 1) < h) × (to < length hashes.now → h ≤ slice_index hashes.now to) }
