@@ -15,6 +15,14 @@ pub fn rewrite<F: Fn(usize, f64) -> f64>(row: &mut [f64], f: F)
     }
 }
 
+// The entries of other. (Slices' own `copy_from_slice` calls memmove where it cannot tell that the two lie apart.)
+pub fn copy(row: &mut [f64], other: &[f64])
+    requires { length row.old ≡ length other.now }
+    ensures { row.new ≡ other.now }
+{
+    rewrite(row, |c, _| other[c]);
+}
+
 // row + other.
 pub fn add(row: &mut [f64], other: &[f64])
     requires { length other.now ≡ length row.old }

@@ -28,7 +28,7 @@ pub fn copy_row(dst: &mut [f64], m: &[f64], n: usize, i: usize)
     requires { (length dst.old ≡ n) × (i * n + n ≤ length m.now) }
     ensures { dst.new ≡ row n i m.now }
 {
-    dst.copy_from_slice(&m[i * n..i * n + n]);
+    entrywise::copy(dst, &m[i * n..i * n + n]);
 }
 
 // src goes to row i.
@@ -36,7 +36,7 @@ pub fn put_row(m: &mut [f64], src: &[f64], n: usize, i: usize)
     requires { (length src.now ≡ n) × (i * n + n ≤ length m.old) }
     ensures { m.new ≡ put_row n i src.now m.old }
 {
-    m[i * n..i * n + n].copy_from_slice(src);
+    entrywise::copy(&mut m[i * n..i * n + n], src);
 }
 
 // Whether an entry is NaN.

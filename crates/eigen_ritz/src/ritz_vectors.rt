@@ -3,6 +3,8 @@ ghost use Rattle.std.specs.Prelude.{◌≡◌, ◌++◌, ◌+◌, ◌*◌, ◌<�
 ghost use Rattle.lists.specs.Ranges.{table};
 ghost use Rattle.eigen_ritz.specs.RitzVectors.{ritz_vector_at, ritz_vectors};
 
+use eigen_matrix::entrywise;
+
 // Entry i of the sum of the block's columns, each times its entry in row j of v.
 fn combine_at(v: &[f64], q: &[f64], n: usize, b: usize, j: usize, i: usize) -> f64
     requires { (length v.now ≡ b * b) × (length q.now ≡ b * n) × (j < b) × (i < n) }
@@ -36,6 +38,6 @@ pub fn turn_back(out: &mut [f64], pairs: &[f64], q: &[f64], n: usize, b: usize, 
     requires { (length out.old ≡ k + k * n) × (length pairs.now ≡ b + b * b) × (length q.now ≡ b * n) × (k ≤ b) }
     ensures { out.new ≡ take k pairs.now ++ ritz_vectors n b k (drop b pairs.now) q.now }
 {
-    out[..k].copy_from_slice(&pairs[..k]);
+    entrywise::copy(&mut out[..k], &pairs[..k]);
     combine(&mut out[k..], &pairs[b..], q, n, b, k);
 }

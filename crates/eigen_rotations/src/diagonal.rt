@@ -7,6 +7,7 @@ ghost use Rattle.eigen_rotations.specs.Sweeps.{squares_but, off_diagonal, swept,
 ghost use Rattle.eigen_rotations.specs.Diagonal.{unit, identity, diagonal};
 
 use crate::sweep;
+use eigen_matrix::entrywise;
 
 // ---- the sweeps
 
@@ -91,7 +92,7 @@ pub fn diagonalise(
     ensures { (swept result (turned m.new v.new) ≡ sweeps_from 100 n 0 (turned a.now (identity n)))
         × (x.new ≡ diagonal n m.new) }
 {
-    m.copy_from_slice(a);
+    entrywise::copy(m, a);
     fill_identity(v, n);
     let made = sweep_all(m, v, x, y, n);
     gather_diagonal(x, m, n);

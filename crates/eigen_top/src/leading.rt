@@ -3,6 +3,7 @@ ghost use Rattle.std.specs.Prelude.{◌≡◌, ◌++◌, ◌+◌, ◌*◌, ◌�
 ghost use Rattle.eigen_ritz.specs.inner.Given.{given, gives};
 ghost use Rattle.eigen_top.specs.Leading.{leading};
 
+use eigen_matrix::entrywise;
 use outcome::Refusal;
 
 // The first k values and the first k rows of n, of all the eigenpairs.
@@ -10,8 +11,8 @@ fn copy_leading(out: &mut [f64], pairs: &[f64], n: usize, k: usize)
     requires { (length out.old ≡ k + k * n) × (length pairs.now ≡ n + n * n) × (k ≤ n) }
     ensures { out.new ≡ take k pairs.now ++ take (k * n) (drop n pairs.now) }
 {
-    out[..k].copy_from_slice(&pairs[..k]);
-    out[k..].copy_from_slice(&pairs[n..n + k * n]);
+    entrywise::copy(&mut out[..k], &pairs[..k]);
+    entrywise::copy(&mut out[k..], &pairs[n..n + k * n]);
 }
 
 // `pairs`, `m` and `v` are work.

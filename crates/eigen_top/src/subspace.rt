@@ -8,6 +8,7 @@ ghost use Rattle.eigen_ritz.specs.inner.Given.{given, gives};
 ghost use Rattle.eigen_top.specs.Subspace.{shift_of, last_block, by_block};
 
 use eigen_block::{orthonormal, power};
+use eigen_matrix::entrywise;
 use eigen_matrix::square::Square;
 use eigen_vectors::products;
 use outcome::Refusal;
@@ -25,7 +26,7 @@ fn prepare(
     ensures { (q.new ≡ first_block a.entry.n b) × (result ≡ shift_of a.entry.n a.entry.entries.now (first_block a.entry.n b)) }
 {
     orthonormal::first_block(q, z, a.n, b);
-    x.copy_from_slice(&q[..a.n]);
+    entrywise::copy(x, &q[..a.n]);
     power::power_bound(x, y, a) * 1.05
 }
 

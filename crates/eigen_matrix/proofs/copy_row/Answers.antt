@@ -4,4 +4,4 @@ use Rattle.lists.proofs.Rows.{part-row}
 use Rattle.eigen_matrix.proofs.copy_row.Goals as goal
 
 pub returns : goal.returns
-returns c = c.copy_from_slice.ensures.after ∙ part-row c.args.n c.args.i c.args.m.now
+returns c = c.copy.ensures ∙ part-row c.args.n c.args.i c.args.m.now

@@ -7,4 +7,4 @@ use Rattle.eigen_matrix.proofs.put_row.Goals as goal
 pub returns : goal.returns
 returns c =
     let a = c.args in
-    put-row a.n a.i a.m.now _ ∙ ap (λ (r : List Float). put_row a.n a.i r a.m.now) c.copy_from_slice.ensures.after
+    put-row a.n a.i a.m.now _ ∙ ap (λ (r : List Float). put_row a.n a.i r a.m.now) c.copy.ensures

@@ -5,5 +5,5 @@ use Rattle.eigen_rotations.proofs.diagonal.diagonalise.Goals as goal
 
 pub returns : goal.returns
 returns c =
-    let start = ap₂ turned c.copy_from_slice.ensures.after c.fill_identity.ensures in
+    let start = ap₂ turned c.copy.ensures c.fill_identity.ensures in
     (c.sweep_all-made.ensures ∙ ap (sweeps_from 100 c.args.n 0) start, c.gather_diagonal.ensures)

@@ -4,21 +4,21 @@ use Rattle.lists.proofs.Parts.{length-second, put_second}
 use Rattle.eigen_top.proofs.LeadingFronts.{leading-part, length-leading}
 use Rattle.eigen_top.proofs.leading.copy_leading.Goals as goal
 
-pub copy_from_slice-requires : goal.copy_from_slice-requires
-copy_from_slice-requires c = length-take-le _ _ (omega arith) ∙ sym (length-take-le c.args.k _ (omega arith))
+pub copy-requires : goal.copy-requires
+copy-requires c = length-take-le _ _ (omega arith) ∙ sym (length-take-le c.args.k _ (omega arith))
 
-pub copy_from_slice-requires-2 : goal.copy_from_slice-requires-2
-copy_from_slice-requires-2 c =
+pub copy-requires-2 : goal.copy-requires-2
+copy-requires-2 c =
     let a = c.args in
-    let values = c.copy_from_slice in
+    let values = c.copy in
     let many = length-take-le a.k a.out.now (omega arith) in
-    length-second _ _ values.new.self (omega arith) (values.auto.self ∙ many)
+    length-second _ _ values.new.row (omega arith) (values.auto.row ∙ many)
     ∙ omega (arith, ap length (leading-part a.n a.k a.pairs.now) ∙ length-leading a.n a.k a.pairs.now c.requires.1 c.requires.2)
 
 pub returns : goal.returns
 returns c =
     let a = c.args in
-    let values = c.copy_from_slice in
+    let values = c.copy in
     let many = length-take-le a.k a.out.now (omega arith) in
-    put_second _ _ values.new.self (omega arith) (values.auto.self ∙ many) _
-    ∙ ap₂ (λ (x y : List Float). x ++ y) values.ensures.after (c.copy_from_slice-2.ensures.after ∙ leading-part a.n a.k a.pairs.now)
+    put_second _ _ values.new.row (omega arith) (values.auto.row ∙ many) _
+    ∙ ap₂ (λ (x y : List Float). x ++ y) values.ensures (c.copy-2.ensures ∙ leading-part a.n a.k a.pairs.now)
