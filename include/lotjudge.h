@@ -9,7 +9,7 @@
  *   floats     the floating-point environment is the default one: round to nearest, no flush to zero. A program linked with -Ofast or
  *              -ffast-math may flush subnormal numbers; a distance of -2^-1074 is then judged, where it is refused by 3 otherwise.
  *   stack      is part of no proof. Measured on the largest inputs (`oracle stack`, oracle/README.md), in KB of 1,024 bytes: test 22,
- *              exhaustive 73, jacobi_eigen 4, top_eigs 20, pcoa 54, gram_matrix and hash_pca 59, dapc 34, judge 118, every other function
+ *              exhaustive 73, jacobi_eigen 4, top_eigs 20, pcoa 54, gram_matrix and hash_pca 57, dapc 34, judge 118, every other function
  *              below 1. A thread takes some 6 KB for itself: give it 128 KB.
  * Calls are reentrant: there are no variables between calls, no heap, no locks and no input or output. Of other libraries only memcpy and
  * memset are called.
